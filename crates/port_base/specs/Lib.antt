@@ -1,0 +1,5 @@
+pub mod Faults
+pub mod Lending
+pub mod Names
+pub mod Streams
+pub mod Words

@@ -1,0 +1,13 @@
+//! What every crate stands on: sources and sinks of bytes, numbers of the system, names, tables and words.
+#![tactic(auto)]
+
+pub mod errno;
+pub mod memory;
+pub mod names;
+pub mod oflag;
+pub mod sink;
+pub mod source;
+pub mod std_io;
+pub mod table;
+pub mod taken;
+pub mod words;

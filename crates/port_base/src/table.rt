@@ -1,0 +1,92 @@
+//! A map from numbers, which contracts see as a finite map.
+ghost use Rattle.std.specs.Prelude.{◌≡◌, OnOk, OnErr, IsSome, IsOk, option_copied};
+ghost use Rattle.std.specs.Ordering.{nat_cmp};
+ghost use Rattle.std.specs.FinMap as map;
+ghost use Rattle.std.specs.Borrow.{sem};
+ghost use Rattle.std.specs.Option.{option_copied_mut};
+ghost use Rattle.port_base.specs.Lending.{LendsValue};
+
+use std::alloc::{AllocError, Global};
+use std::collections::BTreeMap;
+use std::marker::Model;
+
+/// Values by number, in order.
+#[derive(Drop)]
+pub struct Table<V> {
+    entries: BTreeMap<u64, V>,
+}
+
+impl<V> Model for Table<V> {
+    ghost use Rattle.std.specs.Ordering.{nat_cmp};
+    ghost use Rattle.std.specs.FinMap as map;
+    ghost use Rattle.std.specs.Coded.{coded_ℕ};
+
+    ghost Value = { map.FinMap nat_cmp V };
+
+    ghost coded = { map.code coded_ℕ V.code };
+
+    ghost view = { λ a. map.from_entries a.entries.entries };
+}
+
+impl<V> Table<V> {
+    /// An empty table. It takes no memory yet.
+    pub fn new(alloc: Global) -> Self
+        ensures { result ≡ map.empty }
+    {
+        Table {
+            entries: BTreeMap::new(alloc),
+        }
+    }
+
+    /// The value of a key, if it has one.
+    pub fn get(&self, key: u64) -> Option<&V>
+        ensures { option_copied result ≡ map.get self.now key }
+    {
+        self.entries.get(&key)
+    }
+
+    /// Whether a key has a value.
+    pub fn contains_key(&self, key: u64) -> bool
+        ensures { result ≡ map.contains_key self.now key }
+    {
+        self.entries.contains_key(&key)
+    }
+
+    /// Gives a key a value. A key that has one already takes no memory; without memory nothing changes.
+    pub fn insert(&mut self, key: u64, value: V) -> Result<(), AllocError>
+    where
+        V: Drop,
+        ensures ok { OnOk result (self.new ≡ map.insert self.old key value) }
+        ensures err { OnErr result (self.new ≡ self.old) }
+        ensures present { IsSome (map.get self.old key) → IsOk result }
+    {
+        self.entries.insert(key, value)?;
+        Ok(())
+    }
+
+    /// Takes a key's value away, and gives it back.
+    pub fn remove(&mut self, key: u64) -> Option<V>
+        ensures value { result ≡ map.get self.old key }
+        ensures removed { self.new ≡ map.remove self.old key }
+    {
+        self.entries.remove(&key)
+    }
+
+    /// Writes a value in the place of the one that a key has.
+    pub fn replace(&mut self, key: u64, value: V)
+    where
+        V: Drop,
+        requires { IsSome (map.get self.old key) }
+        ensures { self.new ≡ map.insert self.old key value }
+    {
+        let _ = self.entries.insert(key, value);
+    }
+
+    /// The value of a key, to write to.
+    pub fn get_mut(&mut self, key: u64) -> Option<&mut V>
+        ensures* writes_back { sem 𝓛 (LendsValue V.row self.entry key result) }
+        ensures value { option_copied_mut result ≡ map.get self.old key }
+    {
+        self.entries.get_mut(&key)
+    }
+}

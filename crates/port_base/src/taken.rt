@@ -1,0 +1,60 @@
+// A front of a source.
+ghost use Rattle.std.specs.Prelude.{◌≡◌, ℕ, List, take, drop, min};
+ghost use Rattle.std.specs.declared.option.Option.{Option};
+ghost use Rattle.std.specs.Option.{option_map};
+ghost use Rattle.std.specs.Borrow.{GName};
+
+use crate::source::{ReadFault, Source};
+
+/// At most so many bytes of a source.
+#[derive(Drop)]
+pub struct Take<'a, S> {
+    source: &'a mut S,
+    rest: u64,
+}
+
+impl<'a, S: Source> Take<'a, S> {
+    pub fn new(source: &'a mut S, n: u64) -> Take<'a, S>
+        ensures same_reference { result.source.ghost_name ≡ source.entry.ghost_name }
+        ensures inner { result.source.now ≡ source.old }
+        ensures rest { result.rest ≡ n }
+    {
+        Take { source, rest: n }
+    }
+
+    pub fn rest(&self) -> u64
+        ensures { result ≡ self.now.rest }
+    {
+        self.rest
+    }
+}
+
+// The smaller number.
+fn at_most(len: usize, rest: u64) -> usize
+    ensures { result ≡ min len rest }
+{
+    if rest < len as u64 {
+        rest as usize
+    } else {
+        len
+    }
+}
+
+impl<S: Source> Source for Take<'_, S> {
+    ghost left = { λ t. option_map (take t.rest) (S.left t.source.now) };
+
+    ghost faults = { λ t. S.faults t.source.now };
+
+    ghost Kept = { Option (List ℕ) × (GName × S.Kept) };
+
+    ghost kept = { λ t. (option_map (drop t.rest) (S.left t.source.now), (S.lender t.source.now, S.kept t.source.now)) };
+
+    ghost lender = { λ t. t.source.ghost_name };
+
+    fn read(&mut self, buf: &mut [u8]) -> Result<usize, ReadFault> {
+        let most = at_most(buf.len(), self.rest);
+        let n = self.source.read(&mut buf[..most])?;
+        self.rest -= n as u64;
+        Ok(n)
+    }
+}
