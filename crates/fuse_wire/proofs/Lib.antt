@@ -1,0 +1,5 @@
+mod Appending
+mod Filling
+pub mod Fronts
+pub mod Sizes
+mod Takings
