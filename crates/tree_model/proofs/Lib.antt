@@ -1,0 +1,5 @@
+pub mod Maps
+pub mod Counting
+pub mod Naming
+pub mod Sweeping
+pub mod Keeping
