@@ -3,3 +3,6 @@ pub mod Counting
 pub mod Naming
 pub mod Sweeping
 pub mod Keeping
+pub mod Bodies
+pub mod Adding
+pub mod Files
