@@ -26,6 +26,11 @@ AnswersBy told (Err NoMemory) = ⊤
 pub record Answers {A : Type 0} (told : Result A ℕ) (result : Result A HostError) : Type 0 where
   pub exactly : AnswersBy told result
 
+-- a definition's answer, as a call gives it
+abbrev pub as_errno : {A : Type 0} → Result A ℕ → Result A HostError
+as_errno (Ok a) = Ok a
+as_errno (Err e) = Err (Errno e)
+
 -- ---- counts of faults
 
 abbrev pub CauseBy : {A : Type 0} → Bool → ℕ → ℕ → Result A HostError → Type 0

@@ -2,5 +2,6 @@
 #![tactic(auto)]
 
 pub mod host;
+mod node;
 
 pub use host::Host;
