@@ -5,3 +5,4 @@ pub mod Attributes
 pub mod Settings
 pub mod Making
 pub mod Sound
+pub mod GoodLaws

@@ -1,0 +1,4 @@
+pub mod Holds
+pub mod Host
+pub mod Stored
+pub mod Walking

@@ -1,0 +1,7 @@
+//! A host of a tree of files, and one that keeps its tree in memory.
+#![tactic(auto)]
+
+pub mod host;
+mod node;
+
+pub use host::Host;
