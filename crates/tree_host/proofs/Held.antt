@@ -1,5 +1,5 @@
 -- A hold more, and a hold less.
-use Rattle.std.proofs.Common.{◌≡◌, ◌≢◌, ℕ, suc, ◌+◌, ◌-◌, ◌<◌, ◌≤◌, Bool, true, false, cond, not, ◌||◌, List, [], ◌∷◌, refl, sym, ap, ◌∙◌, subst, Option, Some, None, ◌⊎◌, inl, inr, ⊎_elim, arith, IsSome, nat_lt, unwrap_or}
+use Rattle.std.proofs.Common.{◌≡◌, ◌≢◌, ℕ, suc, ◌+◌, ◌-◌, ◌<◌, ◌≤◌, Bool, true, false, cond, not, ◌||◌, List, [], ◌∷◌, refl, sym, ap, ◌∙◌, subst, Option, Some, None, Result, Ok, Err, OnOk, OnErr, ◌⊎◌, inl, inr, ⊎_elim, arith, IsSome, nat_lt, unwrap_or}
 use Rattle.std.proofs.lemmas.Bool.{cases_eq, false≢true}
 use Rattle.std.proofs.lemmas.Bool.Decides.{nat_tests}
 use Rattle.std.specs.Ordering.{nat_cmp}
@@ -67,6 +67,11 @@ more_held t h h' i s had e = subst (IsHeldIn t) (sym e) (record {
       (cases_eq q i);
   positive = positive_insert h i (hold_count h i + 1) (omega arith) s.positive;
 })
+
+-- the same where a hold may have found no memory
+pub either_held : {A E : Type 0} (t : Tree) (h h' : Holds) (i : ℕ) → IsHeldIn t h → IsSome (get t.records i) → (r : Result A E) → OnOk r (h' ≡ held_more h i) → OnErr r (h' ≡ h) → IsHeldIn t h'
+either_held t h h' i s had (Ok a) more same = more_held t h h' i s had more
+either_held t h h' i s had (Err e) more same = subst (IsHeldIn t) (sym same) s
 
 -- a hold less, and the record that no entry and no hold names then
 module _ (t : Tree) (h h' : Holds) (i : ℕ) (g : IsGoodTree t) (s : IsHeldIn t h) (had : 0 < hold_count h i) (e : h' ≡ held_less h i) where

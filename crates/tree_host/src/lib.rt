@@ -8,4 +8,4 @@ mod node;
 mod nodes;
 
 pub use host::Host;
-pub use memory::TreeHost;
+pub use memory::{NewItem, TreeHost};

@@ -1,13 +1,16 @@
 //! Records in a table, by inode number.
-ghost use Rattle.std.specs.Prelude.{◌≡◌, ◌≢◌, not, Result, None, ℕ, ◌+◌, ◌-◌, ◌^◌, ◌<◌, OnOk, OnErr, IsSome, option_map, unwrap_or, false};
+ghost use Rattle.std.specs.Prelude.{◌≡◌, ◌≢◌, not, Result, None, ℕ, ◌+◌, ◌-◌, ◌^◌, ◌<◌, OnOk, OnErr, IfErr, IsSome, option_map, unwrap_or, false};
 ghost use Rattle.std.specs.FinMap as map;
 ghost use Rattle.tree_model.specs.Tree.{body_at, is_directory_at};
-ghost use Rattle.tree_model.specs.Finding.{entries_at, ino_among};
+ghost use Rattle.tree_model.specs.Finding.{entries_at, ino_among, root_of, path_names};
 ghost use Rattle.tree_model.specs.Making.{change, joined_by, next_cookie, new_name_refused};
 ghost use Rattle.tree_model.specs.Sound.{has_no_links, swept};
 ghost use Rattle.tree_host.specs.Holds.{is_held};
 ghost use Rattle.tree_host.specs.Host.{as_errno};
-ghost use Rattle.tree_host.specs.Walking.{part_step, part_end, walk_of};
+ghost use Rattle.tree_host.specs.Walking.{part_step, part_end};
+ghost use Rattle.tree_host.specs.Kept.{tree_from};
+ghost use Rattle.tree_model.specs.declared.attributes.Limits.{Limits};
+ghost use Rattle.tree_model.specs.declared.attributes.Stamp.{Stamp};
 
 use crate::holds::is_held;
 use crate::node::{Node, TOP};
@@ -75,9 +78,11 @@ fn end_of_walk(nodes: &Table<Node>, at: Result<u64, HostError>) -> Result<u64, H
     }
 }
 
-/// The directory at the end of a path from the top.
+/// The directory at the end of a path from the top, whatever else the tree has.
 pub fn walk(nodes: &Table<Node>, path: &[u8]) -> Result<u64, HostError>
-    ensures { result ≡ as_errno (walk_of nodes.now path.now) }
+    ensures answer { (next : ℕ) (limits : Limits) (moment : Stamp) →
+        result ≡ as_errno (root_of (tree_from nodes.now next limits moment) (path_names path.now)) }
+    ensures errno { IfErr result (λ e. (n : ℕ) × (e ≡ HostError.Errno n)) }
 {
     let mut at = Ok(TOP);
     for part in path.split(|b| *b == b'/') {
