@@ -1,5 +1,5 @@
 -- What a host in memory shows, and what can be added to it.
-use Rattle.std.specs.Prelude.{ℕ, List, Result, Bor, ◌<◌}
+use Rattle.std.specs.Prelude.{ℕ, List, Result, ◌<◌}
 use Rattle.tree_model.specs.declared.attributes.Stamp.{Stamp}
 use Rattle.tree_model.specs.Tree.{Tree}
 use Rattle.tree_model.specs.Making.{NewFile, add_file_of}
@@ -19,6 +19,9 @@ holds h = h.holds
 abbrev pub IsGoodItem : NewItem → Type 0
 IsGoodItem (File mode uid gid bytes) = mode < 4096
 
+abbrev pub new_file : ℕ → ℕ → ℕ → List ℕ → NewFile
+new_file mode uid gid bytes = record { mode = mode; uid = uid; gid = gid; bytes = bytes }
+
 -- the first refusal of what is added, or its number and the tree with it
 abbrev pub add_of : Stamp → Tree → ℕ → List ℕ → NewItem → Result (ℕ × Tree) ℕ
-add_of born t dir name (File mode uid gid bytes) = add_file_of born t dir name (record { mode = mode; uid = uid; gid = gid; bytes = bytes.now })
+add_of born t dir name (File mode uid gid bytes) = add_file_of born t dir name (new_file mode uid gid bytes.now)

@@ -48,7 +48,7 @@ impl TreeHost {
     ghost use Rattle.tree_model.specs.Good.{IsGoodLimits, IsGoodStamp};
     ghost use Rattle.tree_model.specs.Making.{new_tree, add_file_of};
     ghost use Rattle.tree_host.specs.Host.{Leaves};
-    ghost use Rattle.tree_host.specs.TreeHosts.{tree, holds, IsGoodItem, add_of};
+    ghost use Rattle.tree_host.specs.TreeHosts.{tree, holds, IsGoodItem, new_file, add_of};
 
     /// A tree of the top directory alone, inode 1, whose times are `born`. What is added is born then too,
     /// and what changes is stamped with `moment`.
@@ -88,7 +88,7 @@ impl TreeHost {
     pub fn add(&mut self, dir: u64, name: &[u8], item: NewItem<'_>) -> Result<u64, HostError>
         requires stored { IsSome (map.get (tree self.old).records dir) }
         requires named { name_fault name.now ≡ None }
-        requires item { IsGoodItem item.entry }
+        requires item { IsGoodItem item }
         ensures leaves { Leaves (add_of self.old.born (tree self.old) dir name.now item.entry) (tree self.old) (tree self.new) result }
         ensures holds { holds self.new ≡ holds self.old }
         ensures fault { result ≢ Err HostError.Fault }
@@ -105,8 +105,7 @@ impl TreeHost {
         requires named { name_fault name.now ≡ None }
         requires mode { mode < 4096 }
         ensures leaves {
-            let file = record { mode = mode; uid = uid; gid = gid; bytes = bytes.now } in
-            Leaves (add_file_of self.old.born (tree self.old) dir name.now file) (tree self.old) (tree self.new) result
+            Leaves (add_file_of self.old.born (tree self.old) dir name.now (new_file mode uid gid bytes.now)) (tree self.old) (tree self.new) result
         }
         ensures holds { holds self.new ≡ holds self.old }
         ensures fault { result ≢ Err HostError.Fault }
