@@ -2,3 +2,5 @@ pub mod Holds
 pub mod Host
 pub mod Stored
 pub mod Walking
+pub mod Kept
+pub mod TreeHosts

@@ -2,6 +2,10 @@
 #![tactic(auto)]
 
 pub mod host;
+mod holds;
+pub mod memory;
 mod node;
+mod nodes;
 
 pub use host::Host;
+pub use memory::{NewItem, TreeHost};

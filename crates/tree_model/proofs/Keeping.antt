@@ -8,6 +8,7 @@ use Rattle.std.specs.FinMap.{FinMap, get, retain_keys}
 use Rattle.tree_model.specs.Tree.{Tree, Record, Records, Body, Entry, top, listed, is_directory, is_directory_at, body_at, name_count, names_in, is_linked, count_names, weight, keep, linked}
 use Rattle.tree_model.specs.Tree.Body.{File, Directory, Link}
 use Rattle.tree_model.specs.Good.{IsAt, IsGoodTree, Climbs, links_of}
+use Rattle.tree_model.specs.Sound.{IsKept, AreStored}
 use Rattle.tree_model.proofs.Maps.{retained}
 use Rattle.tree_model.proofs.Counting.{weigh-alike}
 use Rattle.tree_model.proofs.Naming.{entry_is_counted}
@@ -122,3 +123,18 @@ keep_good t g held = good_retained t g (λ i. is_linked t.records i || held i) (
 
 pub linked_good : (t : Tree) → IsGoodTree t → IsGoodTree (linked t)
 linked_good t g = good_retained t g (is_linked t.records) (λ i live. live)
+
+-- of what is kept each is linked or held
+pub keep_kept : (t : Tree) → IsGoodTree t → (held : ℕ → Bool) → IsKept (keep held t).records held
+keep_kept t g held q had = by_test (is_linked t.records q || held q) refl where
+  by_test : (b : Bool) → (is_linked t.records q || held q) ≡ b → (is_linked (keep held t).records q || held q) ≡ true
+  by_test true is = ap (λ b. b || held q) (retained-is_linked t g (λ i. is_linked t.records i || held i) (λ i live. ap (λ b. b || held i) live) q) ∙ is
+  by_test false is = absurd (false≢true (subst IsSome (goes t g (λ i. is_linked t.records i || held i) (λ i live. ap (λ b. b || held i) live) q is) had))
+
+or_right : (a b : Bool) → b ≡ true → (a || b) ≡ true
+or_right true b is = refl
+or_right false b is = is
+
+-- what is held stays
+pub keep_stored : (t : Tree) → IsGoodTree t → (held : ℕ → Bool) → AreStored t.records held → AreStored (keep held t).records held
+keep_stored t g held s q h = subst IsSome (sym (stays t g (λ i. is_linked t.records i || held i) (λ i live. ap (λ b. b || held i) live) q (or_right (is_linked t.records q) (held q) h))) (s q h)
