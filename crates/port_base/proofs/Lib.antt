@@ -1,3 +1,3 @@
 pub mod Loops
 pub mod Takes
-mod TableViews
+pub mod TableViews
