@@ -124,7 +124,6 @@ core s (t_attach fid afid uname aname n_uname) = attach_core s fid
 core s (t_walk fid newfid wnames) = walk_core s fid newfid wnames
 core s (t_getattr fid request_mask) = (getattr_by s (map.get s.fids fid), s)
 core s (t_clunk fid) = clunk_by s fid (map.get s.fids fid)
-core s _ = (r_lerror EOPNOTSUPP, s)
 
 -- the reply to a message, and the state after it
 abbrev pub answer : ServerState → Message → Reply × ServerState
