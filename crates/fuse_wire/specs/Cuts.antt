@@ -13,6 +13,10 @@ pub record IsFrame (frame : List ℕ) : Type 0 where
   pub allowed : is_allowed (length frame) ≡ true
   pub tells : u32_at frame 0 ≡ length frame
 
+abbrev pub AreFrames : List (List ℕ) → Type 0
+AreFrames [] = Unit {0}
+AreFrames (frame ∷ frames) = IsFrame frame × AreFrames frames
+
 -- what stands at the front of some bytes
 pub data Front : Type 0 where
   nothing : Front

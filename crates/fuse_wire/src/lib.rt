@@ -9,3 +9,5 @@ pub mod ids;
 pub mod opcode;
 pub mod reply;
 pub mod request;
+#[cfg(test)]
+mod tests;

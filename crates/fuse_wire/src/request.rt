@@ -16,7 +16,7 @@ pub const INIT_IN_SIZE: usize = 16;
 pub const GETATTR_IN_SIZE: usize = 16;
 
 /// What a request asks, behind its head. Its names are parts of the frame.
-#[derive(Clone, Copy, Debug)]
+#[derive(Clone, Copy, Debug, PartialEq, Eq)]
 pub enum Body<'a> {
     /// Begins a session.
     Init {
@@ -36,7 +36,7 @@ pub enum Body<'a> {
 }
 
 /// A request.
-#[derive(Clone, Copy, Debug)]
+#[derive(Clone, Copy, Debug, PartialEq, Eq)]
 pub struct FuseRequest<'a> {
     pub head: Head,
     pub body: Body<'a>,

@@ -30,7 +30,7 @@ returns-in-Ok-true-clause-takes g c =
     let whole : take c.in-Ok.n c.read_full.new.buf ≡ c.read_full.new.buf = take_all _ _ (omega (arith, c.read_full.auto.buf)) in
     let filled = rw c.in-Ok-true.field-0-test at c.in-Ok-true.ensures.fills in
     let behind = rw c.in_ok-begin.ensures.ok at filled.1 in
-    let t = takes-frame _ _ _ c.read_full.new.buf c.u32_at-len.result c.read_full.auto.buf c.u32_at-len.ensures (sym c.if-not-is_allowed.ensures.value) (omega (arith, c.is_allowed.ensures.range)) (rw whole at e.bytes) _ behind in
+    let t = takes-frame _ _ _ c.read_full.new.buf c.u32_at-len.result c.read_full.auto.buf c.u32_at-len.ensures (sym c.if-not-is_allowed.ensures.value) (omega arith) (rw whole at e.bytes) _ behind in
     (filled.0 ∙ e.cause, t.0, t.1)
 
 pub returns-in-Ok-false-clause-takes : goal.returns-in-Ok-false-clause-takes
@@ -38,10 +38,10 @@ returns-in-Ok-false-clause-takes g c =
     let e = c.in-Ok.ensures in
     let whole : take c.in-Ok.n c.read_full.new.buf ≡ c.read_full.new.buf = take_all _ _ (omega (arith, c.read_full.auto.buf)) in
     let filled = rw c.in-Ok-false.field-0-test at c.in-Ok-false.ensures.fills in
-    (filled.0 ∙ e.cause, stands-part _ _ _ c.read_full.new.buf c.u32_at-len.result c.read_full.auto.buf c.u32_at-len.ensures (sym c.if-not-is_allowed.ensures.value) (omega (arith, c.is_allowed.ensures.range)) (rw whole at e.bytes) filled.1 filled.2, filled.2)
+    (filled.0 ∙ e.cause, stands-part _ _ _ c.read_full.new.buf c.u32_at-len.result c.read_full.auto.buf c.u32_at-len.ensures (sym c.if-not-is_allowed.ensures.value) (omega arith) (rw whole at e.bytes) filled.1 filled.2, filled.2)
 
 pub returns-in-Err-fill-clause-takes : goal.returns-in-Err-fill-clause-takes
 returns-in-Err-fill-clause-takes g c =
     let e = c.in-Ok.ensures in
     let whole : take c.in-Ok.n c.read_full.new.buf ≡ c.read_full.new.buf = take_all _ _ (omega (arith, c.read_full.auto.buf)) in
-    takes-stopped _ _ _ c.read_full.new.buf c.u32_at-len.result c.read_full.auto.buf c.u32_at-len.ensures (sym c.if-not-is_allowed.ensures.value) (omega (arith, c.is_allowed.ensures.range)) (rw whole at e.bytes) _ _ _ c.begin.new.frame.items c.fill.new.frame.items c.in-Err-fill.error e.cause c.in-Err-fill.ensures.fills
+    takes-stopped _ _ _ c.read_full.new.buf c.u32_at-len.result c.read_full.auto.buf c.u32_at-len.ensures (sym c.if-not-is_allowed.ensures.value) (omega arith) (rw whole at e.bytes) _ _ _ c.begin.new.frame.items c.fill.new.frame.items c.in-Err-fill.error e.cause c.in-Err-fill.ensures.fills
