@@ -4,6 +4,8 @@ ghost use Rattle.tree_model.specs.GoodLaws.{IsGoodTree-prop};
 ghost use Rattle.tree_host.specs.Host.{IsHeldIn};
 ghost use Rattle.tree_host.specs.Kept.{tree_from};
 
+mod readers;
+
 use crate::host::Host;
 use crate::holds::{hold, lower};
 use crate::node::{Node, TOP};
