@@ -26,6 +26,21 @@ AnswersBy told (Err NoMemory) = ⊤
 pub record Answers {A : Type 0} (told : Result A ℕ) (result : Result A HostError) : Type 0 where
   pub exactly : AnswersBy told result
 
+-- a definition's answer, as a call gives it
+abbrev pub as_errno : {A : Type 0} → Result A ℕ → Result A HostError
+as_errno (Ok a) = Ok a
+as_errno (Err e) = Err (Errno e)
+
+abbrev pub LeavesBy : {A : Type 0} → Result (A × Tree) ℕ → Tree → Tree → Result A HostError → Type 0
+LeavesBy told old new (Ok a) = told ≡ Ok (a, new)
+LeavesBy told old new (Err (Errno e)) = (told ≡ Err e) × (new ≡ old)
+LeavesBy told old new (Err Fault) = new ≡ old
+LeavesBy told old new (Err NoMemory) = new ≡ old
+
+-- an answer and the new tree, or a refusal, are those that a definition gives; after every error the tree is as it was
+pub record Leaves {A : Type 0} (told : Result (A × Tree) ℕ) (old new : Tree) (result : Result A HostError) : Type 0 where
+  pub exactly : LeavesBy told old new result
+
 -- ---- counts of faults
 
 abbrev pub CauseBy : {A : Type 0} → Bool → ℕ → ℕ → Result A HostError → Type 0
