@@ -1,5 +1,6 @@
 //! A map from numbers, which contracts see as a finite map.
-ghost use Rattle.std.specs.Prelude.{◌≡◌, ◌<◌, ℕ, Some, None, OnOk, OnErr, IfSome, IfNone, IsSome, IsOk, option_copied};
+ghost use Rattle.std.specs.Prelude.{◌≡◌, ◌<◌, ℕ, Some, None, OnOk, OnErr, IfSome, IfNone, IsSome, IsOk, option_copied, option_map};
+ghost use Rattle.port_base.specs.Tables.{next_after};
 ghost use Rattle.std.specs.Ordering.{nat_cmp};
 ghost use Rattle.std.specs.FinMap as map;
 ghost use Rattle.std.specs.Borrow.{sem};
@@ -9,6 +10,7 @@ ghost use Rattle.port_base.specs.Lending.{LendsValue};
 use std::alloc::{AllocError, Global};
 use std::collections::BTreeMap;
 use std::marker::Model;
+use std::ops::Bound;
 
 /// Values by number, in order.
 #[derive(Drop)]
@@ -57,6 +59,17 @@ impl<V> Table<V> {
         ensures { result ≡ map.contains_key self.now key }
     {
         self.entries.contains_key(&key)
+    }
+
+    /// The least key above the given one, with its value.
+    pub fn next_after(&self, key: u64) -> Option<(u64, &V)>
+        ensures { option_map (λ e. (e.0, e.1.now)) result ≡ next_after key self.now }
+    {
+        let mut above = self.entries.range((Bound::Excluded(key), Bound::Unbounded));
+        match above.next() {
+            Some(entry) => Some((*entry.0, entry.1)),
+            None => None,
+        }
     }
 
     /// Gives a key a value. A key that has one already takes no memory; without memory nothing changes.

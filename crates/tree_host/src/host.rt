@@ -5,9 +5,11 @@ ghost use Rattle.tree_model.specs.Tree.{Tree, keep};
 ghost use Rattle.tree_model.specs.Good.{IsGoodTree};
 ghost use Rattle.tree_model.specs.Finding.{root_of, path_names, lookup_of};
 ghost use Rattle.tree_model.specs.Attributes.{stat_of};
+ghost use Rattle.tree_model.specs.Reading.{entry_after_of};
 ghost use Rattle.tree_host.specs.Holds.{Holds, hold_count, is_held, held_more, held_less};
 ghost use Rattle.tree_host.specs.Host.{IsHeldIn, Answers, Causes};
 
+use crate::entry::Entry;
 use tree_model::{Attr, HostError};
 
 /// A tree of files, however it is kept. Callers name inodes by number, and hold each that they go on to
@@ -74,6 +76,16 @@ pub trait Host {
         ensures tree { tree self.new ≡ tree self.old }
         ensures holds { holds self.new ≡ holds self.old }
         ensures memory { result ≢ Err HostError.NoMemory }
+        ensures cause { Causes (steady self.old) (faults self.old) (faults self.new) result }
+        ensures steady { steady self.new ≡ steady self.old };
+
+    /// The first entry of a directory whose cookie is above the given one, if there is one. ENOTDIR for what
+    /// is no directory.
+    fn entry_after(&mut self, dir: u64, cookie: u64) -> Result<Option<Entry>, HostError>
+        requires { 0 < hold_count (holds self.old) dir }
+        ensures answer { Answers (entry_after_of (tree self.old) dir cookie) result }
+        ensures tree { tree self.new ≡ tree self.old }
+        ensures holds { holds self.new ≡ holds self.old }
         ensures cause { Causes (steady self.old) (faults self.old) (faults self.new) result }
         ensures steady { steady self.new ≡ steady self.old };
 

@@ -4,10 +4,13 @@ ghost use Rattle.tree_model.specs.GoodLaws.{IsGoodTree-prop};
 ghost use Rattle.tree_host.specs.Host.{IsHeldIn};
 ghost use Rattle.tree_host.specs.Kept.{tree_from};
 
+mod readers;
+
+use crate::entry::Entry;
 use crate::host::Host;
 use crate::holds::{hold, lower};
 use crate::node::{Node, TOP};
-use crate::nodes::{add_node, find_in, refusal, sweep, walk};
+use crate::nodes::{add_node, entry_after, find_in, refusal, sweep, walk};
 use port_base::errno::{EFBIG, ENOENT};
 use port_base::sink::NoMemory;
 use port_base::table::Table;
@@ -175,6 +178,10 @@ impl Host for TreeHost {
             Some(node) => Ok(node.attr(ino)),
             None => Err(HostError::Errno(ENOENT)),
         }
+    }
+
+    fn entry_after(&mut self, dir: u64, cookie: u64) -> Result<Option<Entry>, HostError> {
+        entry_after(self.alloc, &self.nodes, dir, cookie)
     }
 
     ghost good = { λ s. s.good };

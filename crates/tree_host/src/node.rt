@@ -1,8 +1,9 @@
 //! Records as they are kept in memory.
-ghost use Rattle.std.specs.Prelude.{◌≡◌, ◌+◌, ◌-◌, ◌^◌, ◌<◌, ◌++◌, ◌∷◌, [], not, ◌==◌, Some, IfOk, OnOk, OnErr, option_copied, bytes_eq, false};
+ghost use Rattle.std.specs.Prelude.{◌≡◌, ◌+◌, ◌-◌, ◌^◌, ◌<◌, ◌++◌, ◌∷◌, [], not, ◌==◌, Some, IfOk, OnOk, OnErr, option_copied, option_and_then, bytes_eq, false, length, take, drop};
 ghost use Rattle.tree_model.specs.Tree.{is_directory};
 ghost use Rattle.tree_model.specs.Finding.{entry_named, entries_of, ino_among};
 ghost use Rattle.tree_model.specs.Attributes.{attr_of};
+ghost use Rattle.tree_model.specs.Reading.{above, entry_above, bytes_of, part};
 ghost use Rattle.tree_model.specs.Making.{joined_by, next_cookie, new_name_refused, file_record, top_record};
 ghost use Rattle.tree_host.specs.Host.{as_errno};
 ghost use Rattle.tree_host.specs.Stored.{body_of};
@@ -32,6 +33,24 @@ impl Model for Name {
 }
 
 impl Name {
+    pub fn cookie(&self) -> u64
+        ensures { result ≡ self.now.cookie }
+    {
+        self.cookie
+    }
+
+    pub fn ino(&self) -> u64
+        ensures { result ≡ self.now.ino }
+    {
+        self.ino
+    }
+
+    pub fn name(&self) -> &[u8]
+        ensures { result.now ≡ self.now.name }
+    {
+        &self.name
+    }
+
     fn is_named(&self, name: &[u8]) -> bool
         ensures { result ≡ bytes_eq self.now.name name.now }
     {
@@ -43,6 +62,24 @@ fn find_name<'a>(entries: &'a [Name], name: &[u8]) -> Option<&'a Name>
     ensures { option_copied result ≡ entry_named name.now entries.now }
 {
     entries.iter().find(|e| e.is_named(name))
+}
+
+fn find_above(entries: &[Name], cookie: u64) -> Option<&Name>
+    ensures { option_copied result ≡ entry_above cookie entries.now }
+{
+    entries.iter().find(|e| cookie < e.cookie())
+}
+
+// Copies what is there from an offset on and fits, and returns how many bytes.
+fn copy_part(bytes: &[u8], offset: u64, buf: &mut [u8]) -> usize
+    ensures count { result ≡ length (part bytes.now offset (length buf.old)) }
+    ensures bytes { buf.new ≡ part bytes.now offset (length buf.old) ++ drop result buf.old }
+{
+    let start = bytes.len().min(offset as usize);
+    let rest = &bytes[start..];
+    let count = rest.len().min(buf.len());
+    buf[..count].copy_from_slice(&rest[..count]);
+    count
 }
 
 fn push_name(alloc: Global, entries: &mut Vec<Name>, cookie: u64, name: &[u8], ino: u64) -> Result<(), AllocError>
@@ -181,6 +218,51 @@ impl Node {
             atime: self.atime,
             mtime: self.mtime,
             ctime: self.ctime,
+        }
+    }
+
+    /// The number of the directory above, 0 for what is no directory.
+    pub fn above(&self) -> u64
+        ensures { result ≡ above self.now.body }
+    {
+        match &self.body {
+            Stored::Bytes(_) => 0,
+            Stored::Names { above, .. } => *above,
+            Stored::Target(_) => 0,
+        }
+    }
+
+    /// The cookie that the next entry gets, 0 for what is no directory.
+    pub fn next_cookie(&self) -> u64
+        ensures { result ≡ next_cookie self.now.body }
+    {
+        match &self.body {
+            Stored::Bytes(_) => 0,
+            Stored::Names { next, .. } => *next,
+            Stored::Target(_) => 0,
+        }
+    }
+
+    /// The first entry above a cookie.
+    pub fn entry_above(&self, cookie: u64) -> Option<&Name>
+        ensures { option_copied result ≡ option_and_then (entry_above cookie) (entries_of self.now.body) }
+    {
+        match &self.body {
+            Stored::Bytes(_) => None,
+            Stored::Names { entries, .. } => find_above(entries, cookie),
+            Stored::Target(_) => None,
+        }
+    }
+
+    /// Copies the bytes of a file from an offset on, as many as there are and fit, and returns how many.
+    pub fn read(&self, offset: u64, buf: &mut [u8]) -> usize
+        ensures count { result ≡ length (part (bytes_of self.now.body) offset (length buf.old)) }
+        ensures bytes { buf.new ≡ part (bytes_of self.now.body) offset (length buf.old) ++ drop result buf.old }
+    {
+        match &self.body {
+            Stored::Bytes(bytes) => copy_part(bytes, offset, buf),
+            Stored::Names { .. } => 0,
+            Stored::Target(_) => 0,
         }
     }
 

@@ -1,19 +1,21 @@
 //! Records in a table, by inode number.
-ghost use Rattle.std.specs.Prelude.{◌≡◌, ◌≢◌, not, Result, None, ℕ, ◌+◌, ◌-◌, ◌^◌, ◌<◌, OnOk, OnErr, IfErr, IsSome, option_map, unwrap_or, false};
+ghost use Rattle.std.specs.Prelude.{◌≡◌, ◌≢◌, not, Result, None, ℕ, ◌+◌, ◌-◌, ◌^◌, ◌<◌, OnOk, OnErr, IfOk, IfErr, Err, IsSome, option_map, unwrap_or, false};
 ghost use Rattle.std.specs.FinMap as map;
 ghost use Rattle.tree_model.specs.Tree.{body_at, is_directory_at};
 ghost use Rattle.tree_model.specs.Finding.{entries_at, ino_among, root_of, path_names};
 ghost use Rattle.tree_model.specs.Making.{change, joined_by, next_cookie, new_name_refused};
 ghost use Rattle.tree_model.specs.Sound.{has_no_links, swept};
 ghost use Rattle.tree_host.specs.Holds.{is_held};
-ghost use Rattle.tree_host.specs.Host.{as_errno};
+ghost use Rattle.tree_host.specs.Host.{as_errno, Answers};
+ghost use Rattle.tree_model.specs.Reading.{shown_entry, entry_after_among};
 ghost use Rattle.tree_host.specs.Walking.{part_step, part_end};
 ghost use Rattle.tree_host.specs.Kept.{tree_from};
 ghost use Rattle.tree_model.specs.declared.attributes.Limits.{Limits};
 ghost use Rattle.tree_model.specs.declared.attributes.Stamp.{Stamp};
 
 use crate::holds::is_held;
-use crate::node::{Node, TOP};
+use crate::entry::Entry;
+use crate::node::{Name, Node, TOP};
 use port_base::errno::ENOTDIR;
 use port_base::table::Table;
 use std::alloc::{AllocError, Global};
@@ -133,5 +135,36 @@ pub fn add_node(alloc: Global, nodes: &mut Table<Node>, dir: u64, name: &[u8], i
             take_away(nodes, ino);
             Err(error)
         }
+    }
+}
+
+// An entry with what is told of the inode that it names.
+fn shown(alloc: Global, nodes: &Table<Node>, entry: &Name) -> Result<Option<Entry>, HostError>
+    ensures told { IfOk result (λ shown. shown ≡ shown_entry nodes.now entry.now) }
+    ensures memory { IfErr result (λ e. e ≡ HostError.NoMemory) }
+{
+    let Some(node) = nodes.get(entry.ino()) else {
+        return Ok(None);
+    };
+    match Vec::from_slice(alloc, entry.name()) {
+        Ok(name) => Ok(Some(Entry::new(entry.cookie(), name, node.attr(entry.ino())))),
+        Err(_) => Err(HostError::NoMemory),
+    }
+}
+
+/// The first entry of a directory above a cookie.
+pub fn entry_after(alloc: Global, nodes: &Table<Node>, dir: u64, cookie: u64) -> Result<Option<Entry>, HostError>
+    ensures answer { Answers (entry_after_among nodes.now cookie (entries_at nodes.now dir)) result }
+    ensures fault { result ≢ Err HostError.Fault }
+{
+    let Some(node) = nodes.get(dir) else {
+        return Err(HostError::Errno(ENOTDIR));
+    };
+    if !node.is_directory() {
+        return Err(HostError::Errno(ENOTDIR));
+    }
+    match node.entry_above(cookie) {
+        Some(entry) => shown(alloc, nodes, entry),
+        None => Ok(None),
     }
 }

@@ -6,3 +6,4 @@ pub mod Settings
 pub mod Making
 pub mod Sound
 pub mod GoodLaws
+pub mod Reading
