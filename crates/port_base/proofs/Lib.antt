@@ -1,3 +1,5 @@
 pub mod Loops
 pub mod Takes
 mod TableViews
+mod PathParts
+mod PathWalks
