@@ -1,0 +1,5 @@
+pub mod Cuts
+pub mod Reading
+pub mod Numbers
+pub mod Escapes
+pub mod Rows

@@ -1,0 +1,1 @@
+//! The flags of a mount, looked up in a mountinfo table.
