@@ -1,2 +1,3 @@
 mod CutLemmas
+mod EscapeLemmas
 mod NumberLemmas

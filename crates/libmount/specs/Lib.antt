@@ -3,3 +3,4 @@ pub mod Reading
 pub mod Numbers
 pub mod Escapes
 pub mod Rows
+pub mod Views
