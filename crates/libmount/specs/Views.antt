@@ -1,10 +1,16 @@
 -- What the code returns, without where it lies in memory.
-use Rattle.std.specs.Prelude.{◌≡◌, ℕ, List, Result, Ok, Err}
+use Rattle.std.specs.Prelude.{◌≡◌, ℕ, List, Option, None, Result, Ok, Err}
+use Rattle.std.specs.Option.{option_map}
+use Rattle.libmount.specs.declared.mountinfo.errors.ParseRowError.{ParseRowError}
+use Rattle.libmount.specs.declared.mountinfo.errors.RowFault.{RowFault}
+use Rattle.libmount.specs.declared.mountinfo.errors.RowFault.TheVariants.{Row as RefusedRow, NoMemory as NoRowMemory}
 use Rattle.libmount.specs.declared.mountinfo.escapes.Field.{Field}
 use Rattle.libmount.specs.declared.mountinfo.escapes.Field.TheVariants.{Borrowed, Owned}
 use Rattle.libmount.specs.declared.mountinfo.refusals.Refusal.{Refusal}
 use Rattle.libmount.specs.declared.mountinfo.refusals.Refusal.TheVariants.{NoMemory}
-use Rattle.libmount.specs.Rows.{Text, borrowed, owned}
+use Rattle.libmount.specs.declared.mountinfo.rows.MountPoint.{MountPoint}
+use Rattle.libmount.specs.Reading.{Message}
+use Rattle.libmount.specs.Rows.{Row, Text, borrowed, owned}
 
 abbrev pub text : Field → Text
 text (Borrowed bytes) = borrowed bytes.now
@@ -14,3 +20,16 @@ text (Owned bytes) = owned bytes.items
 abbrev pub GivesText : Result Field Refusal → Text → Type 0
 GivesText (Ok field) wanted = wanted ≡ text field
 GivesText (Err refusal) wanted = refusal ≡ NoMemory
+
+abbrev pub row_view : MountPoint → Row
+row_view m = record {
+  mount_id = m.mount_id; parent_id = m.parent_id; major = m.major; minor = m.minor; root = text m.root; mount_point = text m.mount_point;
+  mount_options = text m.mount_options; optional_fields = text m.optional_fields; fstype = text m.fstype; mount_source = text m.mount_source;
+  super_options = text m.super_options;
+}
+
+-- what a line says, or its refusal's message; want of memory comes at no line that is passed over
+abbrev pub GivesRow : Result (Option MountPoint) RowFault → Result (Option Row) Message → Type 0
+GivesRow (Ok found) read = read ≡ Ok (option_map row_view found)
+GivesRow (Err (RefusedRow e)) read = read ≡ Err e.0.items
+GivesRow (Err NoRowMemory) read = read ≡ Ok None → ⊥
