@@ -1,5 +1,5 @@
 -- What the code returns, without where it lies in memory.
-use Rattle.std.specs.Prelude.{◌≡◌, ℕ, List, Option, None, Result, Ok, Err}
+use Rattle.std.specs.Prelude.{◌≡◌, ℕ, List, Option, Some, None, Result, Ok, Err}
 use Rattle.std.specs.Option.{option_map}
 use Rattle.libmount.specs.declared.mountinfo.errors.ParseRowError.{ParseRowError}
 use Rattle.libmount.specs.declared.mountinfo.errors.RowFault.{RowFault}
@@ -7,9 +7,9 @@ use Rattle.libmount.specs.declared.mountinfo.errors.RowFault.TheVariants.{Row as
 use Rattle.libmount.specs.declared.mountinfo.escapes.Field.{Field}
 use Rattle.libmount.specs.declared.mountinfo.escapes.Field.TheVariants.{Borrowed, Owned}
 use Rattle.libmount.specs.declared.mountinfo.refusals.Refusal.{Refusal}
-use Rattle.libmount.specs.declared.mountinfo.refusals.Refusal.TheVariants.{NoMemory}
+use Rattle.libmount.specs.declared.mountinfo.refusals.Refusal.TheVariants.{MoreFields, Number, NoMemory}
 use Rattle.libmount.specs.declared.mountinfo.rows.MountPoint.{MountPoint}
-use Rattle.libmount.specs.Reading.{Message}
+use Rattle.libmount.specs.Reading.{Message, bad_number, more_fields}
 use Rattle.libmount.specs.Rows.{Row, Text, borrowed, owned}
 
 abbrev pub text : Field → Text
@@ -23,8 +23,16 @@ GivesText (Err refusal) wanted = refusal ≡ NoMemory
 
 abbrev pub row_view : MountPoint → Row
 row_view m = record {
-  mount_id = m.mount_id; parent_id = m.parent_id; major = m.major; minor = m.minor; root = text m.root; mount_point = text m.mount_point;
-  mount_options = text m.mount_options; optional_fields = text m.optional_fields; fstype = text m.fstype; mount_source = text m.mount_source;
+  mount_id = m.mount_id;
+  parent_id = m.parent_id;
+  major = m.major;
+  minor = m.minor;
+  root = text m.root;
+  mount_point = text m.mount_point;
+  mount_options = text m.mount_options;
+  optional_fields = text m.optional_fields;
+  fstype = text m.fstype;
+  mount_source = text m.mount_source;
   super_options = text m.super_options;
 }
 
@@ -33,3 +41,14 @@ abbrev pub GivesRow : Result (Option MountPoint) RowFault → Result (Option Row
 GivesRow (Ok found) read = read ≡ Ok (option_map row_view found)
 GivesRow (Err (RefusedRow e)) read = read ≡ Err e.0.items
 GivesRow (Err NoRowMemory) read = read ≡ Ok None → ⊥
+
+-- the message of a refusal
+abbrev pub told : Refusal → Option Message
+told MoreFields = Some more_fields
+told (Number field fault) = Some (bad_number field.now fault)
+told NoMemory = None
+
+-- the refusal in words, unless memory ran out
+abbrev pub Tells : Refusal → RowFault → Type 0
+Tells refusal (RefusedRow e) = told refusal ≡ Some e.0.items
+Tells refusal NoRowMemory = Unit {0}

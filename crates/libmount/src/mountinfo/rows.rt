@@ -1,5 +1,6 @@
 // Rows of a mountinfo table.
-ghost use Rattle.std.specs.Prelude.{◌≡◌, ◌||◌, ◌==◌, option_map};
+ghost use Rattle.std.specs.Prelude.{◌≡◌, ◌≤◌, length, Ok, None, OnErr};
+ghost use Rattle.std.specs.Option.{option_map};
 ghost use Rattle.std.specs.List.{prefix_len};
 ghost use Rattle.std.specs.Str.Lines.{strip_carriage_return};
 ghost use Rattle.libmount.specs.Cuts.{dash};
@@ -90,4 +91,56 @@ fn fields_of(alloc: Global, row: &[u8]) -> Result<MountPoint<'_>, Refusal<'_>>
         mount_source,
         super_options,
     })
+}
+
+fn blanks(row: &[u8]) -> usize
+    ensures count { result ≡ prefix_len is_blank row.now }
+    ensures within { result ≤ length row.now }
+{
+    row.iter()
+        .take_while(|byte| **byte == b' ' || **byte == b'\t')
+        .count()
+}
+
+// Whether a row is empty, or spaces and tabs and then a number sign.
+fn is_skipped(row: &[u8]) -> bool
+    ensures { result ≡ is_skipped row.now }
+{
+    let rest = &row[blanks(row)..];
+    row.is_empty() || (!rest.is_empty() && rest[0] == b'#')
+}
+
+fn without_return(line: &[u8]) -> &[u8]
+    ensures { result.now ≡ strip_carriage_return line.now }
+{
+    if !line.is_empty() && line[line.len() - 1] == b'\r' {
+        &line[..line.len() - 1]
+    } else {
+        line
+    }
+}
+
+// What a row without its carriage return says.
+#[tactic(auto, unfolding(crate::specs::Rows::row_of))]
+fn row_of(alloc: Global, row: &[u8]) -> Result<Option<MountPoint<'_>>, Refusal<'_>>
+    ensures gives { Gives (option_map row_view) result (row_of row.now) }
+    ensures not_skipped { OnErr result (row_of row.now ≡ Ok None → ⊥) }
+{
+    if is_skipped(row) {
+        return Ok(None);
+    }
+    let fields = fields_of(alloc, row)?;
+    Ok(Some(fields))
+}
+
+/// What one line of the table says, without its line feed: `None` where it is passed over, as an empty
+/// row is, and spaces and tabs and then a number sign.
+#[tactic(auto, unfolding(crate::specs::Rows::row))]
+pub fn parse_mount_point(alloc: Global, line: &[u8]) -> Result<Option<MountPoint<'_>>, RowFault>
+    ensures { GivesRow result (row line.now) }
+{
+    match row_of(alloc, without_return(line)) {
+        Ok(found) => Ok(found),
+        Err(refusal) => Err(refusal.tell(alloc)),
+    }
 }
