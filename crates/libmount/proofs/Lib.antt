@@ -1,3 +1,6 @@
 mod CutLemmas
 mod EscapeLemmas
+mod ItemLemmas
+mod LineLemmas
 mod NumberLemmas
+mod PartLemmas

@@ -4,3 +4,7 @@ pub mod Numbers
 pub mod Escapes
 pub mod Rows
 pub mod Views
+pub mod Parts
+pub mod Options
+pub mod Items
+pub mod Parsers

@@ -1,7 +1,10 @@
 -- What the code returns, without where it lies in memory.
-use Rattle.std.specs.Prelude.{◌≡◌, ℕ, List, Option, Some, None, Result, Ok, Err}
+use Rattle.std.specs.Prelude.{◌≡◌, ℕ, List, Option, Some, None, IsSome, Result, Ok, Err}
 use Rattle.std.specs.Option.{option_map}
+use Rattle.libmount.specs.declared.mountinfo.errors.ParseError.{ParseError}
+use Rattle.libmount.specs.declared.mountinfo.errors.ParseError.TheVariants.{Row as ErrorRow, NoMemory as NoErrorMemory}
 use Rattle.libmount.specs.declared.mountinfo.errors.ParseRowError.{ParseRowError}
+use Rattle.libmount.specs.declared.mountinfo.errors.RowError.{RowError}
 use Rattle.libmount.specs.declared.mountinfo.errors.RowFault.{RowFault}
 use Rattle.libmount.specs.declared.mountinfo.errors.RowFault.TheVariants.{Row as RefusedRow, NoMemory as NoRowMemory}
 use Rattle.libmount.specs.declared.mountinfo.escapes.Field.{Field}
@@ -9,6 +12,7 @@ use Rattle.libmount.specs.declared.mountinfo.escapes.Field.TheVariants.{Borrowed
 use Rattle.libmount.specs.declared.mountinfo.refusals.Refusal.{Refusal}
 use Rattle.libmount.specs.declared.mountinfo.refusals.Refusal.TheVariants.{MoreFields, Number, NoMemory}
 use Rattle.libmount.specs.declared.mountinfo.rows.MountPoint.{MountPoint}
+use Rattle.libmount.specs.Items.{Item, Refused}
 use Rattle.libmount.specs.Reading.{Message, bad_number, more_fields}
 use Rattle.libmount.specs.Rows.{Row, Text, borrowed, owned}
 
@@ -52,3 +56,19 @@ told NoMemory = None
 abbrev pub Tells : Refusal → RowFault → Type 0
 Tells refusal (RefusedRow e) = told refusal ≡ Some e.0.items
 Tells refusal NoRowMemory = Unit {0}
+
+abbrev pub refused_view : RowError → Refused
+refused_view e = record { message = e.message.items; number = e.row_num; row = e.row.items }
+
+-- the row that a fault refuses, unless memory ran out
+abbrev pub IsRefused : RowFault → ℕ → List ℕ → ParseError → Type 0
+IsRefused fault number line NoErrorMemory = Unit {0}
+IsRefused (RefusedRow error) number line (ErrorRow e) = refused_view e ≡ record { message = error.0.items; number = number; row = line }
+IsRefused NoRowMemory number line (ErrorRow e) = ⊥
+
+-- what a line says, where it isn't passed over; want of memory comes at no line that is
+abbrev pub GivesItem : Option (Result MountPoint ParseError) → Option Item → Type 0
+GivesItem None wanted = wanted ≡ None
+GivesItem (Some (Ok m)) wanted = wanted ≡ Some (Ok (row_view m))
+GivesItem (Some (Err (ErrorRow e))) wanted = wanted ≡ Some (Err (refused_view e))
+GivesItem (Some (Err NoErrorMemory)) wanted = IsSome wanted

@@ -3,10 +3,15 @@
 mod cuts;
 mod errors;
 mod escapes;
+mod lines;
 mod numbers;
+mod options;
+mod parsing;
+mod parts;
 mod refusals;
 mod rows;
 
-pub use errors::{ParseRowError, RowFault};
+pub use errors::{ParseError, ParseRowError, RowError, RowFault};
 pub use escapes::Field;
-pub use rows::MountPoint;
+pub use parsing::Parser;
+pub use rows::{MountPoint, parse_mount_point};

@@ -1,5 +1,5 @@
 pub mod Loops
 pub mod Takes
 mod TableViews
-mod PathParts
+pub mod PathParts
 mod PathWalks

@@ -1,5 +1,5 @@
 -- The parts of a path between its slashes, taken from the front.
-use Rattle.std.proofs.Common.{◌≡◌, ℕ, suc, ◌+◌, ◌-◌, ◌≤◌, ◌<◌, Bool, true, false, List, [], ◌∷◌, length, take, drop, Some, None, refl, sym, ap, ◌∙◌, arith, cond, ltb-false, inl, inr, take_all}
+use Rattle.std.proofs.Common.{◌≡◌, ℕ, suc, ◌+◌, ◌-◌, ◌≤◌, ◌<◌, Bool, true, false, List, [], ◌∷◌, length, take, drop, Some, None, refl, sym, ap, ◌∙◌, arith, cond, ltb-true, ltb-false, inl, inr, take_all}
 use Rattle.std.specs.Prelude.{position, filter, not}
 use Rattle.std.specs.List.{slice_split, onto_first, position_or_len, before_first, after_first}
 use Rattle.std.proofs.lemmas.List.{take_rest, drop_all, length-drop}
@@ -23,7 +23,10 @@ module _ (p : ℕ → Bool) (xs : List ℕ) where
   pub after-some : (i : ℕ) → position p xs ≡ Some i → take (length xs - (i + 1)) (drop (i + 1) xs) ≡ after_first p xs
   after-some i h = take_rest xs (i + 1) ∙ ap (λ n. drop (n + 1) xs) (sym (by_some _ _ i h).1)
 
-  past-none : position p xs ≡ None → length xs ≤ position_or_len p xs
+  pub found-some : (i : ℕ) → position p xs ≡ Some i → (position_or_len p xs < length xs) × (position_or_len p xs ≡ i)
+  found-some i h = let found = by_some _ _ i h in (ltb-true _ _ found.0, found.1)
+
+  pub past-none : position p xs ≡ None → length xs ≤ position_or_len p xs
   past-none h = ltb-false _ _ (by_none _ _ h)
 
   pub before-none : position p xs ≡ None → xs ≡ before_first p xs
