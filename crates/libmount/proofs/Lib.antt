@@ -2,5 +2,6 @@ mod CutLemmas
 mod EscapeLemmas
 mod ItemLemmas
 mod LineLemmas
+mod LookupLemmas
 mod NumberLemmas
 mod PartLemmas

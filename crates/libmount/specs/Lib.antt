@@ -7,4 +7,5 @@ pub mod Views
 pub mod Parts
 pub mod Options
 pub mod Items
+pub mod Lookup
 pub mod Parsers

@@ -1,6 +1,8 @@
 -- What the code returns, without where it lies in memory.
 use Rattle.std.specs.Prelude.{◌≡◌, ℕ, List, Option, Some, None, IsSome, Result, Ok, Err}
 use Rattle.std.specs.Option.{option_map}
+use Rattle.port_base.specs.declared.flags.MsFlags.{MsFlags}
+use Rattle.port_base.specs.Flags.{bits_of}
 use Rattle.libmount.specs.declared.mountinfo.errors.ParseError.{ParseError}
 use Rattle.libmount.specs.declared.mountinfo.errors.ParseError.TheVariants.{Row as ErrorRow, NoMemory as NoErrorMemory}
 use Rattle.libmount.specs.declared.mountinfo.errors.ParseRowError.{ParseRowError}
@@ -12,6 +14,8 @@ use Rattle.libmount.specs.declared.mountinfo.escapes.Field.TheVariants.{Borrowed
 use Rattle.libmount.specs.declared.mountinfo.refusals.Refusal.{Refusal}
 use Rattle.libmount.specs.declared.mountinfo.refusals.Refusal.TheVariants.{MoreFields, Number, NoMemory}
 use Rattle.libmount.specs.declared.mountinfo.rows.MountPoint.{MountPoint}
+use Rattle.libmount.specs.declared.remount.RemountError.{RemountError}
+use Rattle.libmount.specs.declared.remount.RemountError.TheVariants.{ParseMountInfo, NoMemory as NoRemountMemory}
 use Rattle.libmount.specs.Items.{Item, Refused}
 use Rattle.libmount.specs.Reading.{Message, bad_number, more_fields}
 use Rattle.libmount.specs.Rows.{Row, Text, borrowed, owned}
@@ -72,3 +76,16 @@ GivesItem None wanted = wanted ≡ None
 GivesItem (Some (Ok m)) wanted = wanted ≡ Some (Ok (row_view m))
 GivesItem (Some (Err (ErrorRow e))) wanted = wanted ≡ Some (Err (refused_view e))
 GivesItem (Some (Err NoErrorMemory)) wanted = IsSome wanted
+
+-- what a line says of the flags of a path, unless memory ran out
+abbrev pub GivesVerdict : Result (Option MsFlags) RemountError → Option (Result ℕ Message) → Type 0
+GivesVerdict (Ok None) wanted = wanted ≡ None
+GivesVerdict (Ok (Some flags)) wanted = wanted ≡ Some (Ok (bits_of flags))
+GivesVerdict (Err (ParseMountInfo message)) wanted = wanted ≡ Some (Err message.items)
+GivesVerdict (Err NoRemountMemory) wanted = Unit {0}
+
+-- the flags that a table gives a path, unless memory ran out
+abbrev pub GivesFlags : Result (Option MsFlags) RemountError → Result (Option ℕ) Message → Type 0
+GivesFlags (Ok found) wanted = wanted ≡ Ok (option_map bits_of found)
+GivesFlags (Err (ParseMountInfo message)) wanted = wanted ≡ Err message.items
+GivesFlags (Err NoRemountMemory) wanted = Unit {0}

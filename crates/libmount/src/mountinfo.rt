@@ -7,7 +7,7 @@ mod lines;
 mod numbers;
 mod options;
 mod parsing;
-mod parts;
+pub(crate) mod parts;
 mod refusals;
 mod rows;
 
