@@ -2,3 +2,5 @@ pub mod Loops
 pub mod Takes
 pub mod TableViews
 pub mod TableOrder
+pub mod PathParts
+mod PathWalks

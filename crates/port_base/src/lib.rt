@@ -2,9 +2,12 @@
 #![tactic(auto)]
 
 pub mod errno;
+pub mod flags;
 pub mod memory;
 pub mod names;
 pub mod oflag;
+pub mod paths;
+pub mod quoting;
 pub mod sink;
 pub mod source;
 pub mod std_io;

@@ -1,0 +1,7 @@
+mod CutLemmas
+mod EscapeLemmas
+mod ItemLemmas
+mod LineLemmas
+mod LookupLemmas
+mod NumberLemmas
+mod PartLemmas

@@ -1,0 +1,8 @@
+-- At first all lines are left.
+use Rattle.std.proofs.Common.{refl}
+use Rattle.libmount.specs.Items.{lines}
+use Rattle.libmount.proofs.mountinfo.lines.Lines.new.Goals as goal
+
+pub returns : goal.returns
+unfolding lines
+returns c = refl

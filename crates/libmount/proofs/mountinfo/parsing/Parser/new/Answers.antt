@@ -1,0 +1,7 @@
+-- At first all items are left.
+use Rattle.libmount.specs.Items.{lines_left}
+use Rattle.libmount.proofs.ItemLemmas.{items-by}
+use Rattle.libmount.proofs.mountinfo.parsing.Parser.new.Goals as goal
+
+pub returns : goal.returns
+returns c = items-by c.args.text.now (lines_left c.new.result) c.new.ensures

@@ -1,0 +1,11 @@
+pub mod Cuts
+pub mod Reading
+pub mod Numbers
+pub mod Escapes
+pub mod Rows
+pub mod Views
+pub mod Parts
+pub mod Options
+pub mod Items
+pub mod Lookup
+pub mod Parsers

@@ -1,0 +1,5 @@
+//! Mounts: a parser of mountinfo tables that copies nothing it needn't, and the flags of a mount in such a table.
+#![tactic(auto)]
+
+pub mod mountinfo;
+pub mod remount;

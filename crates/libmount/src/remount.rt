@@ -1,0 +1,71 @@
+//! The flags of a mount, looked up in a mountinfo table.
+ghost use Rattle.std.specs.Prelude.{◌≡◌};
+ghost use Rattle.std.specs.Option.{option_map};
+ghost use Rattle.port_base.specs.Flags.{bits_of};
+ghost use Rattle.libmount.specs.Lookup.{flags_at, flags_in, verdict};
+ghost use Rattle.libmount.specs.Views.{row_view, GivesFlags, GivesVerdict};
+
+use crate::mountinfo::parts::last_part;
+use crate::mountinfo::{MountPoint, RowFault, parse_mount_point};
+use port_base::flags::MsFlags;
+use port_base::paths::same_path;
+use std::alloc::Global;
+
+/// Why a mount can't be changed.
+#[derive(Debug, Drop)]
+pub enum RemountError {
+    /// A row of the table is refused, with what is wrong with it.
+    ParseMountInfo(Vec<u8>),
+    NoMemory,
+}
+
+// The flags of a mount where its mount point is the path.
+fn flags_at(mount: &MountPoint<'_>, path: &[u8]) -> Option<MsFlags>
+    ensures { option_map bits_of result ≡ flags_at path.now (row_view mount.now) }
+{
+    if same_path(mount.mount_point.as_bytes(), path) {
+        Some(mount.get_mount_flags())
+    } else {
+        None
+    }
+}
+
+// The flags of a line's row where its mount point is the path.
+fn verdict(alloc: Global, line: &[u8], path: &[u8]) -> Result<Option<MsFlags>, RemountError>
+    ensures { GivesVerdict result (verdict path.now line.now) }
+{
+    match parse_mount_point(alloc, line) {
+        Ok(found) => match found {
+            Some(mount) => Ok(flags_at(&mount, path)),
+            None => Ok(None),
+        },
+        Err(fault) => match fault {
+            RowFault::Row(error) => Err(RemountError::ParseMountInfo(error.0)),
+            RowFault::NoMemory => Err(RemountError::NoMemory),
+        },
+    }
+}
+
+/// The flags of the last row of a table whose mount point is the path, compared by components. The lines
+/// are read from the last one back; one that is refused before such a row is `ParseMountInfo`, and the
+/// lines before the row aren't read.
+pub fn flags_from(
+    alloc: Global,
+    content: &[u8],
+    path: &[u8],
+) -> Result<Option<MsFlags>, RemountError>
+    ensures { GivesFlags result (flags_in path.now content.now) }
+{
+    let mut rest = Some(content);
+    'lines: while let Some(text) = rest {
+        let (before, line) = last_part(text, b'\n');
+        match verdict(alloc, line, path) {
+            Ok(found) => match found {
+                Some(flags) => return Ok(Some(flags)),
+                None => rest = before,
+            },
+            Err(error) => return Err(error),
+        }
+    }
+    Ok(None)
+}
