@@ -3,5 +3,6 @@ pub mod Cutting
 mod Examples
 mod Filling
 pub mod Fronts
+pub mod Naming
 pub mod Sizes
 pub mod Takings

@@ -17,7 +17,12 @@ abbrev pub Gives : Result Body Errno → Result Request ℕ → Type 0
 Gives (Ok b) told = told ≡ Ok (plain b)
 Gives (Err e) told = told ≡ Err e.0
 
--- the head and the body of the frame, or the error that is told
+-- the head and the body are the frame's
+pub record IsRead (r : FuseRequest) (frame : List ℕ) : Type 0 where
+  pub head : r.head ≡ head_of frame
+  pub asks : request_of frame ≡ Ok (plain r.body)
+
+-- what reading a frame gives: the request, or the error that is told
 abbrev pub Reads : Result FuseRequest Errno → List ℕ → Type 0
-Reads (Ok r) frame = (r.head ≡ head_of frame) × (request_of frame ≡ Ok (plain r.body))
+Reads (Ok r) frame = IsRead r frame
 Reads (Err e) frame = request_of frame ≡ Err e.0

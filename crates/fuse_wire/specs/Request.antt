@@ -1,5 +1,5 @@
 -- What a frame asks, by the bodies that fuse.h (protocol 7) lays out.
-use Rattle.std.specs.Prelude.{ℕ, ◌+◌, List, length, take, drop, position, Option, Some, None, Result, Err, Bool, ◌==◌, nat_lt, if◌then◌else◌}
+use Rattle.std.specs.Prelude.{◌≡◌, ◌≢◌, ℕ, ◌+◌, All, List, [], ◌∷◌, ◌++◌, length, take, drop, position, Option, Some, None, Result, Err, Bool, ◌==◌, nat_lt, if◌then◌else◌}
 use Rattle.std.specs.Option.{option_map, option_and_then, ok_or}
 use Rattle.port_base.specs.declared.errno.TheConstants.{EINVAL, ENOSYS}
 use Rattle.fuse_wire.specs.declared.head.TheConstants.{IN_HEADER_SIZE}
@@ -31,6 +31,11 @@ alone x = if length x.1 == 0 then Some x.0 else None
 -- a body that is one name: it ends by a zero byte, and has none inside
 unfoldable pub only_name : List ℕ → Option (List ℕ)
 only_name body = option_and_then alone (name_at body)
+
+-- the grammar of such a body
+pub record IsName (name body : List ℕ) : Type 0 where
+  pub ended : body ≡ name ++ 0 ∷ []
+  pub inside : All (λ byte. byte ≢ 0) name
 
 -- four numbers of 4 bytes, and then any bytes
 unfoldable pub init_of : List ℕ → Option Request

@@ -12,7 +12,7 @@ use port_base::source::{Source, read_full};
 pub const FRAME_LIMIT: usize = 69632;
 
 /// How many bytes are read at once.
-pub const PIECE: usize = 4096;
+const PIECE: usize = 4096;
 
 /// What stands at the front of a source.
 #[derive(Clone, Copy, Debug, PartialEq, Eq)]

@@ -6,6 +6,7 @@ mod fields;
 pub mod frames;
 pub mod head;
 pub mod ids;
+pub mod laws;
 pub mod opcode;
 pub mod reply;
 pub mod request;

@@ -12,7 +12,7 @@ told head frame answer same asked =
     ap (λ (h : Head). request_in h.opcode (drop 40 frame)) (sym same) ∙ ap (request_in head.opcode) (sym (take_rest frame 40)) ∙ asked
 
 pub returns-in-Ok : goal.returns-in-Ok
-returns-in-Ok c = (c.read-head.ensures, told c.read-head.result c.args.frame.now _ c.read-head.ensures c.in-Ok.ensures)
+returns-in-Ok c = record { head = c.read-head.ensures; asks = told c.read-head.result c.args.frame.now _ c.read-head.ensures c.in-Ok.ensures }
 
 pub returns-in-Err : goal.returns-in-Err
 returns-in-Err c = told c.read-head.result c.args.frame.now _ c.read-head.ensures c.in-Err.ensures
