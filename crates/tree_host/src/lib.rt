@@ -8,6 +8,9 @@ pub mod memory;
 mod node;
 mod nodes;
 
+#[cfg(test)]
+mod tests;
+
 pub use entry::Entry;
 pub use host::Host;
 pub use memory::{NewItem, TreeHost};

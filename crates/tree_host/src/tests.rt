@@ -1,0 +1,86 @@
+ghost use Rattle.std.specs.Prelude.{◌≡◌};
+ghost use Rattle.tree_host.specs.TreeHosts.{holds};
+
+use crate::{Host, NewItem, TreeHost};
+use port_base::errno::{EEXIST, EFBIG, ENOSPC};
+use port_base::names::name_fault;
+use std::process::Abort;
+use std::test::Fail;
+use tree_model::{Attr, HostError, Kind, Limits, Stamp};
+
+const BORN: Stamp = Stamp { sec: 7, nsec: 3 };
+
+fn add(rt: &impl Abort, host: &mut TreeHost, name: &[u8], bytes: &[u8]) -> Result<u64, HostError>
+    ensures { holds host.new ≡ holds host.old }
+{
+    assert!(rt; name_fault(name).is_none());
+    let item = NewItem::File {
+        mode: 0o644,
+        uid: 5,
+        gid: 6,
+        bytes,
+    };
+    host.add(1, name, item)
+}
+
+fn shown(ino: u64, size: u64) -> Attr {
+    Attr {
+        ino,
+        kind: Kind::File,
+        mode: 0o644,
+        uid: 5,
+        gid: 6,
+        links: 1,
+        size,
+        atime: BORN,
+        mtime: BORN,
+        ctime: BORN,
+    }
+}
+
+fn top() -> Attr {
+    Attr {
+        ino: 1,
+        kind: Kind::Directory,
+        mode: 0o755,
+        uid: 1,
+        gid: 2,
+        links: 2,
+        size: 0,
+        atime: BORN,
+        mtime: BORN,
+        ctime: BORN,
+    }
+}
+
+#[test]
+fn files_are_added_and_read(rt: HostRuntime) -> Result<(), Fail> {
+    let limits = Limits {
+        file: 8,
+        entries: 2,
+        links: 10,
+    };
+    let moment = Stamp { sec: 9, nsec: 0 };
+    let mut host = TreeHost::new(rt.alloc(), limits, moment, BORN, 0o755, 1, 2)?;
+    let cases: [(&[u8], &[u8], Result<u64, HostError>); 5] = [
+        (b"hello", b"world", Ok(2)),
+        (b"hello", b"", Err(HostError::Errno(EEXIST))),
+        (b"long", b"123456789", Err(HostError::Errno(EFBIG))),
+        (b"b", b"", Ok(3)),
+        (b"c", b"", Err(HostError::Errno(ENOSPC))),
+    ];
+    for (name, bytes, want) in cases {
+        assert_eq!(rt; add(&rt, &mut host, name, bytes), want);
+    }
+    assert_eq!(rt; host.next_ino(), 4);
+    assert_eq!(rt; host.record_after(0), Some(top()));
+    assert_eq!(rt; host.record_after(1), Some(shown(2, 5)));
+    assert_eq!(rt; host.record_after(2), Some(shown(3, 0)));
+    assert_eq!(rt; host.record_after(3), None);
+    assert_eq!(rt; host.above(1), 1);
+    assert_eq!(rt; host.next_cookie(1), 3);
+    assert_eq!(rt; host.peek_entry(1, 0), Some((1, 2, b"hello".as_slice())));
+    assert_eq!(rt; host.peek_entry(1, 1), Some((2, 3, b"b".as_slice())));
+    assert_eq!(rt; host.peek_entry(1, 2), None);
+    Ok(())
+}
