@@ -1,4 +1,4 @@
-// A front of a source.
+//! A front of a source.
 ghost use Rattle.std.specs.Prelude.{◌≡◌, ℕ, List, take, drop, min};
 ghost use Rattle.std.specs.declared.option.Option.{Option};
 ghost use Rattle.std.specs.Option.{option_map};
@@ -6,7 +6,7 @@ ghost use Rattle.std.specs.Borrow.{GName};
 
 use crate::source::{ReadFault, Source};
 
-/// At most so many bytes of a source.
+/// At most so many bytes of a source, which goes on after them.
 #[derive(Drop)]
 pub struct Take<'a, S> {
     source: &'a mut S,
@@ -14,6 +14,7 @@ pub struct Take<'a, S> {
 }
 
 impl<'a, S: Source> Take<'a, S> {
+    /// The next n bytes of a source.
     pub fn new(source: &'a mut S, n: u64) -> Take<'a, S>
         ensures same_reference { result.source.ghost_name ≡ source.entry.ghost_name }
         ensures inner { result.source.now ≡ source.old }
@@ -22,6 +23,7 @@ impl<'a, S: Source> Take<'a, S> {
         Take { source, rest: n }
     }
 
+    /// How many bytes it may still take.
     pub fn rest(&self) -> u64
         ensures { result ≡ self.now.rest }
     {
@@ -56,5 +58,25 @@ impl<S: Source> Source for Take<'_, S> {
         let n = self.source.read(&mut buf[..most])?;
         self.rest -= n as u64;
         Ok(n)
+    }
+}
+
+#[cfg(test)]
+mod tests {
+    use super::*;
+    use crate::memory::SliceSource;
+    use crate::source::read_full;
+
+    #[test]
+    fn a_front_ends_before_its_source(rt: HostRuntime) {
+        let mut source = SliceSource::new(b"hello");
+        let mut buffer = [0; 8];
+        {
+            let mut front = Take::new(&mut source, 3);
+            assert_eq!(rt; read_full(&mut front, &mut buffer), Ok(3));
+            assert_eq!(rt; front.rest(), 0);
+        }
+        assert_eq!(rt; read_full(&mut source, &mut buffer), Ok(2));
+        assert_eq!(rt; buffer[..2], *b"lo".as_slice());
     }
 }

@@ -6,7 +6,7 @@ use crate::sink::NoMemory;
 use std::alloc::Global;
 use std::marker::Model;
 
-/// Words of a command line.
+/// The words of a command line, each as it was given.
 #[derive(Drop)]
 pub struct Words {
     alloc: Global,
@@ -23,6 +23,7 @@ impl Model for Words {
 }
 
 impl Words {
+    /// No words. It takes no memory yet.
     pub fn new(alloc: Global) -> Words
         ensures { result ≡ [] }
     {
@@ -32,6 +33,7 @@ impl Words {
         }
     }
 
+    /// Adds a word at the end. Without memory nothing changes.
     pub fn push(&mut self, word: &[u8]) -> Result<(), NoMemory>
         ensures ok { OnOk result (self.new ≡ self.old ++ word.now ∷ []) }
         ensures err { OnErr result (self.new ≡ self.old) }
@@ -45,12 +47,14 @@ impl Words {
         }
     }
 
+    /// How many words there are.
     pub fn len(&self) -> usize
         ensures { result ≡ length self.now }
     {
         self.words.len()
     }
 
+    /// The word at a place, from 0 on.
     pub fn get(&self, i: usize) -> Option<&[u8]>
         ensures { option_map (λ w. w.now) result ≡ slice_get self.now i }
     {
@@ -58,5 +62,20 @@ impl Words {
             Some(word) => Some(word.as_slice()),
             None => None,
         }
+    }
+}
+
+#[cfg(test)]
+mod tests {
+    use super::*;
+
+    #[test]
+    fn words_stand_in_their_order(rt: HostRuntime) {
+        let mut words = Words::new(rt.alloc());
+        assert!(rt; words.push(b"serve").is_ok());
+        assert!(rt; words.push(b"root=/").is_ok());
+        assert_eq!(rt; words.len(), 2);
+        assert_eq!(rt; words.get(1), Some(b"root=/".as_slice()));
+        assert_eq!(rt; words.get(2), None);
     }
 }
