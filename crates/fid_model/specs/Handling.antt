@@ -11,7 +11,8 @@ use Rattle.p9_wire.specs.Reading.{Reads, Found, Refused}
 use Rattle.p9_tmsg.specs.Messages.{Message}
 use Rattle.p9_tmsg.specs.Messages.Message.{attach as t_attach, getattr as t_getattr, walk as t_walk}
 use Rattle.p9_tmsg.specs.Frames.{frame_within}
-use Rattle.p9_rmsg.specs.Replies.{Reply, ReplySpells, reply_frame}
+use Rattle.p9_rmsg.specs.Replies.{Reply, ReplySpells}
+use Rattle.p9_rmsg.specs.Frames.{reply_frame}
 use Rattle.p9_rmsg.specs.Replies.Reply.{lerror as r_lerror, walk as r_walk}
 use Rattle.fid_model.specs.Fids.{ServerState}
 use Rattle.fid_model.specs.Answers.{answer}

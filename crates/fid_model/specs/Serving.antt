@@ -5,7 +5,8 @@ use Rattle.p9_wire.specs.declared.error.WireError.{WireError}
 use Rattle.p9_wire.specs.Reading.{Reads, then_read, give}
 use Rattle.p9_tmsg.specs.Messages.{Message}
 use Rattle.p9_tmsg.specs.Frames.{frame_within}
-use Rattle.p9_rmsg.specs.Replies.{Reply, reply_frame}
+use Rattle.p9_rmsg.specs.Replies.{Reply}
+use Rattle.p9_rmsg.specs.Frames.{reply_frame}
 use Rattle.p9_rmsg.specs.Replies.Reply.{lerror as r_lerror}
 use Rattle.fid_model.specs.Fids.{ServerState}
 use Rattle.fid_model.specs.Answers.{answer}
