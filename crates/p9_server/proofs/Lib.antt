@@ -1,0 +1,16 @@
+pub mod HoldCounts
+pub mod Stepping
+pub mod Clunking
+pub mod Showing
+pub mod Taking
+pub mod Walks
+pub mod NamedFids
+pub mod Attaching
+pub mod WalkSteps
+pub mod Answered
+pub mod QidLists
+pub mod Sending
+pub mod Releasing
+pub mod Replying
+pub mod RootLaws
+pub mod Emptying

@@ -1,0 +1,9 @@
+pub mod Holding
+pub mod OpenModes
+pub mod Roots
+pub mod Steps
+pub mod Walking
+pub mod Answering
+pub mod GoodServer
+pub mod Handling
+pub mod Configs

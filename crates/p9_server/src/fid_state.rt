@@ -1,0 +1,47 @@
+//! What a fid names.
+ghost use Rattle.std.specs.Prelude.{◌≡◌};
+ghost use Rattle.fid_model.specs.Fids.{closed};
+
+use std::marker::Model;
+
+/// Whether a fid is open, and how.
+#[derive(Drop)]
+pub enum OpenMode {
+    Closed,
+    Opened { access: u32, append: bool },
+}
+
+/// An inode, whatever becomes of its names, and how it is open.
+#[derive(Drop)]
+pub struct FidState {
+    ino: u64,
+    mode: OpenMode,
+}
+
+impl Model for FidState {
+    ghost use Rattle.fid_model.specs.Fids.{Fid};
+    ghost use Rattle.p9_server.specs.OpenModes.{open_of};
+
+    ghost Value = { Fid };
+
+    ghost view = { λ a. record { ino = a.ino; open_state = open_of a.mode } };
+}
+
+impl FidState {
+    /// A fid that isn't open.
+    pub fn closed(ino: u64) -> Self
+        ensures { result ≡ closed ino }
+    {
+        FidState {
+            ino,
+            mode: OpenMode::Closed,
+        }
+    }
+
+    /// The number of the inode.
+    pub fn ino(&self) -> u64
+        ensures { result ≡ self.now.ino }
+    {
+        self.ino
+    }
+}

@@ -1,0 +1,169 @@
+//! The replies to messages, from what the server's steps give.
+ghost use Rattle.std.specs.Prelude.{◌≡◌, ◌≤◌, ◌<◌, ◌^◌, Err, length, map, IfOk};
+ghost use Rattle.tree_model.specs.Attributes.{blocks_of};
+ghost use Rattle.fid_model.specs.Answers.{attributes_of};
+ghost use Rattle.std.specs.List.{AllByRecursion};
+ghost use Rattle.p9_wire.specs.Values.{QidSpells};
+ghost use Rattle.p9_wire.specs.Qids.{qid_of};
+ghost use Rattle.p9_wire.specs.Frames.{result_view};
+ghost use Rattle.p9_rmsg.specs.Replies.{reply_of};
+ghost use Rattle.p9_rmsg.specs.Replies.Reply.{attach, clunk, getattr, lerror, walk};
+ghost use Rattle.p9_rmsg.specs.Frames.{reply_frame};
+ghost use Rattle.p9_server.specs.Answering.{reply_told, refusal_told, IsShort, IsSent};
+
+use crate::qids::qid_of;
+use p9_rmsg::{Rattach, Rgetattr, Rlerror, Rmessage, Rwalk};
+use p9_wire::error::WireError;
+use p9_wire::qid::Qid;
+use port_base::errno::EIO;
+use port_base::sink::{Sink, SinkFault};
+use tree_model::{Attr, HostError};
+
+/// The room for a reply, in bytes: none is longer.
+pub const REPLY_ROOM: usize = 256;
+
+/// The valid fields of Rgetattr: all basic ones, mode to blocks (`P9_GETATTR_BASIC`).
+pub const GETATTR_BASIC: u64 = 0x7ff;
+
+/// The size of a block for a reader, in bytes.
+pub const BLOCK_SIZE: u64 = 4096;
+
+// Blocks of 512 bytes, rounded up.
+fn blocks_of(size: u64) -> u64
+    ensures { result ≡ blocks_of size }
+{
+    if size % 512 == 0 {
+        size / 512
+    } else {
+        size / 512 + 1
+    }
+}
+
+/// A refusal with its error number.
+pub fn refused(ecode: u32) -> Rmessage
+    ensures reply { reply_of result ≡ lerror ecode }
+    ensures short { IsShort (reply_of result) }
+{
+    Rmessage::Lerror(Rlerror { ecode })
+}
+
+// EIO for a fault of the host; without memory there is no reply.
+fn refusal(e: HostError) -> Result<Rmessage, WireError>
+    ensures reply { result_view reply_of result ≡ refusal_told e }
+    ensures short { IfOk result (λ m. IsShort (reply_of m)) }
+{
+    match e {
+        HostError::Errno(ecode) => Ok(refused(ecode)),
+        HostError::Fault => Ok(refused(EIO)),
+        HostError::NoMemory => Err(WireError::NoMemory),
+    }
+}
+
+// The qid of the root.
+fn root_told(qid: Qid) -> Rmessage
+    ensures reply { reply_of result ≡ attach (qid_of qid) }
+    ensures short { IsShort (reply_of result) }
+{
+    Rmessage::Attach(Rattach { qid })
+}
+
+// The qids of a walk.
+fn walk_told(wqids: Vec<Qid>) -> Rmessage
+    requires few { length wqids.items ≤ 16 }
+    requires spells { AllByRecursion QidSpells (map qid_of wqids.items) }
+    ensures reply { reply_of result ≡ walk (map qid_of wqids.items) }
+    ensures short { IsShort (reply_of result) }
+{
+    Rmessage::Walk(Rwalk { wqids })
+}
+
+// The attributes of an inode.
+fn attributes_told(attr: Attr) -> Rmessage
+    ensures reply { reply_of result ≡ getattr (attributes_of attr) }
+    ensures short { IsShort (reply_of result) }
+{
+    Rmessage::GetAttr(Rgetattr {
+        valid: GETATTR_BASIC,
+        qid: qid_of(&attr),
+        mode: attr.mode,
+        uid: attr.uid,
+        gid: attr.gid,
+        nlink: attr.links,
+        rdev: 0,
+        size: attr.size,
+        blksize: BLOCK_SIZE,
+        blocks: blocks_of(attr.size),
+        atime_sec: attr.atime.sec,
+        atime_nsec: attr.atime.nsec as u64,
+        mtime_sec: attr.mtime.sec,
+        mtime_nsec: attr.mtime.nsec as u64,
+        ctime_sec: attr.ctime.sec,
+        ctime_nsec: attr.ctime.nsec as u64,
+        btime_sec: 0,
+        btime_nsec: 0,
+        generation: 0,
+        data_version: 0,
+    })
+}
+
+/// The reply to Tattach.
+pub fn attach_reply(step: Result<Qid, HostError>) -> Result<Rmessage, WireError>
+    ensures reply { result_view reply_of result ≡ reply_told (λ q. attach (qid_of q)) step }
+    ensures short { IfOk result (λ m. IsShort (reply_of m)) }
+{
+    match step {
+        Ok(qid) => Ok(root_told(qid)),
+        Err(e) => refusal(e),
+    }
+}
+
+/// The reply to Twalk.
+pub fn walk_reply(step: Result<Vec<Qid>, HostError>) -> Result<Rmessage, WireError>
+    requires few { IfOk step (λ qids. length qids.items ≤ 16) }
+    requires spells { IfOk step (λ qids. AllByRecursion QidSpells (map qid_of qids.items)) }
+    ensures reply { result_view reply_of result ≡ reply_told (λ qids. walk (map qid_of qids.items)) step }
+    ensures short { IfOk result (λ m. IsShort (reply_of m)) }
+{
+    match step {
+        Ok(qids) => Ok(walk_told(qids)),
+        Err(e) => refusal(e),
+    }
+}
+
+/// The reply to Tgetattr.
+pub fn getattr_reply(step: Result<Attr, HostError>) -> Result<Rmessage, WireError>
+    ensures reply { result_view reply_of result ≡ reply_told (λ a. getattr (attributes_of a)) step }
+    ensures short { IfOk result (λ m. IsShort (reply_of m)) }
+{
+    match step {
+        Ok(attr) => Ok(attributes_told(attr)),
+        Err(e) => refusal(e),
+    }
+}
+
+/// The reply to Tclunk.
+pub fn clunk_reply(step: Result<(), HostError>) -> Result<Rmessage, WireError>
+    ensures reply { result_view reply_of result ≡ reply_told (λ _. clunk) step }
+    ensures short { IfOk result (λ m. IsShort (reply_of m)) }
+{
+    match step {
+        Ok(()) => Ok(Rmessage::Clunk),
+        Err(e) => refusal(e),
+    }
+}
+
+/// Sends a reply, for which there is room.
+pub fn send_reply<K: Sink>(reply: &Rmessage, tag: u16, writer: &mut K) -> Result<(), WireError>
+    requires short { IsShort (reply_of reply.now) }
+    requires room { REPLY_ROOM ≤ K.room writer.old }
+    ensures sent { IsSent (reply_frame tag (reply_of reply.now)) (K.sent writer.old) (K.sent writer.new) (K.faults writer.old) (K.faults writer.new) result }
+    ensures kept { K.kept writer.new ≡ K.kept writer.old }
+{
+    match reply.send_frame(tag, writer) {
+        Ok(()) => Ok(()),
+        Err(fault) => match fault {
+            SinkFault::Failed => Err(WireError::Write),
+            SinkFault::NoMemory => unreachable!(),
+        },
+    }
+}

@@ -1,0 +1,73 @@
+//! A server of a host's tree.
+ghost use Rattle.std.specs.Prelude.{◌≡◌};
+ghost use Rattle.std.specs.FinMap as map;
+ghost use Rattle.p9_server.specs.Holding.{IsSound};
+
+mod answer;
+mod attach;
+mod nine;
+mod setup;
+mod walk;
+
+use crate::fid_state::FidState;
+use crate::share::Share;
+use port_base::errno::EBADF;
+use port_base::table::Table;
+use std::alloc::Global;
+use tree_host::Host;
+use tree_model::{Attr, HostError};
+
+/// A server of the tree of a host, which holds each inode once for each fid that names it.
+#[derive(Drop)]
+pub struct Server<H: Host> {
+    alloc: Global,
+    host: H,
+    fids: Table<FidState>,
+    msize: u32,
+    share: Share,
+    asked: u64,
+    ghost sound: { IsSound (H.holds host) fids msize share },
+}
+
+impl<H: Host> Server<H> {
+    ghost use Rattle.p9_tmsg.specs.Messages.Message.{clunk, getattr};
+    ghost use Rattle.p9_rmsg.specs.Replies.Reply.{clunk as clunked, getattr as got};
+    ghost use Rattle.fid_model.specs.Answers.{attributes_of};
+    ghost use Rattle.p9_server.specs.Steps.{server_state, Steps, ino_told};
+
+    // The inode that a fid names.
+    fn ino_of(&self, fid: u32) -> Result<u64, HostError>
+        ensures { result ≡ ino_told (map.get self.now.fids fid) }
+    {
+        match self.fids.get(fid as u64) {
+            Some(state) => Ok(state.ino()),
+            None => Err(HostError::Errno(EBADF)),
+        }
+    }
+
+    // Takes a fid away, with its hold.
+    fn clunk(&mut self, fid: u32) -> Result<(), HostError>
+        ensures step { Steps (clunk fid) (λ _. clunked) (server_state (H.tree self.old.host) self.old.fids self.old.msize self.old.share) (server_state (H.tree self.new.host) self.new.fids self.new.msize self.new.share) (H.steady self.old.host) (H.faults self.old.host) (H.faults self.new.host) result }
+        ensures steady { H.steady self.new.host ≡ H.steady self.old.host }
+        ensures fixed { (self.new.msize ≡ self.old.msize) × (self.new.share ≡ self.old.share) }
+        ensures asked { self.new.asked ≡ self.old.asked }
+    {
+        let Some(gone) = self.fids.remove(fid as u64) else {
+            return Err(HostError::Errno(EBADF));
+        };
+        self.host.release(gone.ino());
+        Ok(())
+    }
+
+    // What is shown of the inode that a fid names.
+    fn get_attr(&mut self, fid: u32) -> Result<Attr, HostError>
+        ensures step { Steps (getattr fid 0) (λ a. got (attributes_of a)) (server_state (H.tree self.old.host) self.old.fids self.old.msize self.old.share) (server_state (H.tree self.new.host) self.new.fids self.new.msize self.new.share) (H.steady self.old.host) (H.faults self.old.host) (H.faults self.new.host) result }
+        ensures steady { H.steady self.new.host ≡ H.steady self.old.host }
+        ensures fixed { (self.new.msize ≡ self.old.msize) × (self.new.share ≡ self.old.share) }
+        ensures asked { self.new.asked ≡ self.old.asked }
+    {
+        let ino = self.ino_of(fid)?;
+        let attr = self.host.stat(ino)?;
+        Ok(self.share.shown(&attr))
+    }
+}

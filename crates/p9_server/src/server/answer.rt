@@ -1,0 +1,42 @@
+//! Messages and their replies.
+ghost use Rattle.std.specs.Prelude.{◌≡◌, Ok};
+ghost use Rattle.p9_wire.specs.Frames.{result_view};
+ghost use Rattle.p9_tmsg.specs.Messages.{message_of};
+ghost use Rattle.p9_server.specs.Steps.{server_state};
+ghost use Rattle.p9_server.specs.Answering.{Answered};
+
+use super::Server;
+use crate::replies::{attach_reply, clunk_reply, getattr_reply, refused, walk_reply};
+use p9_rmsg::Rmessage;
+use p9_tmsg::Tmessage;
+use p9_wire::error::WireError;
+use port_base::errno::EINVAL;
+use tree_host::Host;
+
+impl<H: Host> Server<H> {
+    // Answers a message.
+    fn answer_message(&mut self, message: Tmessage) -> Result<Rmessage, WireError>
+        ensures answered { Answered (Ok (message_of message)) (server_state (H.tree self.old.host) self.old.fids self.old.msize self.old.share) (server_state (H.tree self.new.host) self.new.fids self.new.msize self.new.share) (H.steady self.old.host) (H.faults self.old.host) (H.faults self.new.host) result }
+        ensures steady { H.steady self.new.host ≡ H.steady self.old.host }
+        ensures asked { self.new.asked ≡ self.old.asked }
+    {
+        match message {
+            Tmessage::Attach(m) => attach_reply(self.attach(m.fid)),
+            Tmessage::Walk(m) => walk_reply(self.walk(m.fid, m.newfid, &m.wnames)),
+            Tmessage::GetAttr(m) => getattr_reply(self.get_attr(m.fid)),
+            Tmessage::Clunk(m) => clunk_reply(self.clunk(m.fid)),
+        }
+    }
+
+    // Answers what the body of a frame says; a malformed one is EINVAL.
+    pub fn answer(&mut self, body: Result<Tmessage, WireError>) -> Result<Rmessage, WireError>
+        ensures answered { Answered (result_view message_of body) (server_state (H.tree self.old.host) self.old.fids self.old.msize self.old.share) (server_state (H.tree self.new.host) self.new.fids self.new.msize self.new.share) (H.steady self.old.host) (H.faults self.old.host) (H.faults self.new.host) result }
+        ensures steady { H.steady self.new.host ≡ H.steady self.old.host }
+        ensures asked { self.new.asked ≡ self.old.asked }
+    {
+        match body {
+            Ok(message) => self.answer_message(message),
+            Err(_) => Ok(refused(EINVAL)),
+        }
+    }
+}

@@ -1,0 +1,93 @@
+//! The server as what serves a tree by 9P2000.L.
+ghost use Rattle.std.specs.Prelude.{◌≡◌, ◌≤◌, OnOk, IfErr};
+ghost use Rattle.std.specs.Io.KnownBytes.{Keeps};
+ghost use Rattle.p9_server.specs.Steps.{server_state};
+ghost use Rattle.p9_server.specs.Handling.{ReadsFrame};
+
+use super::Server;
+use crate::naming::release_all;
+use crate::replies::{REPLY_ROOM, send_reply};
+use fid_model::Nine;
+use p9_tmsg::Tframe;
+use p9_wire::error::WireError;
+use port_base::sink::Sink;
+use port_base::source::Source;
+use std::alloc::Global;
+use tree_host::Host;
+
+// Reads a frame of at most so many bytes.
+fn read_frame<S: Source>(alloc: Global, reader: &mut S, limit: u32) -> Result<Tframe, WireError>
+    ensures frame { ReadsFrame limit (S.left reader.old) (S.left reader.new) (S.faults reader.old) (S.faults reader.new) result }
+    ensures kept { S.kept reader.new ≡ S.kept reader.old }
+    ensures lender { S.lender reader.new ≡ S.lender reader.old }
+{
+    match Tframe::decode_within(alloc, reader, limit) {
+        Ok(frame) => Ok(frame),
+        Err(WireError::InvalidInput) => Err(WireError::InvalidData),
+        Err(fault) => Err(fault),
+    }
+}
+
+// Makes room for a reply.
+fn reserve_reply<K: Sink>(writer: &mut K) -> Result<(), WireError>
+    ensures room { OnOk result (REPLY_ROOM ≤ K.room writer.new) }
+    ensures memory { IfErr result (λ e. e ≡ WireError.NoMemory) }
+    ensures sent { Keeps (K.sent writer.old) (K.sent writer.new) }
+    ensures faults { K.faults writer.new ≡ K.faults writer.old }
+    ensures kept { K.kept writer.new ≡ K.kept writer.old }
+{
+    match writer.reserve(REPLY_ROOM) {
+        Ok(()) => Ok(()),
+        Err(_) => Err(WireError::NoMemory),
+    }
+}
+
+impl<H: Host> Nine for Server<H> {
+    ghost use Rattle.p9_server.specs.GoodServer.{server_good};
+
+    ghost state = { λ s. server_state (H.tree s.host) s.fids s.msize s.share };
+
+    ghost faults = { λ s. H.faults s.host };
+
+    ghost steady = { λ s. H.steady s.host };
+
+    ghost asked = { λ s. s.asked };
+
+    fn handle_message<S: Source, K: Sink>(
+        &mut self,
+        reader: &mut S,
+        writer: &mut K,
+    ) -> Result<(), WireError> {
+        self.asked = self.asked.saturating_add(1);
+        let frame = match read_frame(self.alloc, reader, self.msize) {
+            Ok(frame) => frame,
+            Err(e) => return Err(e),
+        };
+        match reserve_reply(writer) {
+            Ok(()) => {}
+            Err(e) => return Err(e),
+        }
+        match self.answer(frame.msg) {
+            Ok(reply) => send_reply(&reply, frame.tag, writer),
+            Err(e) => Err(e),
+        }
+    }
+
+    fn msize(&self) -> u32 {
+        self.msize
+    }
+
+    fn fid_limit(&self) -> u32 {
+        self.share.fid_limit()
+    }
+
+    fn fid_count(&self) -> u32 {
+        self.fids.len() as u32
+    }
+
+    fn clear_fids(&mut self) {
+        release_all(&mut self.host, &mut self.fids);
+    }
+
+    ghost good = { λ s. server_good (H.tree s.host) (H.holds s.host) s.fids s.msize s.share s.sound (H.good s.host) (H.stored s.host) };
+}

@@ -1,0 +1,118 @@
+//! How a tree is shared.
+ghost use Rattle.std.specs.Prelude.{◌≡◌, ◌+◌, ◌<◌, ◌^◌, All, None, Some, slice_get, true, false};
+ghost use Rattle.port_base.specs.Names.{name_fault};
+ghost use Rattle.tree_model.specs.Finding.{path_names};
+ghost use Rattle.tree_model.specs.Settings.{mapped, shown_of};
+ghost use Rattle.tree_model.specs.Attributes.{type_bits};
+ghost use Rattle.std.specs.FinMap as map;
+ghost use Rattle.p9_server.specs.Roots.{is_good_root};
+
+use std::collections::BTreeMap;
+use std::marker::Model;
+use tree_model::{Attr, Kind};
+
+/// Numbers of owners by numbers of owners.
+pub type ServerIdMap<T> = BTreeMap<T, T>;
+
+/// The users that are shown for the users of the tree.
+pub type ServerUidMap = ServerIdMap<u32>;
+
+/// The groups that are shown for the groups of the tree.
+pub type ServerGidMap = ServerIdMap<u32>;
+
+/// The path of the root, the maps of owners, and how many fids there may be.
+#[derive(Drop)]
+pub struct Share {
+    root: Vec<u8>,
+    uid_map: ServerUidMap,
+    gid_map: ServerGidMap,
+    fid_limit: u32,
+}
+
+impl Model for Share {
+    ghost use Rattle.std.specs.Prelude.{◌≡◌, ◌<◌, ◌^◌, true, false};
+    ghost use Rattle.std.specs.FinMap as map;
+    ghost use Rattle.tree_model.specs.Finding.{path_names};
+    ghost use Rattle.tree_model.specs.Settings.{Settings};
+    ghost use Rattle.p9_server.specs.Roots.{is_good_root};
+
+    ghost Value = { Settings };
+
+    ghost use Rattle.std.specs.Coded.{codes};
+
+    ghost coded = { Prim.hlevel (codes, map.code) };
+
+    ghost view = { λ a. record {
+      root = path_names a.root.items;
+      uid_map = map.from_entries a.uid_map.entries;
+      gid_map = map.from_entries a.gid_map.entries;
+      casefold = false;
+      limit = a.fid_limit;
+    } };
+
+    ghost invariant = { λ a. (is_good_root a.root.items ≡ true) × (a.fid_limit < 2 ^ 32) };
+}
+
+// The bits of a mode that tell its kind.
+fn type_bits(kind: Kind) -> u32
+    ensures { result ≡ type_bits kind }
+{
+    match kind {
+        Kind::File => 0o100000,
+        Kind::Directory => 0o040000,
+        Kind::Link => 0o120000,
+    }
+}
+
+// An owner without a pair stays.
+fn mapped(ids: &ServerIdMap<u32>, id: u32) -> u32
+    ensures { result ≡ mapped (map.from_entries ids.now.entries) id }
+{
+    match ids.get(&id) {
+        Some(shown) => *shown,
+        None => id,
+    }
+}
+
+impl Share {
+    pub fn new(root: Vec<u8>, uid_map: ServerUidMap, gid_map: ServerGidMap, fid_limit: u32) -> Self
+        requires { is_good_root root.items ≡ true }
+        ensures { result ≡ record { root = path_names root.items; uid_map = map.from_entries uid_map.entries; gid_map = map.from_entries gid_map.entries; casefold = false; limit = fid_limit } }
+    {
+        Share {
+            root,
+            uid_map,
+            gid_map,
+            fid_limit,
+        }
+    }
+
+    /// The path of the root.
+    pub fn root(&self) -> &[u8]
+        ensures root { path_names result.now ≡ self.now.root }
+        ensures absolute { slice_get result.now 0 ≡ Some 47 }
+        ensures named { All (λ name. name_fault name ≡ None) (path_names result.now) }
+    {
+        &self.root
+    }
+
+    /// How many fids there may be.
+    pub fn fid_limit(&self) -> u32
+        ensures { result ≡ self.now.limit }
+    {
+        self.fid_limit
+    }
+
+    /// What is shown of an inode.
+    pub fn shown(&self, attr: &Attr) -> Attr
+        requires { attr.now.mode < 4096 }
+        ensures { result ≡ shown_of self.now attr.now }
+    {
+        Attr {
+            mode: type_bits(attr.kind) + attr.mode,
+            uid: mapped(&self.uid_map, attr.uid),
+            gid: mapped(&self.gid_map, attr.gid),
+            ..*attr
+        }
+    }
+}
