@@ -1,0 +1,6 @@
+//! The loop over frames: what answers frames one at a time, run over the frames of a source.
+#![tactic(auto)]
+
+pub mod answerer;
+pub mod outcome;
+pub mod run;
