@@ -87,3 +87,16 @@ Answered-none s = record {
   met = omega arith;
   exact = λ _. refl;
 }
+
+-- where no fault was counted, all is as the machine has it
+pub Answered-exact : (s0 s1 : Session) (frames : List (List ℕ)) (replies : List ℕ) → Answered s0 s1 frames replies → s1.faults ≡ s0.faults → s0.faults < 2 ^ 64 - 1
+    → (replies ≡ (play_from s0.settings s0.state frames).0) × (s1.state ≡ (play_from s0.settings s0.state frames).1)
+    × Counted s0.sent (messages_from s0.settings s0.state frames) s1.sent × Counted s0.asked (messages_from s0.settings s0.state frames) s1.asked
+Answered-exact s0 s1 frames replies h same below =
+    let none : h.hurt ≡ 0 = omega (arith, h.met, same, below) in
+    let played = Hurt-zero s0.settings s0.state s1.state frames h.hurt replies none h.run in (
+      played.0,
+      played.1,
+      subst (λ (n : ℕ). Counted s0.sent n s1.sent) (h.exact none) h.sent,
+      subst (λ (n : ℕ). Counted s0.asked n s1.asked) (h.exact none) h.asked,
+    )

@@ -2,5 +2,8 @@
 #![tactic(auto)]
 
 pub mod answerer;
+pub mod laws;
 pub mod outcome;
 pub mod run;
+#[cfg(test)]
+mod tests;
