@@ -75,11 +75,11 @@ impl Answerer<()> for Failing {
     }
 }
 
-// GETATTR of request 7, LOOKUP of request 8, and three bytes.
-const INPUT: [u8; 84] = [
+// GETATTR of request 7, an empty LOOKUP of request 8, and a length that no frame has.
+const INPUT: [u8; 85] = [
     40, 0, 0, 0, 3, 0, 0, 0, 7, 0, 0, 0, 0, 0, 0, 0, 1, 0, 0, 0, 0, 0, 0, 0, 0, 0, 0, 0, 0, 0, 0,
     0, 0, 0, 0, 0, 0, 0, 0, 0, 41, 0, 0, 0, 1, 0, 0, 0, 8, 0, 0, 0, 0, 0, 0, 0, 1, 0, 0, 0, 0, 0,
-    0, 0, 0, 0, 0, 0, 0, 0, 0, 0, 0, 0, 0, 0, 0, 0, 0, 0, 0, 39, 0, 0,
+    0, 0, 0, 0, 0, 0, 0, 0, 0, 0, 0, 0, 0, 0, 0, 0, 0, 0, 0, 39, 0, 0, 0,
 ];
 
 const REPLIES: [u8; 32] = [
@@ -89,11 +89,12 @@ const REPLIES: [u8; 32] = [
 
 #[test]
 fn each_end_of_the_input(rt: HostRuntime) -> Result<(), Fail> {
-    // How many bytes of the input are there, and how many turns; how many frames are answered, and the end.
+    // How many bytes of the input are there, and how many turns; how many frames are answered, and the cause.
     let cases = [
         (0, 0, 0, None),
         (81, 2, 2, None),
         (81, 9, 2, None),
+        (85, 9, 2, Some(PumpError::Torn)),
         (84, 9, 2, Some(PumpError::Torn)),
         (80, 9, 1, Some(PumpError::Torn)),
         (43, 9, 1, Some(PumpError::Torn)),
@@ -127,23 +128,5 @@ fn each_end_of_the_input(rt: HostRuntime) -> Result<(), Fail> {
         assert_eq!(rt; told, want);
         assert_eq!(rt; out.as_bytes(), &REPLIES[..16 * handled as usize]);
     }
-    Ok(())
-}
-
-#[test]
-fn a_length_that_no_frame_has(rt: HostRuntime) -> Result<(), Fail> {
-    let mut answerer = Failing { failed: 0 };
-    let mut input = SliceSource::new(b"\x27\0\0\0");
-    let mut out = MemSink::new(rt.alloc());
-    let told = run_frames(rt.alloc(), &mut answerer, &mut (), &mut input, &mut out, 9);
-    assert_eq!(rt;
-        told,
-        Err(Stopped {
-            cause: PumpError::Torn,
-            handled: 0,
-            nine_frames: 0
-        })
-    );
-    assert!(rt; out.as_bytes().is_empty());
     Ok(())
 }
