@@ -1,4 +1,5 @@
 mod Steps
+pub mod Hurting
 mod Begun
 mod First
 mod Example

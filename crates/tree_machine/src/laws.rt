@@ -8,16 +8,21 @@ ghost use Rattle.tree_machine.specs.State.{MachineState, begun};
 ghost use Rattle.tree_machine.specs.Step.{step};
 ghost use Rattle.tree_machine.specs.Play.{play_from};
 ghost use Rattle.tree_machine.specs.Good.{IsGoodMachine};
+ghost use Rattle.tree_machine.specs.Faults.{Hurt};
 
 /// A step from a good state leads to a good state.
 pub fn steps_stay_good()
     ensures { (s : Settings) (m : MachineState) (frame : List ℕ) → IsGoodMachine s m → IsGoodMachine s (step s m frame).1 }
-{
-}
+{}
 
 /// Each state of a run is good that begins with a good tree, whose root is an inode, and a limit of at least 1.
 pub fn plays_stay_good()
     ensures { (s : Settings) (t : Tree) (root : ℕ) (frames : List (List ℕ)) →
         IsGoodTree t → root_of t s.root ≡ Ok root → 1 ≤ s.limit → IsGoodMachine s (play_from s (begun t root) frames).1 }
-{
-}
+{}
+
+/// A run in which no request met a fault is the machine's: its replies and its last state.
+pub fn unhurt_runs_are_plays()
+    ensures { (s : Settings) (m last : MachineState) (frames : List (List ℕ)) (replies : List ℕ) →
+        Hurt s m frames 0 replies last → (replies ≡ (play_from s m frames).0) × (last ≡ (play_from s m frames).1) }
+{}

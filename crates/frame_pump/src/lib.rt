@@ -1,0 +1,9 @@
+//! The loop over frames: what answers frames one at a time, run over the frames of a source.
+#![tactic(auto)]
+
+pub mod answerer;
+pub mod laws;
+pub mod outcome;
+pub mod run;
+#[cfg(test)]
+mod tests;
