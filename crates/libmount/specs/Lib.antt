@@ -9,3 +9,5 @@ pub mod Options
 pub mod Items
 pub mod Lookup
 pub mod Parsers
+pub mod Texts
+pub mod ErrorTexts

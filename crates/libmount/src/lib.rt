@@ -3,3 +3,4 @@
 
 pub mod mountinfo;
 pub mod remount;
+mod texts;
