@@ -5,3 +5,4 @@ mod LineLemmas
 mod LookupLemmas
 mod NumberLemmas
 mod PartLemmas
+mod SliceLemmas

@@ -11,3 +11,4 @@ pub mod Lookup
 pub mod Parsers
 pub mod Texts
 pub mod ErrorTexts
+pub mod Slices
