@@ -1,4 +1,6 @@
+mod CutLaw
 mod CutLemmas
+mod DecimalLaw
 mod EscapeLemmas
 mod ItemLemmas
 mod LineLemmas

@@ -1,4 +1,6 @@
 pub mod Cuts
+pub mod CutLaws
+pub mod Worked
 pub mod Reading
 pub mod Numbers
 pub mod Escapes
