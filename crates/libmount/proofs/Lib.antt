@@ -1,7 +1,10 @@
+mod CutLaw
 mod CutLemmas
+mod DecimalLaw
 mod EscapeLemmas
 mod ItemLemmas
 mod LineLemmas
 mod LookupLemmas
 mod NumberLemmas
 mod PartLemmas
+mod SliceLemmas

@@ -35,7 +35,7 @@ nat_lt-suc a b = grind (arith, nat_tests)
 front-no : (d : ℕ) (ds : List ℕ) → is_digit d ≡ false → take_while is_digit (d ∷ ds) ≡ []
 front-no d ds h = rw h refl
 
-front-yes : (d : ℕ) (ds : List ℕ) → is_digit d ≡ true → take_while is_digit (d ∷ ds) ≡ d ∷ take_while is_digit ds
+pub front-yes : (d : ℕ) (ds : List ℕ) → is_digit d ≡ true → take_while is_digit (d ∷ ds) ≡ d ∷ take_while is_digit ds
 front-yes d ds h = rw (h, one-add) refl
 
 grows : (number : ℕ) (ds : List ℕ) → number ≤ fold with_digit number ds
@@ -48,7 +48,7 @@ judged-large number found wanted h = rw (nat_le-yes (2 ^ 64) number h) refl
 judged-short : (number found wanted : ℕ) → number < 2 ^ 64 → found < wanted → judged number found wanted ≡ Err InvalidDigit
 judged-short number found wanted h short = rw (nat_le-no (2 ^ 64) number h, nat_lt-yes found wanted short) refl
 
-judged-ok : (number found wanted : ℕ) → number < 2 ^ 64 → wanted ≤ found → judged number found wanted ≡ Ok number
+pub judged-ok : (number found wanted : ℕ) → number < 2 ^ 64 → wanted ≤ found → judged number found wanted ≡ Ok number
 judged-ok number found wanted h long = rw (nat_le-no (2 ^ 64) number h, nat_lt-no found wanted long) refl
 
 judged-suc : (number found wanted : ℕ) → judged number (suc found) (suc wanted) ≡ judged number found wanted
@@ -76,7 +76,7 @@ module _ (number d : ℕ) (ds : List ℕ) where
       ∙ judged-large (fold with_digit (with_digit number d) (take_while is_digit ds)) (length (take_while is_digit ds)) (length ds)
       (omega (arith, h.1, grows (with_digit number d) (take_while is_digit ds)))
 
-suc-eq-zero : (n : ℕ) → (suc n == 0) ≡ false
+pub suc-eq-zero : (n : ℕ) → (suc n == 0) ≡ false
 suc-eq-zero n = grind (arith, nat_tests)
 
 -- the definition of a number in these words

@@ -1,9 +1,11 @@
 -- What the rows of a table say, in order.
-use Rattle.std.specs.Prelude.{◌≡◌, ℕ, ◌+◌, ◌<◌, List, [], ◌∷◌, length, Option, Some, None, Result, Ok, Err, option_copied}
+use Rattle.std.specs.Prelude.{◌≡◌, ℕ, ◌+◌, ◌<◌, List, [], ◌∷◌, length, Option, Some, None, Result, Ok, Err, IfSome, option_copied}
 use Rattle.std.specs.Borrow.{Bor}
+use Rattle.std.specs.Iterator.{YieldsFirstBy}
 use Rattle.std.specs.List.{filter_map}
 use Rattle.libmount.specs.declared.mountinfo.lines.Lines.{Lines}
 use Rattle.libmount.specs.Parts.{parts}
+use Rattle.libmount.specs.Slices.{LiesInRest, StaysIn}
 use Rattle.libmount.specs.Reading.{Message}
 use Rattle.libmount.specs.Rows.{Row, row}
 
@@ -53,3 +55,9 @@ lines_left left = numbered left.line_feeds (parts line_feed (option_copied left.
 
 abbrev pub numbered_line : ℕ × Bor (List ℕ) → Line
 numbered_line line = (line.0, line.1.now)
+
+-- one call of the iterator: the first line goes, and lies in the text that was left, as what is left now does
+pub record NextLine (old : Lines) (found : Option (ℕ × Bor (List ℕ))) (new : Lines) : Type 0 where
+  pub gives : YieldsFirstBy numbered_line lines_left old found new
+  pub part : IfSome found (λ line. LiesInRest old.rest line.1)
+  pub rest : StaysIn old.rest new.rest

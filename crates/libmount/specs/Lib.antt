@@ -1,4 +1,6 @@
 pub mod Cuts
+pub mod CutLaws
+pub mod Worked
 pub mod Reading
 pub mod Numbers
 pub mod Escapes
@@ -9,3 +11,6 @@ pub mod Options
 pub mod Items
 pub mod Lookup
 pub mod Parsers
+pub mod Texts
+pub mod ErrorTexts
+pub mod Slices

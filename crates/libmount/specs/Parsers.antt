@@ -1,11 +1,13 @@
 -- What a parser still gives, and what one call gives of it.
-use Rattle.std.specs.Prelude.{◌≡◌, ℕ, ◌<◌, List, [], ◌∷◌, length, Option, Some, None, Result, Ok, Err}
+use Rattle.std.specs.Prelude.{◌≡◌, ℕ, ◌<◌, List, [], ◌∷◌, length, Option, Some, None, IfSome, Result, Ok, Err}
+use Rattle.std.specs.Borrow.{Bor}
 use Rattle.std.specs.List.{filter_map}
 use Rattle.libmount.specs.declared.mountinfo.errors.ParseError.{ParseError}
 use Rattle.libmount.specs.declared.mountinfo.errors.ParseError.TheVariants.{Row, NoMemory}
 use Rattle.libmount.specs.declared.mountinfo.parsing.Parser.{Parser}
 use Rattle.libmount.specs.declared.mountinfo.rows.MountPoint.{MountPoint}
 use Rattle.libmount.specs.Items.{Item, item_of, lines_left}
+use Rattle.libmount.specs.Slices.{RowLiesIn, StaysIn}
 use Rattle.libmount.specs.Views.{refused_view, row_view}
 
 -- what the lines that are left say
@@ -26,5 +28,22 @@ GivesNext old (Some (Ok m)) new = old ≡ Ok (row_view m) ∷ new
 GivesNext old (Some (Err (Row e))) new = old ≡ Err (refused_view e) ∷ new
 GivesNext old (Some (Err NoMemory)) new = (0 < length old) × (new ≡ [])
 
-abbrev pub NextItem : Parser → Option (Result MountPoint ParseError) → Parser → Type 0
-NextItem old found new = GivesNext (items_left old) found (items_left new)
+-- the text that is left
+abbrev pub text_left : Parser → Option (Bor (List ℕ))
+text_left parser = parser.lines.rest
+
+-- each field of an item that is borrowed lies in the text
+abbrev pub ItemLiesIn : Bor (List ℕ) → Result MountPoint ParseError → Type 0
+ItemLiesIn text (Ok m) = RowLiesIn text m
+ItemLiesIn text (Err e) = Unit {0}
+
+abbrev pub ItemLiesInRest : Option (Bor (List ℕ)) → Result MountPoint ParseError → Type 0
+ItemLiesInRest None item = ⊥
+ItemLiesInRest (Some text) item = ItemLiesIn text item
+
+-- one call of a parser: it gives the next item, whose borrowed fields lie in the text that was left, as the text
+-- that is left now does
+pub record NextItem (old : Parser) (found : Option (Result MountPoint ParseError)) (new : Parser) : Type 0 where
+  pub gives : GivesNext (items_left old) found (items_left new)
+  pub parts : IfSome found (ItemLiesInRest (text_left old))
+  pub text : StaysIn (text_left old) (text_left new)

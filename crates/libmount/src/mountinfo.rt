@@ -15,3 +15,6 @@ pub use errors::{ParseError, ParseRowError, RowError, RowFault};
 pub use escapes::Field;
 pub use parsing::Parser;
 pub use rows::{MountPoint, parse_mount_point};
+
+#[cfg(test)]
+mod tests;

@@ -1,15 +1,18 @@
 //! The flags of a mount, looked up in a mountinfo table.
-ghost use Rattle.std.specs.Prelude.{◌≡◌};
+ghost use Rattle.std.specs.Prelude.{◌≡◌, Some};
 ghost use Rattle.std.specs.Option.{option_map};
 ghost use Rattle.port_base.specs.Flags.{bits_of};
+ghost use Rattle.libmount.specs.ErrorTexts.{remount_error_text};
 ghost use Rattle.libmount.specs.Lookup.{flags_at, flags_in, verdict};
 ghost use Rattle.libmount.specs.Views.{row_view, GivesFlags, GivesVerdict};
 
 use crate::mountinfo::parts::last_part;
 use crate::mountinfo::{MountPoint, RowFault, parse_mount_point};
+use crate::texts::Shown;
 use port_base::flags::MsFlags;
 use port_base::paths::same_path;
 use std::alloc::Global;
+use std::fmt;
 
 /// Why a mount can't be changed.
 #[derive(Debug, Drop)]
@@ -17,6 +20,18 @@ pub enum RemountError {
     /// A row of the table is refused, with what is wrong with it.
     ParseMountInfo(Vec<u8>),
     NoMemory,
+}
+
+impl fmt::Display for RemountError {
+    ghost output = { λ e. Some (remount_error_text e) };
+
+    #[tactic(auto, unfolding(crate::specs::Texts::shown))]
+    fn fmt<W: fmt::Write>(&self, f: &mut fmt::Formatter<W>) -> fmt::Result {
+        match self {
+            RemountError::ParseMountInfo(message) => write!(f, "{}", Shown(message)),
+            RemountError::NoMemory => f.write_str("no memory"),
+        }
+    }
 }
 
 // The flags of a mount where its mount point is the path.
@@ -68,4 +83,54 @@ pub fn flags_from(
         }
     }
     Ok(None)
+}
+
+#[cfg(test)]
+mod tests {
+    use super::*;
+    use std::test::Fail;
+
+    // The flags that a table gives a path, as text.
+    fn describe(alloc: Global, content: &[u8], path: &[u8]) -> Result<String, Fail> {
+        let text = match flags_from(alloc, content, path) {
+            Ok(Some(flags)) => format!(in alloc; "{}", flags.bits())?,
+            Ok(None) => format!(in alloc; "none")?,
+            Err(error) => format!(in alloc; "{error}")?,
+        };
+        Ok(text)
+    }
+
+    #[test]
+    fn flags_come_from_the_last_row(rt: HostRuntime) -> Result<(), Fail> {
+        let two =
+            b"11 18 0:4 / /tmp rw shared:28 - tmpfs tmpfs rw\n12 18 0:6 / /tmp rw,nosuid,nodev shared:29 - tmpfs tmpfs rw\n";
+        let bad_first =
+            b"bad\n11 18 0:4 / /tmp rw shared:28 - tmpfs tmpfs rw\n12 18 0:6 / /tmp rw,nosuid,nodev shared:29 - tmpfs tmpfs rw";
+        let bad_last =
+            b"11 18 0:4 / /tmp rw shared:28 - tmpfs tmpfs rw\n12 18 0:6 / /tmp rw,nosuid,nodev shared:29 - tmpfs tmpfs rw\nbad\n";
+        let cases: [(&[u8], &[u8], &str); 9] = [
+            (two, b"/tmp", "6"),
+            (two, b"//tmp/.", "6"),
+            (two, b"tmp", "none"),
+            (two, b"/", "none"),
+            (bad_first, b"/tmp", "6"),
+            (
+                bad_first,
+                b"/",
+                "Cannot parse integer \"bad\": invalid digit",
+            ),
+            (
+                bad_last,
+                b"/tmp",
+                "Cannot parse integer \"bad\": invalid digit",
+            ),
+            (b"1 1 0:1 / /a\\040b ro - t s rw", b"/a b/", "1"),
+            (b"", b"/", "none"),
+        ];
+        for (content, path, want) in cases {
+            let got = describe(rt.alloc(), content, path)?;
+            assert_eq!(rt; got.as_str(), want);
+        }
+        Ok(())
+    }
 }

@@ -1,8 +1,9 @@
 // What stands before a mark and after it.
-ghost use Rattle.std.specs.Prelude.{◌≡◌, ◌<◌, ◌≤◌, ◌-◌, length};
+ghost use Rattle.std.specs.Prelude.{◌≡◌, ◌<◌, ◌≤◌, ◌-◌, IfOk, length};
 ghost use Rattle.std.specs.List.{prefix_len, suffix_len};
 ghost use Rattle.libmount.specs.Cuts.{cut, is_space, without_leading_spaces, without_trailing_spaces};
 ghost use Rattle.libmount.specs.Reading.{field_at, Gives};
+ghost use Rattle.libmount.specs.Slices.{LiesIn};
 
 use crate::mountinfo::refusals::Refusal;
 
@@ -10,6 +11,8 @@ use crate::mountinfo::refusals::Refusal;
 fn cut<'a>(bytes: &'a [u8], mark: &[u8]) -> (&'a [u8], &'a [u8])
     ensures before { result.0.now ≡ (cut mark.now bytes.now).0 }
     ensures after { result.1.now ≡ (cut mark.now bytes.now).1 }
+    ensures front { LiesIn bytes.entry result.0 }
+    ensures rest { LiesIn bytes.entry result.1 }
 {
     for at in 0..bytes.len() {
         let here = &bytes[at..];
@@ -34,20 +37,29 @@ fn trailing_spaces(bytes: &[u8]) -> usize
     bytes.iter().rev().take_while(|byte| **byte == b' ').count()
 }
 
+fn without_leading_spaces(bytes: &[u8]) -> &[u8]
+    ensures value { result.now ≡ without_leading_spaces bytes.now }
+    ensures part { LiesIn bytes.entry result }
+{
+    &bytes[leading_spaces(bytes)..]
+}
+
 /// A field up to a mark, after leading spaces, and what follows the mark.
 #[tactic(auto, unfolding(crate::specs::Reading::field_at))]
 pub(crate) fn field<'a>(mark: &[u8], bytes: &'a [u8]) -> Result<(&'a [u8], &'a [u8]), Refusal<'a>>
-    ensures { Gives (λ field. (field.0.now, field.1.now)) result (field_at mark.now bytes.now) }
+    ensures value { Gives (λ field. (field.0.now, field.1.now)) result (field_at mark.now bytes.now) }
+    ensures parts { IfOk result (λ field. LiesIn bytes.entry field.0 × LiesIn bytes.entry field.1) }
 {
     if bytes.is_empty() {
         return Err(Refusal::MoreFields);
     }
-    Ok(cut(&bytes[leading_spaces(bytes)..], mark))
+    Ok(cut(without_leading_spaces(bytes), mark))
 }
 
 /// A field without its trailing spaces.
 pub(crate) fn without_trailing_spaces(field: &[u8]) -> &[u8]
-    ensures { result.now ≡ without_trailing_spaces field.now }
+    ensures value { result.now ≡ without_trailing_spaces field.now }
+    ensures part { LiesIn field.entry result }
 {
     &field[..field.len() - trailing_spaces(field)]
 }

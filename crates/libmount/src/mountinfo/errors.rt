@@ -1,4 +1,10 @@
 // Why a row is refused.
+ghost use Rattle.std.specs.Prelude.{◌++◌, Some, codes};
+ghost use Rattle.libmount.specs.ErrorTexts.{parse_error_text};
+ghost use Rattle.libmount.specs.Texts.{shown};
+
+use crate::texts::Shown;
+use std::fmt;
 
 /// What is wrong with a row, in words.
 #[derive(Debug, Drop)]
@@ -28,4 +34,31 @@ pub struct RowError {
 pub enum ParseError {
     Row(RowError),
     NoMemory,
+}
+
+impl fmt::Display for ParseRowError {
+    ghost output = { λ e. Some (codes "Parse error: " ++ shown e.0.items) };
+
+    #[tactic(auto, unfolding(crate::specs::Texts::shown))]
+    fn fmt<W: fmt::Write>(&self, f: &mut fmt::Formatter<W>) -> fmt::Result {
+        write!(f, "Parse error: {}", Shown(&self.0))
+    }
+}
+
+impl fmt::Display for ParseError {
+    ghost output = { λ e. Some (parse_error_text e) };
+
+    #[tactic(auto, unfolding(crate::specs::Texts::shown))]
+    fn fmt<W: fmt::Write>(&self, f: &mut fmt::Formatter<W>) -> fmt::Result {
+        match self {
+            ParseError::Row(error) => write!(
+                f,
+                "Parse error at line {}: {}\n{}",
+                error.row_num,
+                Shown(&error.message),
+                Shown(&error.row)
+            ),
+            ParseError::NoMemory => f.write_str("no memory"),
+        }
+    }
 }

@@ -2,6 +2,7 @@
 ghost use Rattle.std.specs.Prelude.{◌≡◌, ◌<◌, ◌≤◌, ◌∷◌, ◌+◌, IsTrue, IfOk, length, slice_index};
 ghost use Rattle.libmount.specs.Escapes.{has_escape, is_octal, octal_value, starts_with_escape, unescaped, TakesByte};
 ghost use Rattle.libmount.specs.Reading.{Gives};
+ghost use Rattle.libmount.specs.Slices.{FieldLiesIn};
 ghost use Rattle.libmount.specs.Views.{text, GivesText};
 ghost use Rattle.libmount.specs.Rows.{text_bytes, text_of};
 
@@ -98,7 +99,8 @@ fn unescape(alloc: Global, text: &[u8]) -> Result<Vec<u8>, NoMemory>
 
 /// A field as a text: borrowed where no escape stands in it.
 pub(crate) fn text_of<'a>(alloc: Global, field: &'a [u8]) -> Result<Field<'a>, Refusal<'a>>
-    ensures { GivesText result (text_of field.now) }
+    ensures value { GivesText result (text_of field.now) }
+    ensures part { IfOk result (FieldLiesIn field.entry) }
 {
     if !has_escape(field) {
         return Ok(Field::Borrowed(field));

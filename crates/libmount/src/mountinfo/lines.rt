@@ -25,11 +25,12 @@ pub(crate) struct Lines<'a> {
 }
 
 impl<'a> Lines<'a> {
-    ghost use Rattle.std.specs.Prelude.{◌≡◌, [], Some};
+    ghost use Rattle.std.specs.Prelude.{◌≡◌, [], None, Some};
     ghost use Rattle.libmount.specs.Items.{lines, lines_left};
 
     pub(crate) fn new(text: &'a [u8]) -> Lines<'a>
-        ensures { lines_left result ≡ lines text.now }
+        ensures lines { lines_left result ≡ lines text.now }
+        ensures rest { result.rest ≡ Some text.entry }
     {
         Lines {
             rest: Some(text),
@@ -39,19 +40,20 @@ impl<'a> Lines<'a> {
 
     /// Gives up the lines that are left.
     pub(crate) fn end(&mut self)
-        ensures { lines_left self.new ≡ [] }
+        ensures lines { lines_left self.new ≡ [] }
+        ensures rest { self.new.rest ≡ None }
     {
         self.rest = None;
     }
 }
 
 impl<'a> Iterator for Lines<'a> {
-    ghost use Rattle.std.specs.Iterator.{YieldsFirstBy, item_count};
-    ghost use Rattle.libmount.specs.Items.{lines_left, numbered_line};
+    ghost use Rattle.std.specs.Iterator.{item_count};
+    ghost use Rattle.libmount.specs.Items.{lines_left, NextLine};
 
     type Item = (usize, &'a [u8]);
 
-    ghost next_gives = { YieldsFirstBy numbered_line lines_left };
+    ghost next_gives = { NextLine };
 
     ghost remaining = { item_count lines_left };
 

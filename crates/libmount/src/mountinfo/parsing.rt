@@ -1,8 +1,9 @@
 // The rows of a table in order.
-ghost use Rattle.std.specs.Prelude.{◌≡◌};
+ghost use Rattle.std.specs.Prelude.{◌≡◌, IfSome, Some};
 ghost use Rattle.std.specs.Iterator.{item_count};
 ghost use Rattle.libmount.specs.Items.{item_of, items};
-ghost use Rattle.libmount.specs.Parsers.{items_left, NextItem, TakesItem};
+ghost use Rattle.libmount.specs.Parsers.{items_left, text_left, ItemLiesIn, ItemLiesInRest, NextItem, TakesItem};
+ghost use Rattle.libmount.specs.Slices.{StaysIn};
 ghost use Rattle.libmount.specs.Views.{GivesItem, IsRefused};
 
 use crate::mountinfo::errors::{ParseError, RowError, RowFault};
@@ -33,7 +34,8 @@ fn item_of<'a>(
     number: usize,
     line: &'a [u8],
 ) -> Option<Result<MountPoint<'a>, ParseError>>
-    ensures { GivesItem result (item_of (number, line.now)) }
+    ensures value { GivesItem result (item_of (number, line.now)) }
+    ensures parts { IfSome result (ItemLiesIn line.entry) }
 {
     match parse_mount_point(alloc, line) {
         Ok(found) => match found {
@@ -55,7 +57,8 @@ pub struct Parser<'a> {
 impl<'a> Parser<'a> {
     /// A parser of the whole text of a table.
     pub fn new(alloc: Global, text: &'a [u8]) -> Parser<'a>
-        ensures { items_left result ≡ items text.now }
+        ensures items { items_left result ≡ items text.now }
+        ensures text { text_left result ≡ Some text.entry }
     {
         Parser {
             alloc,
@@ -65,7 +68,9 @@ impl<'a> Parser<'a> {
 
     // The first of the items that are left.
     fn take_item(&mut self) -> Option<Result<MountPoint<'a>, ParseError>>
-        ensures { TakesItem (items_left self.old) result (items_left self.new) }
+        ensures items { TakesItem (items_left self.old) result (items_left self.new) }
+        ensures part { IfSome result (ItemLiesInRest (text_left self.old)) }
+        ensures text { StaysIn (text_left self.old) (text_left self.new) }
     {
         'lines: while let Some((number, line)) = self.lines.next() {
             match item_of(self.alloc, number, line) {

@@ -1,6 +1,7 @@
 // The parts of a text between bytes of one kind, as lines or options are.
 ghost use Rattle.std.specs.Prelude.{◌≡◌, ◌<◌, ◌++◌, ◌∷◌, [], length, option_copied, position, IfSome, Some};
 ghost use Rattle.libmount.specs.Parts.{is_mark, parts, EndsPart};
+ghost use Rattle.libmount.specs.Slices.{LiesIn, StaysIn};
 
 fn first_mark(text: &[u8], mark: u8) -> Option<usize>
     ensures { result ≡ position (is_mark mark) text.now }
@@ -12,6 +13,8 @@ fn first_mark(text: &[u8], mark: u8) -> Option<usize>
 pub(crate) fn first_part(text: &[u8], mark: u8) -> (&[u8], Option<&[u8]>)
     ensures parts { parts mark (Some text.now) ≡ result.0.now ∷ parts mark (option_copied result.1) }
     ensures shorter { IfSome result.1 (λ rest. length rest.now < length text.now) }
+    ensures front { LiesIn text.entry result.0 }
+    ensures rest { StaysIn (Some text.entry) result.1 }
 {
     match first_mark(text, mark) {
         Some(at) => (&text[..at], Some(&text[at + 1..])),

@@ -1,11 +1,12 @@
 // Rows of a mountinfo table.
-ghost use Rattle.std.specs.Prelude.{◌≡◌, ◌≤◌, length, Ok, None, OnErr};
+ghost use Rattle.std.specs.Prelude.{◌≡◌, ◌≤◌, length, IfOk, IfSome, Ok, None, OnErr};
 ghost use Rattle.std.specs.Option.{option_map};
 ghost use Rattle.std.specs.List.{prefix_len};
 ghost use Rattle.std.specs.Str.Lines.{strip_carriage_return};
 ghost use Rattle.libmount.specs.Cuts.{dash};
 ghost use Rattle.libmount.specs.Reading.{Gives};
 ghost use Rattle.libmount.specs.Rows.{fields_of, is_blank, is_skipped, optional_at, row, row_of, text_at};
+ghost use Rattle.libmount.specs.Slices.{FieldLiesIn, LiesIn, RowLiesIn};
 ghost use Rattle.libmount.specs.Views.{row_view, text, GivesRow};
 
 use crate::mountinfo::cuts::{field, without_trailing_spaces};
@@ -45,7 +46,8 @@ pub struct MountPoint<'a> {
 // A text up to a space, and what follows it.
 #[tactic(auto, unfolding(crate::specs::Rows::text_at))]
 fn text_at(alloc: Global, bytes: &[u8]) -> Result<(Field<'_>, &[u8]), Refusal<'_>>
-    ensures { Gives (λ found. (text found.0, found.1.now)) result (text_at bytes.now) }
+    ensures value { Gives (λ found. (text found.0, found.1.now)) result (text_at bytes.now) }
+    ensures parts { IfOk result (λ found. FieldLiesIn bytes.entry found.0 × LiesIn bytes.entry found.1) }
 {
     let (field, rest) = field(b" ", bytes)?;
     let text = text_of(alloc, field)?;
@@ -55,7 +57,8 @@ fn text_at(alloc: Global, bytes: &[u8]) -> Result<(Field<'_>, &[u8]), Refusal<'_
 // The optional fields, and what follows their dash.
 #[tactic(auto, unfolding(crate::specs::Rows::optional_at))]
 fn optional_at(alloc: Global, bytes: &[u8]) -> Result<(Field<'_>, &[u8]), Refusal<'_>>
-    ensures { Gives (λ found. (text found.0, found.1.now)) result (optional_at bytes.now) }
+    ensures value { Gives (λ found. (text found.0, found.1.now)) result (optional_at bytes.now) }
+    ensures parts { IfOk result (λ found. FieldLiesIn bytes.entry found.0 × LiesIn bytes.entry found.1) }
 {
     let (field, rest) = field(b"- ", bytes)?;
     let text = text_of(alloc, without_trailing_spaces(field))?;
@@ -65,7 +68,8 @@ fn optional_at(alloc: Global, bytes: &[u8]) -> Result<(Field<'_>, &[u8]), Refusa
 // The eleven fields of a row.
 #[tactic(auto, unfolding(crate::specs::Rows::fields_of))]
 fn fields_of(alloc: Global, row: &[u8]) -> Result<MountPoint<'_>, Refusal<'_>>
-    ensures { Gives row_view result (fields_of row.now) }
+    ensures value { Gives row_view result (fields_of row.now) }
+    ensures parts { IfOk result (RowLiesIn row.entry) }
 {
     let (mount_id, rest) = number_at(row)?;
     let (parent_id, rest) = number_at(rest)?;
@@ -111,7 +115,8 @@ fn is_skipped(row: &[u8]) -> bool
 }
 
 fn without_return(line: &[u8]) -> &[u8]
-    ensures { result.now ≡ strip_carriage_return line.now }
+    ensures value { result.now ≡ strip_carriage_return line.now }
+    ensures part { LiesIn line.entry result }
 {
     if !line.is_empty() && line[line.len() - 1] == b'\r' {
         &line[..line.len() - 1]
@@ -125,6 +130,7 @@ fn without_return(line: &[u8]) -> &[u8]
 fn row_of(alloc: Global, row: &[u8]) -> Result<Option<MountPoint<'_>>, Refusal<'_>>
     ensures gives { Gives (option_map row_view) result (row_of row.now) }
     ensures not_skipped { OnErr result (row_of row.now ≡ Ok None → ⊥) }
+    ensures parts { IfOk result (λ found. IfSome found (RowLiesIn row.entry)) }
 {
     if is_skipped(row) {
         return Ok(None);
@@ -137,7 +143,8 @@ fn row_of(alloc: Global, row: &[u8]) -> Result<Option<MountPoint<'_>>, Refusal<'
 /// row is, and spaces and tabs and then a number sign.
 #[tactic(auto, unfolding(crate::specs::Rows::row))]
 pub fn parse_mount_point(alloc: Global, line: &[u8]) -> Result<Option<MountPoint<'_>>, RowFault>
-    ensures { GivesRow result (row line.now) }
+    ensures value { GivesRow result (row line.now) }
+    ensures parts { IfOk result (λ found. IfSome found (RowLiesIn line.entry)) }
 {
     match row_of(alloc, without_return(line)) {
         Ok(found) => Ok(found),

@@ -3,6 +3,6 @@ use Rattle.std.proofs.Common.{refl}
 use Rattle.libmount.specs.Items.{lines}
 use Rattle.libmount.proofs.mountinfo.lines.Lines.new.Goals as goal
 
-pub returns : goal.returns
+pub returns-clause-lines : goal.returns-clause-lines
 unfolding lines
-returns c = refl
+returns-clause-lines c = refl

@@ -3,5 +3,5 @@ use Rattle.libmount.specs.Items.{lines_left}
 use Rattle.libmount.proofs.ItemLemmas.{items-by}
 use Rattle.libmount.proofs.mountinfo.parsing.Parser.new.Goals as goal
 
-pub returns : goal.returns
-returns c = items-by c.args.text.now (lines_left c.new.result) c.new.ensures
+pub returns-clause-items : goal.returns-clause-items
+returns-clause-items c = items-by c.args.text.now (lines_left c.new.result) c.new.ensures.lines
