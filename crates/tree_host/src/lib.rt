@@ -3,6 +3,7 @@
 
 pub mod entry;
 pub mod host;
+pub mod laws;
 mod holds;
 pub mod memory;
 mod node;

@@ -67,18 +67,19 @@ weigh-remove w m k v had =
     let step = weigh-insert w (remove m k) k v in
     omega arith
 
-module _ {X : Type 0} (w : X → ℕ) where
+module _ {X : Type 0} where
   -- a value that is found, or is not the first
-  find_first : (e : ℕ × X) (es : List (ℕ × X)) → find nat_cmp e.0 (e ∷ es) ≡ Some e.1
+  pub find_first : (e : ℕ × X) (es : List (ℕ × X)) → find nat_cmp e.0 (e ∷ es) ≡ Some e.1
   find_first e es = ap (λ b. cond b (Some e.1) (find nat_cmp e.0 es)) (at_itself e.0)
 
-  find_later : (e : ℕ × X) (es : List (ℕ × X)) (q : ℕ) → q ≢ e.0 → find nat_cmp q (e ∷ es) ≡ find nat_cmp q es
+  pub find_later : (e : ℕ × X) (es : List (ℕ × X)) (q : ℕ) → q ≢ e.0 → find nat_cmp q (e ∷ es) ≡ find nat_cmp q es
   find_later e es q ne = ap (λ b. cond b (Some e.1) (find nat_cmp q es)) (apart q e.0 ne)
 
   -- the values after the first, at the first one's key
-  none_later : (e : ℕ × X) (es : List (ℕ × X)) → T (is_sorted nat_cmp (e ∷ es)) → find nat_cmp e.0 es ≡ None
+  pub none_later : (e : ℕ × X) (es : List (ℕ × X)) → T (is_sorted nat_cmp (e ∷ es)) → find nat_cmp e.0 es ≡ None
   none_later e es h = find_below e.0 es (first _ _ h)
 
+module _ {X : Type 0} (w : X → ℕ) where
   -- where nothing weighs anything, all weigh nothing
   weigh-none : (es : List (ℕ × X)) → T (is_sorted nat_cmp es) → ((q : ℕ) → weight w (find nat_cmp q es) ≡ 0) → weigh w es ≡ 0
   weigh-none [] h z = refl

@@ -6,3 +6,4 @@ pub mod Keeping
 pub mod Bodies
 pub mod Adding
 pub mod Files
+pub mod Reading

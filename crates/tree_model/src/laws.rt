@@ -1,11 +1,14 @@
 //! Laws over trees. Each function makes no call: its contract is the law.
-ghost use Rattle.std.specs.Prelude.{◌≡◌, ℕ, ◌+◌, ◌<◌, List, Bool, Ok, None};
+ghost use Rattle.std.specs.Prelude.{◌≡◌, ℕ, ◌+◌, ◌<◌, List, Bool, Ok, Some, None};
 ghost use Rattle.std.specs.FinMap as map;
 ghost use Rattle.port_base.specs.Names.{name_fault};
 ghost use Rattle.tree_model.specs.Tree.{Tree, Records, Record, name_count, names_in, weight, linked, keep};
 ghost use Rattle.tree_model.specs.Good.{IsGoodTree, IsGoodLimits, IsGoodStamp};
 ghost use Rattle.tree_model.specs.Sound.{IsCounted, AreStored};
 ghost use Rattle.tree_model.specs.Making.{new_tree, NewFile, add_file_of};
+ghost use Rattle.tree_model.specs.Attributes.{stat_of};
+ghost use Rattle.tree_model.specs.Reading.{record_after_of};
+ghost use Rattle.tree_model.specs.declared.attributes.Attr.{Attr};
 ghost use Rattle.tree_model.specs.declared.attributes.Stamp.{Stamp};
 ghost use Rattle.tree_model.specs.declared.attributes.Limits.{Limits};
 
@@ -48,5 +51,11 @@ pub fn trees_with_a_file_are_good()
     ensures { (t : Tree) (born : Stamp) (dir : ℕ) (name : List ℕ) (f : NewFile) (ino : ℕ) (u : Tree) →
         IsGoodTree t → IsGoodStamp born → name_fault name ≡ None → f.mode < 4096 →
         add_file_of born t dir name f ≡ Ok (ino, u) → IsGoodTree u }
+{
+}
+
+/// The record that is told next is stored under its number, which is above the one asked for.
+pub fn next_records_are_stored()
+    ensures { (t : Tree) (i : ℕ) (a : Attr) → record_after_of t i ≡ Some a → (stat_of t a.ino ≡ Ok a) × (i < a.ino) }
 {
 }
