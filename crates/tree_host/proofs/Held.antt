@@ -1,22 +1,21 @@
 -- A hold more, and a hold less.
-use Rattle.std.proofs.Common.{◌≡◌, ◌≢◌, ℕ, suc, ◌+◌, ◌-◌, ◌<◌, ◌≤◌, Bool, true, false, cond, not, ◌||◌, List, [], ◌∷◌, refl, sym, ap, ◌∙◌, subst, Option, Some, None, Result, Ok, Err, OnOk, OnErr, ◌⊎◌, inl, inr, ⊎_elim, arith, IsSome, nat_lt, unwrap_or}
+use Rattle.std.proofs.Common.{◌≡◌, ◌≢◌, ℕ, ◌+◌, ◌-◌, ◌<◌, ◌≤◌, Bool, true, false, cond, ◌||◌, refl, sym, ap, ◌∙◌, subst, Some, None, Result, Ok, Err, OnOk, OnErr, ⊎_elim, arith, IsSome, nat_lt, unwrap_or}
 use Rattle.std.proofs.lemmas.Bool.{cases_eq, false≢true}
 use Rattle.std.proofs.lemmas.Bool.Decides.{nat_tests}
 use Rattle.std.specs.Ordering.{nat_cmp}
-use Rattle.std.specs.FinMap.{FinMap, get, insert, remove, empty, get-empty}
+use Rattle.std.specs.FinMap.{get, insert, remove, empty, get-empty}
 use Rattle.tree_model.specs.declared.attributes.Stamp.{Stamp}
 use Rattle.tree_model.specs.declared.attributes.Limits.{Limits}
 use Rattle.tree_model.specs.Tree.{Tree, Records, is_linked, keep, top}
 use Rattle.tree_model.specs.Good.{IsGoodTree}
 use Rattle.tree_model.specs.Making.{new_tree, top_record}
-use Rattle.tree_model.specs.Sound.{IsCounted, IsKept, IsKeptBut, AreStored, swept}
+use Rattle.tree_model.specs.Sound.{IsKeptBut, AreStored, swept}
 use Rattle.tree_model.proofs.Maps.{inserted, insert_keeps, removed, remove_keeps}
 use Rattle.tree_model.proofs.Sweeping.{kept_is_swept}
-use Rattle.tree_model.proofs.Keeping.{keep_good, keep_kept, keep_stored}
+use Rattle.tree_model.proofs.Keeping.{keep_kept, keep_stored}
 use Rattle.tree_model.proofs.Files.{good_is_counted}
 use Rattle.tree_host.specs.Holds.{Holds, hold_count, held_more, held_less, is_held}
 use Rattle.tree_host.specs.Host.{IsHeldIn}
-use Rattle.tree_host.specs.Kept.{tree_from}
 
 or_true : (b : Bool) → (b || true) ≡ true
 or_true true = refl

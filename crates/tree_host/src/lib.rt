@@ -2,13 +2,12 @@
 #![tactic(auto)]
 
 pub mod entry;
+mod holds;
 pub mod host;
 pub mod laws;
-mod holds;
 pub mod memory;
 mod node;
 mod nodes;
-
 #[cfg(test)]
 mod tests;
 

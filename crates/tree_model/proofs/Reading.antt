@@ -1,5 +1,5 @@
 -- What a reader tells of a record is what is stored at its number.
-use Rattle.std.proofs.Common.{◌≡◌, ◌≢◌, ℕ, ◌<◌, Bool, true, false, cond, List, [], ◌∷◌, refl, sym, ap, ◌∙◌, subst, Option, Some, None, Result, Ok, ⊎_elim, arith, nat_lt}
+use Rattle.std.proofs.Common.{◌≡◌, ℕ, ◌<◌, Bool, true, false, cond, List, [], ◌∷◌, refl, sym, ap, ◌∙◌, subst, Option, Some, None, Ok, ⊎_elim, arith, nat_lt}
 use Rattle.std.specs.Prelude.{T, find as first_where, option_map}
 use Rattle.std.proofs.lemmas.Bool.{cases_eq}
 use Rattle.std.proofs.lemmas.Bool.Decides.{nat_tests}
@@ -10,7 +10,7 @@ use Rattle.tree_model.specs.declared.attributes.Attr.{Attr}
 use Rattle.tree_model.specs.Tree.{Tree, Record}
 use Rattle.tree_model.specs.Attributes.{attr_of, attr_or_missing, stat_of}
 use Rattle.tree_model.specs.Reading.{record_after_of}
-use Rattle.tree_model.proofs.Counting.{first, second, find_first, find_later, none_later}
+use Rattle.tree_model.proofs.Counting.{second, find_first, find_later, none_later}
 
 module _ {X : Type 0} where
   found_at : (p : ℕ × X → Bool) (es : List (ℕ × X)) → T (is_sorted nat_cmp es) → (e : ℕ × X) → first_where p es ≡ Some e → (find nat_cmp e.0 es ≡ Some e.1) × (p e ≡ true)
@@ -19,12 +19,13 @@ module _ {X : Type 0} where
     by_test : (b : Bool) → p f ≡ b → (first_where p es ≡ Some e → (find nat_cmp e.0 es ≡ Some e.1) × (p e ≡ true)) → cond b (Some f) (first_where p es) ≡ Some e → (find nat_cmp e.0 (f ∷ es) ≡ Some e.1) × (p e ≡ true)
     by_test true passes later is = let same : f ≡ e = cc in subst (λ e. (find nat_cmp e.0 (f ∷ es) ≡ Some e.1) × (p e ≡ true)) same (find_first f es, passes)
     by_test false fails later is =
-        let rest = later is in
-        (⊎_elim
-            (λ eq. absurd (let none : find nat_cmp e.0 es ≡ None = ap (λ k. find nat_cmp k es) eq ∙ none_later f es h in let some = rest.0 in cc))
-            (λ ne. find_later f es e.0 ne ∙ rest.0)
-            (cases_eq e.0 f.0),
-         rest.1)
+        let rest = later is in (
+          ⊎_elim
+              (λ eq. absurd (let none : find nat_cmp e.0 es ≡ None = ap (λ k. find nat_cmp k es) eq ∙ none_later f es h in let some = rest.0 in cc))
+              (λ ne. find_later f es e.0 ne ∙ rest.0)
+              (cases_eq e.0 f.0),
+          rest.1,
+        )
 
   -- the next key is above, and its value is the one that the map has
   pub next_after-get : (key : ℕ) (m : FinMap nat_cmp X) (e : ℕ × X) → next_after key m ≡ Some e → (get m e.0 ≡ Some e.1) × (key < e.0)
