@@ -1,16 +1,15 @@
 -- A file more in a tree that is held.
-use Rattle.std.proofs.Common.{◌≡◌, ◌≢◌, ℕ, ◌+◌, ◌-◌, ◌^◌, ◌<◌, ◌≤◌, Bool, true, false, cond, not, List, length, refl, sym, ap, ◌∙◌, subst, Option, Some, None, Result, Ok, Err, arith, IsSome, nat_lt}
+use Rattle.std.proofs.Common.{◌≡◌, ℕ, ◌+◌, ◌<◌, ◌≤◌, true, false, cond, not, List, length, refl, sym, ap, ◌∙◌, subst, Option, Some, None, Ok, Err, arith, nat_lt}
 use Rattle.std.proofs.lemmas.Bool.Decides.{nat_tests}
-use Rattle.std.specs.FinMap.{get, insert}
+use Rattle.std.specs.FinMap.{get}
 use Rattle.port_base.specs.Names.{name_fault}
 use Rattle.port_base.specs.declared.errno.TheConstants.{EFBIG}
 use Rattle.tree_model.specs.declared.attributes.Stamp.{Stamp}
-use Rattle.tree_model.specs.declared.attributes.HostError.{HostError}
 use Rattle.tree_model.specs.declared.attributes.HostError.TheVariants.{Errno}
-use Rattle.tree_model.specs.Tree.{Tree, Record, Records, body_at, is_linked}
+use Rattle.tree_model.specs.Tree.{Tree, Records, body_at, is_linked}
 use Rattle.tree_model.specs.Good.{IsGoodStamp, IsGoodTree}
 use Rattle.tree_model.specs.Sound.{IsKept, AreStored, has_no_links}
-use Rattle.tree_model.specs.Making.{new_name_refused, NewFile, file_record, joined_by, change, add_refused, with_file, add_file_of, add_file_unless}
+use Rattle.tree_model.specs.Making.{new_name_refused, NewFile, file_record, joined_by, add_refused, with_file, add_file_of, add_file_unless}
 use Rattle.tree_model.proofs.Adding.{added_kept, added_stored}
 use Rattle.tree_model.proofs.Files.{IsLetIn, let_in, refused_by_links, good_is_counted, file_added, with_file-records, with_file_good}
 use Rattle.tree_host.specs.Holds.{Holds, is_held}

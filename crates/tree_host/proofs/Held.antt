@@ -1,22 +1,21 @@
 -- A hold more, and a hold less.
-use Rattle.std.proofs.Common.{◌≡◌, ◌≢◌, ℕ, suc, ◌+◌, ◌-◌, ◌<◌, ◌≤◌, Bool, true, false, cond, not, ◌||◌, List, [], ◌∷◌, refl, sym, ap, ◌∙◌, subst, Option, Some, None, Result, Ok, Err, OnOk, OnErr, ◌⊎◌, inl, inr, ⊎_elim, arith, IsSome, nat_lt, unwrap_or}
+use Rattle.std.proofs.Common.{◌≡◌, ◌≢◌, ℕ, ◌+◌, ◌-◌, ◌<◌, ◌≤◌, Bool, true, false, cond, ◌||◌, refl, sym, ap, ◌∙◌, subst, Some, None, Result, Ok, Err, OnOk, OnErr, ⊎_elim, arith, IsSome, nat_lt, unwrap_or}
 use Rattle.std.proofs.lemmas.Bool.{cases_eq, false≢true}
 use Rattle.std.proofs.lemmas.Bool.Decides.{nat_tests}
 use Rattle.std.specs.Ordering.{nat_cmp}
-use Rattle.std.specs.FinMap.{FinMap, get, insert, remove, empty, get-empty}
+use Rattle.std.specs.FinMap.{get, insert, remove, empty, get-empty}
 use Rattle.tree_model.specs.declared.attributes.Stamp.{Stamp}
 use Rattle.tree_model.specs.declared.attributes.Limits.{Limits}
 use Rattle.tree_model.specs.Tree.{Tree, Records, is_linked, keep, top}
 use Rattle.tree_model.specs.Good.{IsGoodTree}
 use Rattle.tree_model.specs.Making.{new_tree, top_record}
-use Rattle.tree_model.specs.Sound.{IsCounted, IsKept, IsKeptBut, AreStored, swept}
+use Rattle.tree_model.specs.Sound.{IsKeptBut, AreStored, swept}
 use Rattle.tree_model.proofs.Maps.{inserted, insert_keeps, removed, remove_keeps}
 use Rattle.tree_model.proofs.Sweeping.{kept_is_swept}
-use Rattle.tree_model.proofs.Keeping.{keep_good, keep_kept, keep_stored}
+use Rattle.tree_model.proofs.Keeping.{keep_kept, keep_stored}
 use Rattle.tree_model.proofs.Files.{good_is_counted}
 use Rattle.tree_host.specs.Holds.{Holds, hold_count, held_more, held_less, is_held}
 use Rattle.tree_host.specs.Host.{IsHeldIn}
-use Rattle.tree_host.specs.Kept.{tree_from}
 
 or_true : (b : Bool) → (b || true) ≡ true
 or_true true = refl
@@ -108,3 +107,25 @@ new_held limits moment born mode uid gid = record {
   stored = λ q held. absurd (false≢true (ap (λ o. nat_lt 0 (unwrap_or o 0)) (sym (get-empty nat_cmp q)) ∙ held));
   positive = λ i n at. absurd (let none : get {X = ℕ} {R = nat_cmp} empty i ≡ None = get-empty nat_cmp i in cc);
 }
+
+-- ---- counts after a hold more or less
+
+pub hold_count-more : (h : Holds) (i : ℕ) → hold_count (held_more h i) i ≡ hold_count h i + 1
+hold_count-more h i = ap (λ o. unwrap_or o 0) (inserted h i (hold_count h i + 1))
+
+less_count_by : (b : Bool) (h : Holds) (i : ℕ) → nat_lt 1 (hold_count h i) ≡ b → hold_count (cond b (insert h i (hold_count h i - 1)) (remove h i)) i ≡ hold_count h i - 1
+less_count_by true h i is = ap (λ o. unwrap_or o 0) (inserted h i (hold_count h i - 1))
+less_count_by false h i is = let none = ap (λ o. unwrap_or o 0) (removed h i) in let few : hold_count h i ≤ 1 = grind (arith, nat_tests) in omega arith
+
+pub hold_count-less : (h : Holds) (i : ℕ) → hold_count (held_less h i) i ≡ hold_count h i - 1
+hold_count-less h i = less_count_by (nat_lt 1 (hold_count h i)) h i refl
+
+pub hold_count-empty : (i : ℕ) → hold_count empty i ≡ 0
+hold_count-empty i = ap (λ o. unwrap_or o 0) (get-empty nat_cmp i)
+
+-- a hold more adds at most one to each count
+pub hold_count-more_le : (h : Holds) (i q : ℕ) → hold_count (held_more h i) q ≤ hold_count h q + 1
+hold_count-more_le h i q = ⊎_elim
+    (λ is. subst (λ q. hold_count (held_more h i) q ≤ hold_count h q + 1) (sym is) (let one = hold_count-more h i in omega arith))
+    (λ ne. let same : hold_count (held_more h i) q ≡ hold_count h q = ap (λ o. unwrap_or o 0) (insert_keeps h i (hold_count h i + 1) q ne) in omega arith)
+    (cases_eq q i)

@@ -1,5 +1,5 @@
 -- A walk along the parts of a path as it is split at slashes, of which some may be empty.
-use Rattle.std.specs.Prelude.{ℕ, List, [], ◌∷◌, length, Bool, Result, Ok, Err, if◌then◌else◌, ◌==◌, false}
+use Rattle.std.specs.Prelude.{ℕ, List, [], ◌∷◌, length, Result, Ok, Err, if◌then◌else◌, ◌==◌, false}
 use Rattle.std.specs.List.{slice_split}
 use Rattle.tree_model.specs.Tree.{Records, body_at, top}
 use Rattle.tree_model.specs.Finding.{entries_at, ino_among, directory_or_not}

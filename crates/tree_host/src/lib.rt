@@ -2,12 +2,12 @@
 #![tactic(auto)]
 
 pub mod entry;
-pub mod host;
 mod holds;
+pub mod host;
+pub mod laws;
 pub mod memory;
 mod node;
 mod nodes;
-
 #[cfg(test)]
 mod tests;
 

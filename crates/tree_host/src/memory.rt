@@ -7,8 +7,8 @@ ghost use Rattle.tree_host.specs.Kept.{tree_from};
 mod readers;
 
 use crate::entry::Entry;
-use crate::host::Host;
 use crate::holds::{hold, lower};
+use crate::host::Host;
 use crate::node::{Node, TOP};
 use crate::nodes::{add_node, entry_after, find_in, refusal, sweep, walk};
 use port_base::errno::{EFBIG, ENOENT};
@@ -55,7 +55,15 @@ impl TreeHost {
 
     /// A tree of the top directory alone, inode 1, whose times are `born`. What is added is born then too,
     /// and what changes is stamped with `moment`.
-    pub fn new(alloc: Global, limits: Limits, moment: Stamp, born: Stamp, mode: u32, uid: u32, gid: u32) -> Result<TreeHost, NoMemory>
+    pub fn new(
+        alloc: Global,
+        limits: Limits,
+        moment: Stamp,
+        born: Stamp,
+        mode: u32,
+        uid: u32,
+        gid: u32,
+    ) -> Result<TreeHost, NoMemory>
         requires limits { IsGoodLimits limits }
         requires moment { IsGoodStamp moment }
         requires born { IsGoodStamp born }
@@ -100,16 +108,27 @@ impl TreeHost {
         ensures born { self.new.born ≡ self.old.born }
     {
         match item {
-            NewItem::File { mode, uid, gid, bytes } => self.add_file(dir, name, mode, uid, gid, bytes),
+            NewItem::File {
+                mode,
+                uid,
+                gid,
+                bytes,
+            } => self.add_file(dir, name, mode, uid, gid, bytes),
         }
     }
 
-    fn add_file(&mut self, dir: u64, name: &[u8], mode: u32, uid: u32, gid: u32, bytes: &[u8]) -> Result<u64, HostError>
+    fn add_file(
+        &mut self,
+        dir: u64,
+        name: &[u8],
+        mode: u32,
+        uid: u32,
+        gid: u32,
+        bytes: &[u8],
+    ) -> Result<u64, HostError>
         requires named { name_fault name.now ≡ None }
         requires mode { mode < 4096 }
-        ensures leaves {
-            Leaves (add_file_of self.old.born (tree self.old) dir name.now (new_file mode uid gid bytes.now)) (tree self.old) (tree self.new) result
-        }
+        ensures leaves { Leaves (add_file_of self.old.born (tree self.old) dir name.now (new_file mode uid gid bytes.now)) (tree self.old) (tree self.new) result }
         ensures holds { holds self.new ≡ holds self.old }
         ensures fault { result ≢ Err HostError.Fault }
         ensures faults { self.new.faults ≡ self.old.faults }

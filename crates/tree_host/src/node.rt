@@ -82,7 +82,13 @@ fn copy_part(bytes: &[u8], offset: u64, buf: &mut [u8]) -> usize
     count
 }
 
-fn push_name(alloc: Global, entries: &mut Vec<Name>, cookie: u64, name: &[u8], ino: u64) -> Result<(), AllocError>
+fn push_name(
+    alloc: Global,
+    entries: &mut Vec<Name>,
+    cookie: u64,
+    name: &[u8],
+    ino: u64,
+) -> Result<(), AllocError>
     ensures ok { OnOk result (entries.new.items ≡ entries.old.items ++ record { cookie = cookie; name = name.now; ino = ino } ∷ []) }
     ensures err { OnErr result (entries.new.items ≡ entries.old.items) }
 {
@@ -123,12 +129,16 @@ impl Model for Node {
 
     ghost Value = { Record };
 
-    ghost view = {
-        λ a. record {
-            body = body_of a.body; mode = a.mode; uid = a.uid; gid = a.gid; links = a.links;
-            atime = a.atime; mtime = a.mtime; ctime = a.ctime
-        }
-    };
+    ghost view = { λ a. record {
+      body = body_of a.body;
+      mode = a.mode;
+      uid = a.uid;
+      gid = a.gid;
+      links = a.links;
+      atime = a.atime;
+      mtime = a.mtime;
+      ctime = a.ctime;
+    } };
 }
 
 impl Node {
@@ -153,7 +163,14 @@ impl Node {
     }
 
     /// A file that one entry names.
-    pub fn file(alloc: Global, mode: u32, uid: u32, gid: u32, bytes: &[u8], born: Stamp) -> Result<Self, AllocError>
+    pub fn file(
+        alloc: Global,
+        mode: u32,
+        uid: u32,
+        gid: u32,
+        bytes: &[u8],
+        born: Stamp,
+    ) -> Result<Self, AllocError>
         ensures { IfOk result (λ node. node ≡ file_record born (record { mode = mode; uid = uid; gid = gid; bytes = bytes.now })) }
     {
         let bytes = Vec::from_slice(alloc, bytes)?;

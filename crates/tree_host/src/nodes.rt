@@ -13,8 +13,8 @@ ghost use Rattle.tree_host.specs.Kept.{tree_from};
 ghost use Rattle.tree_model.specs.declared.attributes.Limits.{Limits};
 ghost use Rattle.tree_model.specs.declared.attributes.Stamp.{Stamp};
 
-use crate::holds::is_held;
 use crate::entry::Entry;
+use crate::holds::is_held;
 use crate::node::{Name, Node, TOP};
 use port_base::errno::ENOTDIR;
 use port_base::table::Table;
@@ -109,7 +109,13 @@ fn take_away(nodes: &mut Table<Node>, ino: u64)
     nodes.remove(ino);
 }
 
-fn push_into(alloc: Global, nodes: &mut Table<Node>, dir: u64, name: &[u8], ino: u64) -> Result<(), AllocError>
+fn push_into(
+    alloc: Global,
+    nodes: &mut Table<Node>,
+    dir: u64,
+    name: &[u8],
+    ino: u64,
+) -> Result<(), AllocError>
     requires room { unwrap_or (option_map next_cookie (body_at nodes.old dir)) 0 < 2 ^ 64 - 1 }
     ensures ok { OnOk result (nodes.new ≡ change (joined_by name.now ino) nodes.old dir) }
     ensures err { OnErr result (nodes.new ≡ nodes.old) }
@@ -121,7 +127,14 @@ fn push_into(alloc: Global, nodes: &mut Table<Node>, dir: u64, name: &[u8], ino:
 }
 
 /// Adds a record with an entry for it. What was added is taken away again where memory is wanted.
-pub fn add_node(alloc: Global, nodes: &mut Table<Node>, dir: u64, name: &[u8], ino: u64, node: Node) -> Result<(), AllocError>
+pub fn add_node(
+    alloc: Global,
+    nodes: &mut Table<Node>,
+    dir: u64,
+    name: &[u8],
+    ino: u64,
+    node: Node,
+) -> Result<(), AllocError>
     requires room { unwrap_or (option_map next_cookie (body_at nodes.old dir)) 0 < 2 ^ 64 - 1 }
     requires apart { dir ≢ ino }
     requires fresh { map.get nodes.old ino ≡ None }
@@ -153,7 +166,12 @@ fn shown(alloc: Global, nodes: &Table<Node>, entry: &Name) -> Result<Option<Entr
 }
 
 /// The first entry of a directory above a cookie.
-pub fn entry_after(alloc: Global, nodes: &Table<Node>, dir: u64, cookie: u64) -> Result<Option<Entry>, HostError>
+pub fn entry_after(
+    alloc: Global,
+    nodes: &Table<Node>,
+    dir: u64,
+    cookie: u64,
+) -> Result<Option<Entry>, HostError>
     ensures answer { Answers (entry_after_among nodes.now cookie (entries_at nodes.now dir)) result }
     ensures fault { result ≢ Err HostError.Fault }
 {

@@ -1,4 +1,6 @@
-ghost use Rattle.std.specs.Prelude.{◌≡◌};
+ghost use Rattle.std.specs.Prelude.{◌≡◌, ◌<◌, ◌-◌, ◌^◌, ℕ, None};
+ghost use Rattle.port_base.specs.Names.{name_fault};
+ghost use Rattle.tree_host.specs.Holds.{hold_count};
 ghost use Rattle.tree_host.specs.TreeHosts.{holds};
 
 use crate::{Host, NewItem, TreeHost};
@@ -82,5 +84,44 @@ fn files_are_added_and_read(rt: HostRuntime) -> Result<(), Fail> {
     assert_eq!(rt; host.peek_entry(1, 0), Some((1, 2, b"hello".as_slice())));
     assert_eq!(rt; host.peek_entry(1, 1), Some((2, 3, b"b".as_slice())));
     assert_eq!(rt; host.peek_entry(1, 2), None);
+    Ok(())
+}
+
+// Looks a name up, holds what it names twice, asks what it is, and lets go of it.
+fn told<H: Host>(host: &mut H, dir: u64, name: &[u8]) -> Result<Attr, HostError>
+    requires held { 0 < hold_count (H.holds host.old) dir }
+    requires named { name_fault name.now ≡ None }
+    requires room { (i : ℕ) → hold_count (H.holds host.old) i < 2 ^ 64 - 2 }
+{
+    let ino = host.lookup(dir, name)?;
+    host.hold_again(ino)?;
+    let attr = host.stat(ino)?;
+    host.release(ino);
+    host.release(ino);
+    Ok(attr)
+}
+
+#[test]
+fn files_are_held_and_released(rt: HostRuntime) -> Result<(), Fail> {
+    let limits = Limits {
+        file: 8,
+        entries: 2,
+        links: 10,
+    };
+    let moment = Stamp { sec: 9, nsec: 0 };
+    let mut host = TreeHost::new(rt.alloc(), limits, moment, BORN, 0o755, 1, 2)?;
+    assert_eq!(rt; add(&rt, &mut host, b"hello", b"world"), Ok(2));
+    let root = host.attach_path(b"/")?;
+    assert_eq!(rt; root, 1);
+    let Some(entry) = host.entry_after(root, 0)? else {
+        return Err("no entry")?;
+    };
+    assert_eq!(rt; entry.cookie(), 1);
+    assert_eq!(rt; entry.name(), b"hello".as_slice());
+    assert_eq!(rt; entry.attr(), shown(2, 5));
+    let name = b"hello".as_slice();
+    assert!(rt; name_fault(name).is_none());
+    assert_eq!(rt; told(&mut host, root, name), Ok(shown(2, 5)));
+    assert_eq!(rt; host.record_after(1), Some(shown(2, 5)));
     Ok(())
 }

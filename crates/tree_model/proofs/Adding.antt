@@ -1,20 +1,20 @@
 -- A good tree with a record more, and an entry for it, is good.
-use Rattle.std.proofs.Common.{◌≡◌, ◌≢◌, ℕ, zero, suc, ◌+◌, ◌<◌, ◌≤◌, Bool, true, false, cond, not, ◌||◌, List, [], ◌∷◌, ◌++◌, length, refl, sym, ap, ◌∙◌, subst, Option, Some, None, ◌⊎◌, inl, inr, ⊎_elim, arith, IsSome, IsTrue, nat_lt, get_or}
+use Rattle.std.proofs.Common.{◌≡◌, ◌≢◌, ℕ, zero, suc, ◌+◌, ◌<◌, ◌≤◌, Bool, true, false, cond, ◌||◌, List, [], ◌∷◌, ◌++◌, length, refl, sym, ap, ◌∙◌, subst, Option, Some, None, inl, inr, ⊎_elim, arith, IsSome, IsTrue, nat_lt, get_or}
 use Rattle.std.specs.Prelude.{◌==◌, option_map, IfSome, Contains}
 use Rattle.std.proofs.Math.Logic.{∥∥₁_map, ∥∥₁_elim}
 use Rattle.std.proofs.Props.{props}
 use Rattle.std.proofs.lemmas.Bool.{cases_eq, false≢true}
 use Rattle.std.proofs.lemmas.Bool.Decides.{nat_tests}
 use Rattle.std.proofs.lemmas.List.Elements.{Contains-append_cases}
-use Rattle.std.specs.FinMap.{FinMap, get, insert}
+use Rattle.std.specs.FinMap.{get, insert}
 use Rattle.tree_model.specs.Tree.{Tree, Record, Records, Body, Entry, top, listed, is_directory, is_directory_at, name_count, names_in, is_linked, count_names, weight}
 use Rattle.tree_model.specs.Tree.Body.{File, Directory, Link}
 use Rattle.tree_model.specs.Good.{IsAt, IsGoodRecord, IsGoodTree, Climbs, links_of}
 use Rattle.tree_model.specs.Sound.{IsKept, AreStored}
-use Rattle.tree_model.specs.Making.{with_entries, next_cookie, changed, change, joined_by}
+use Rattle.tree_model.specs.Making.{with_entries, next_cookie, joined_by}
 use Rattle.tree_model.proofs.Maps.{inserted, insert_keeps}
 use Rattle.tree_model.proofs.Counting.{weigh-insert}
-use Rattle.tree_model.proofs.Naming.{named_is_stored, top_is_unnamed}
+use Rattle.tree_model.proofs.Naming.{named_is_stored}
 use Rattle.tree_model.proofs.Keeping.{climb_goes_on}
 use Rattle.tree_model.proofs.Bodies.{shows_links, with_entries-is_directory, with_entries-listed, with_entries-above, same_some}
 
@@ -116,9 +116,9 @@ module _ (t : Tree) (g : IsGoodTree t) (dir : ℕ) (name : List ℕ) (d d' f : R
   by_place P here there other q x is = ⊎_elim
       (λ eq. let same = same_some f x (sym at_next ∙ sym (ap (get made) eq) ∙ is) in subst (λ q. P q x) (sym eq) (subst (P next) same here))
       (λ ne. ⊎_elim
-        (λ eq. let same = same_some d' x (sym at_dir ∙ sym (ap (get made) eq) ∙ is) in subst (λ q. P q x) (sym eq) (subst (P dir) same there))
-        (λ nd. other q x ne nd (sym (at_other q ne nd) ∙ is))
-        (cases_eq q dir))
+      (λ eq. let same = same_some d' x (sym at_dir ∙ sym (ap (get made) eq) ∙ is) in subst (λ q. P q x) (sym eq) (subst (P dir) same there))
+      (λ nd. other q x ne nd (sym (at_other q ne nd) ∙ is))
+      (cases_eq q dir))
       (cases_eq q next)
 
   stored : (q : ℕ) → IsSome (get rs q) → IsSome (get made q)
@@ -145,13 +145,19 @@ module _ (t : Tree) (g : IsGoodTree t) (dir : ℕ) (name : List ℕ) (d d' f : R
   climbs_on (suc n) i c = ⊎_elim
       (λ is. inl is)
       (λ s. ⊎_elim
-        (λ eq.
-          let same : d ≡ s.0 = same_some d s.0 (sym w.at ∙ sym (ap (get rs) eq) ∙ s.4) in
-          inr (d', listed d.body ++ entry ∷ [], next_cookie d.body + 1, s.3, ap (get made) eq ∙ at_dir,
-            w.joined ∙ body_of_dir d.body s.1 s.2 s.3 (ap (λ (r : Record). r.body) same ∙ s.5) (listed d.body ++ entry ∷ []) (next_cookie d.body + 1),
-            climbs_on n s.3 s.6))
-        (λ nd. inr (s.0, s.1, s.2, s.3, at_other i (not_new i s.0 s.4) nd ∙ s.4, s.5, climbs_on n s.3 s.6))
-        (cases_eq i dir))
+      (λ eq.
+      let same : d ≡ s.0 = same_some d s.0 (sym w.at ∙ sym (ap (get rs) eq) ∙ s.4) in
+      inr (
+        d',
+        listed d.body ++ entry ∷ [],
+        next_cookie d.body + 1,
+        s.3,
+        ap (get made) eq ∙ at_dir,
+        w.joined ∙ body_of_dir d.body s.1 s.2 s.3 (ap (λ (r : Record). r.body) same ∙ s.5) (listed d.body ++ entry ∷ []) (next_cookie d.body + 1),
+        climbs_on n s.3 s.6,
+      ))
+      (λ nd. inr (s.0, s.1, s.2, s.3, at_other i (not_new i s.0 s.4) nd ∙ s.4, s.5, climbs_on n s.3 s.6))
+      (cases_eq i dir))
       c
 
   -- what is above a linked directory is stored
@@ -171,8 +177,8 @@ module _ (t : Tree) (g : IsGoodTree t) (dir : ℕ) (name : List ℕ) (d d' f : R
     by_climb (suc k) c = ⊎_elim
         (λ is. absurd (ne is))
         (λ s.
-          let same = higher (s.0, s.1, s.2, s.3, s.4, s.5) in
-          subst (λ j. IsSome (get rs j)) same (⊎_elim (λ is. subst (λ j. IsSome (get rs j)) (sym is) top_stored) (λ had. had) (climb_goes_on rs k s.3 s.6)))
+        let same = higher (s.0, s.1, s.2, s.3, s.4, s.5) in
+        subst (λ j. IsSome (get rs j)) same (⊎_elim (λ is. subst (λ j. IsSome (get rs j)) (sym is) top_stored) (λ had. had) (climb_goes_on rs k s.3 s.6)))
         c
 
   names_more : (q : ℕ) → names_in q d ≤ names_in q d'
@@ -191,10 +197,10 @@ module _ (t : Tree) (g : IsGoodTree t) (dir : ℕ) (name : List ℕ) (d d' f : R
   still_above : (q up : ℕ) → IsSome (get rs up) → IfSome (get rs up) (λ x. 1 ≤ names_in q x) → IfSome (get made up) (λ x. 1 ≤ names_in q x)
   still_above q up had names = ⊎_elim
       (λ eq.
-        let was : 1 ≤ names_in q d = subst (λ o. IfSome o (λ x. 1 ≤ names_in q x)) (ap (get rs) eq ∙ w.at) names in
-        let more = names_more q in
-        let now : 1 ≤ names_in q d' = omega arith in
-        subst (λ o. IfSome o (λ x. 1 ≤ names_in q x)) (sym (ap (get made) eq ∙ at_dir)) now)
+      let was : 1 ≤ names_in q d = subst (λ o. IfSome o (λ x. 1 ≤ names_in q x)) (ap (get rs) eq ∙ w.at) names in
+      let more = names_more q in
+      let now : 1 ≤ names_in q d' = omega arith in
+      subst (λ o. IfSome o (λ x. 1 ≤ names_in q x)) (sym (ap (get made) eq ∙ at_dir)) now)
       (λ nd. subst (λ o. IfSome o (λ x. 1 ≤ names_in q x)) (sym (at_other up (λ is. false≢true (subst IsSome (ap (get rs) is ∙ free) had)) nd)) names)
       (cases_eq up dir)
 
@@ -206,11 +212,11 @@ module _ (t : Tree) (g : IsGoodTree t) (dir : ℕ) (name : List ℕ) (d d' f : R
     new_entries e c = ⊎_elim
         (λ old. let had = g.entries dir d e w.at old in (stored e.ino had.0, had.1))
         (λ new. let same : e ≡ entry = by_last e new.0 new.1 new.2 in
-          (subst (λ (e : Entry). IsSome (get made e.ino)) (sym same) (subst IsSome (sym at_next) refl), λ is. let b = beyond in let one : next ≡ top = sym (ap (λ (e : Entry). e.ino) same) ∙ is in absurd (omega arith)))
+        (subst (λ (e : Entry). IsSome (get made e.ino)) (sym same) (subst IsSome (sym at_next) refl), λ is. let b = beyond in let one : next ≡ top = sym (ap (λ (e : Entry). e.ino) same) ∙ is in absurd (omega arith)))
         (Contains-append_cases (listed d.body) (entry ∷ []) e (subst (λ es. Contains es e) lists_more c)) where
-      by_last : (e : Entry) (k : ℕ) → k < length (entry ∷ []) → get_or (entry ∷ []) k e ≡ e → e ≡ entry
-      by_last e zero low is = sym is
-      by_last e (suc k) low is = absurd (omega arith)
+          by_last : (e : Entry) (k : ℕ) → k < length (entry ∷ []) → get_or (entry ∷ []) k e ≡ e → e ≡ entry
+          by_last e zero low is = sym is
+          by_last e (suc k) low is = absurd (omega arith)
 
     pub added_good : IsGoodTree (record t { records = made; next = t.next + 1 })
     added_good = record {
@@ -235,12 +241,12 @@ module _ (t : Tree) (g : IsGoodTree t) (dir : ℕ) (name : List ℕ) (d d' f : R
       above = λ q x es n up at is live ne. by_place (λ q x. (es : List Entry) (n up : ℕ) → x.body ≡ Directory es n up → IsTrue (is_linked made q) → q ≢ top → IfSome (get made up) (λ x. 1 ≤ names_in q x))
           (λ es n up is live ne. subst (λ up. IfSome (get made up) (λ x. 1 ≤ names_in next x)) (sym (w.under es n up is)) below_dir)
           (λ es n up is live ne.
-            let old = same_above es n up is in
-            let was = sym (same_linked dir apart) ∙ live in
-            still_above dir up (above_stored dir d old.0 old.1 up w.at old.2 was ne) (g.above dir d old.0 old.1 up w.at old.2 was ne))
+          let old = same_above es n up is in
+          let was = sym (same_linked dir apart) ∙ live in
+          still_above dir up (above_stored dir d old.0 old.1 up w.at old.2 was ne) (g.above dir d old.0 old.1 up w.at old.2 was ne))
           (λ q x nn nd at es n up is live ne.
-            let was = sym (same_linked q nn) ∙ live in
-            still_above q up (above_stored q x es n up at is was ne) (g.above q x es n up at is was ne))
+          let was = sym (same_linked q nn) ∙ live in
+          still_above q up (above_stored q x es n up at is was ne) (g.above q x es n up at is was ne))
           q x at es n up is live ne;
       climbs = by_place (λ q x. IsTrue (is_directory x.body) → IsTrue (is_linked made q) → ∥ ((n : ℕ) × Climbs made n q) ∥₁)
           (λ is live. ∥∥₁_map (g.climbs dir d w.at w.directory w.live) (λ c. new_climb f.body refl is c.0 c.1))

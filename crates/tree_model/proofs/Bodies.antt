@@ -1,6 +1,6 @@
 -- What the kinds of bodies list, and how many links they show.
-use Rattle.std.proofs.Common.{◌≡◌, ◌≢◌, ℕ, zero, suc, ◌+◌, ◌<◌, ◌≤◌, Bool, true, false, cond, List, [], ◌∷◌, ◌++◌, length, refl, sym, ap, ◌∙◌, subst, Option, Some, None, arith, bytes_eq, IsSome, IsTrue}
-use Rattle.std.specs.Prelude.{find as first_where, slice_index_or, All, AllPairs}
+use Rattle.std.proofs.Common.{◌≡◌, ◌≢◌, ℕ, zero, suc, ◌+◌, ◌<◌, Bool, true, false, cond, List, [], ◌∷◌, ◌++◌, length, refl, sym, ap, ◌∙◌, Some, None, arith, bytes_eq}
+use Rattle.std.specs.Prelude.{slice_index_or}
 use Rattle.std.proofs.lemmas.Bool.{false≢true}
 use Rattle.std.proofs.lemmas.List.Elements.{All-push}
 use Rattle.std.proofs.lemmas.List.Quantifiers.{all_pairs_push}
@@ -66,7 +66,7 @@ pub good_joined : (b : Body) (name : List ℕ) (ino : ℕ) → is_directory b �
 good_joined (File bytes) name ino is good fine none = absurd (false≢true is)
 good_joined (Link target) name ino is good fine none = absurd (false≢true is)
 good_joined (Directory es next above) name ino is good fine none = (
-    CookiesRise-push 1 es next _ refl good.0,
-    All-push (λ e. name_fault e.name ≡ None) es _ good.1 fine,
-    all_pairs_push (λ e f. e.name ≢ f.name) es _ good.2 (λ k d low. named_none name es none k d low),
-  )
+  CookiesRise-push 1 es next _ refl good.0,
+  All-push (λ e. name_fault e.name ≡ None) es _ good.1 fine,
+  all_pairs_push (λ e f. e.name ≢ f.name) es _ good.2 (λ k d low. named_none name es none k d low),
+)

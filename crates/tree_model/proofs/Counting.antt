@@ -1,13 +1,13 @@
 -- How many entries name an inode, after a change of one record.
-use Rattle.std.proofs.Common.{◌⊎◌, ⊎_elim, zero, ◌≡◌, ◌≢◌, ℕ, suc, ◌+◌, ◌-◌, ◌<◌, ◌≤◌, Bool, true, false, cond, not, List, [], ◌∷◌, length, refl, sym, ap, ◌∙◌, subst, Option, Some, None, Ordering, arith, ◌&&◌}
+use Rattle.std.proofs.Common.{⊎_elim, zero, ◌≡◌, ◌≢◌, ℕ, suc, ◌+◌, ◌<◌, Bool, true, false, cond, List, [], ◌∷◌, refl, sym, ap, ◌∙◌, subst, Option, Some, None, Ordering, arith, ◌&&◌}
 use Rattle.std.specs.Prelude.{T}
 use Rattle.std.specs.declared.cmp.Ordering.TheVariants.{Less, Equal, Greater}
-use Rattle.std.specs.Ordering.{nat_cmp, eq_by_cmp, is_eq, is_lt}
-use Rattle.std.specs.Cmp.{IsTotalOrder, nat_cmp_total}
+use Rattle.std.specs.Ordering.{nat_cmp, is_eq, is_lt}
+use Rattle.std.specs.Cmp.{nat_cmp_total}
 use Rattle.tree_model.proofs.Maps.{at_itself, apart, inserted, insert_keeps, removed, remove_keeps, same_by}
 use Rattle.std.proofs.lemmas.Bool.{cases_eq}
 use Rattle.tree_model.specs.Tree.{weigh, weight}
-use Rattle.std.specs.FinMap.{FinMap, get, insert, remove, find, put, is_sorted, entries, entries_sorted, entries-insert, get-entries, get-insert, get-remove, same_map, nat_cmp-IsAntisymmetric, empty, get-empty}
+use Rattle.std.specs.FinMap.{FinMap, get, insert, remove, find, put, is_sorted, entries, entries_sorted, entries-insert, get-entries, empty, get-empty}
 
 both : (a b : Bool) → T a → T b → T (a && b)
 both true b p q = q
@@ -43,10 +43,10 @@ weigh-put : {X : Type 0} (w : X → ℕ) (k : ℕ) (v : X) (es : List (ℕ × X)
 weigh-put w k v [] h = omega arith
 weigh-put w k v (e ∷ es) h =
     let cases = λ (r : Ordering) (p : nat_cmp k e.0 ≡ r). (elim r as (λ r. nat_cmp k e.0 ≡ r → weigh w (put nat_cmp k v (e ∷ es)) + weight w (find nat_cmp k (e ∷ es)) ≡ weigh w (e ∷ es) + w v) [
-        | Less ↦ λ p. let none : find nat_cmp k es ≡ None = find_below k es (below_less k e.0 es p (first _ _ h)) in rw (p, none) (omega arith)
-        | Equal ↦ λ p. rw p (omega arith)
-        | Greater ↦ λ p. let rest = weigh-put w k v es (second _ _ h) in rw p (omega arith)
-      ]) p in
+      | Less ↦ λ p. let none : find nat_cmp k es ≡ None = find_below k es (below_less k e.0 es p (first _ _ h)) in rw (p, none) (omega arith)
+      | Equal ↦ λ p. rw p (omega arith)
+      | Greater ↦ λ p. let rest = weigh-put w k v es (second _ _ h) in rw p (omega arith)
+    ]) p in
     cases (nat_cmp k e.0) refl
 
 -- the weight of all records after one changed
@@ -67,18 +67,19 @@ weigh-remove w m k v had =
     let step = weigh-insert w (remove m k) k v in
     omega arith
 
-module _ {X : Type 0} (w : X → ℕ) where
+module _ {X : Type 0} where
   -- a value that is found, or is not the first
-  find_first : (e : ℕ × X) (es : List (ℕ × X)) → find nat_cmp e.0 (e ∷ es) ≡ Some e.1
+  pub find_first : (e : ℕ × X) (es : List (ℕ × X)) → find nat_cmp e.0 (e ∷ es) ≡ Some e.1
   find_first e es = ap (λ b. cond b (Some e.1) (find nat_cmp e.0 es)) (at_itself e.0)
 
-  find_later : (e : ℕ × X) (es : List (ℕ × X)) (q : ℕ) → q ≢ e.0 → find nat_cmp q (e ∷ es) ≡ find nat_cmp q es
+  pub find_later : (e : ℕ × X) (es : List (ℕ × X)) (q : ℕ) → q ≢ e.0 → find nat_cmp q (e ∷ es) ≡ find nat_cmp q es
   find_later e es q ne = ap (λ b. cond b (Some e.1) (find nat_cmp q es)) (apart q e.0 ne)
 
   -- the values after the first, at the first one's key
-  none_later : (e : ℕ × X) (es : List (ℕ × X)) → T (is_sorted nat_cmp (e ∷ es)) → find nat_cmp e.0 es ≡ None
+  pub none_later : (e : ℕ × X) (es : List (ℕ × X)) → T (is_sorted nat_cmp (e ∷ es)) → find nat_cmp e.0 es ≡ None
   none_later e es h = find_below e.0 es (first _ _ h)
 
+module _ {X : Type 0} (w : X → ℕ) where
   -- where nothing weighs anything, all weigh nothing
   weigh-none : (es : List (ℕ × X)) → T (is_sorted nat_cmp es) → ((q : ℕ) → weight w (find nat_cmp q es) ≡ 0) → weigh w es ≡ 0
   weigh-none [] h z = refl
@@ -116,11 +117,13 @@ module _ {X : Type 0} (w : X → ℕ) where
   weighs_in (e ∷ es) h many = by_first (λ more. weighs_in es (second _ _ h) more) (w e.1) refl where
     by_first : (0 < weigh w es → (q : ℕ) × (0 < weight w (find nat_cmp q es))) → (n : ℕ) → w e.1 ≡ n → (q : ℕ) × (0 < weight w (find nat_cmp q (e ∷ es)))
     by_first later zero is =
-        let rest = later (omega arith) in
-        (rest.0, ⊎_elim
-            (λ eq. absurd (let none : weight w (find nat_cmp rest.0 es) ≡ 0 = ap (λ q. weight w (find nat_cmp q es)) eq ∙ ap (weight w) (none_later e es h) in let some = rest.1 in omega arith))
-            (λ ne. subst (λ n. 0 < n) (ap (weight w) (sym (find_later e es rest.0 ne))) rest.1)
-            (cases_eq rest.0 e.0))
+        let rest = later (omega arith) in (
+          rest.0,
+          ⊎_elim
+              (λ eq. absurd (let none : weight w (find nat_cmp rest.0 es) ≡ 0 = ap (λ q. weight w (find nat_cmp q es)) eq ∙ ap (weight w) (none_later e es h) in let some = rest.1 in omega arith))
+              (λ ne. subst (λ n. 0 < n) (ap (weight w) (sym (find_later e es rest.0 ne))) rest.1)
+              (cases_eq rest.0 e.0),
+        )
     by_first later (suc n) is = (e.0, subst (λ n. 0 < n) (ap (weight w) (sym (find_first e es))) (omega arith))
 
   -- where all weigh something, the value at some key does

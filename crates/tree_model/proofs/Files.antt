@@ -1,27 +1,27 @@
 -- A good tree with a file more is good, and so is a new tree.
-use Rattle.std.proofs.Common.{◌≡◌, ◌≢◌, ℕ, zero, suc, ◌+◌, ◌-◌, ◌^◌, ◌<◌, ◌≤◌, Bool, true, false, cond, not, ◌||◌, List, [], ◌∷◌, ◌++◌, length, refl, sym, ap, ◌∙◌, subst, Option, Some, None, Result, Ok, Err, ◌⊎◌, inl, inr, ⊎_elim, arith, IsSome, IsTrue, nat_lt, unwrap_or}
-use Rattle.std.specs.Prelude.{◌==◌, option_map, is_some, nat_le, IfSome, Contains}
+use Rattle.std.proofs.Common.{◌≡◌, ◌≢◌, ℕ, zero, ◌+◌, ◌-◌, ◌^◌, ◌<◌, ◌≤◌, Bool, true, false, cond, not, ◌||◌, List, [], length, refl, sym, ap, ◌∙◌, subst, Option, Some, None, Ok, ⊎_elim, arith, IsSome, IsTrue, nat_lt}
+use Rattle.std.specs.Prelude.{option_map, is_some, nat_le, Contains}
 use Rattle.std.proofs.lemmas.Bool.{cases_eq, false≢true}
 use Rattle.std.proofs.lemmas.Bool.Decides.{nat_tests}
 use Rattle.std.proofs.lemmas.Grind.{merely}
 use Rattle.std.specs.Ordering.{nat_cmp}
-use Rattle.std.specs.FinMap.{FinMap, get, insert, empty, get-empty}
+use Rattle.std.specs.FinMap.{get, insert, empty, get-empty}
 use Rattle.port_base.specs.Names.{name_fault}
 use Rattle.port_base.specs.declared.errno.TheConstants.{ENOENT, EEXIST, ENOTDIR, EFBIG, ENOSPC}
 use Rattle.tree_model.specs.declared.attributes.Stamp.{Stamp}
 use Rattle.tree_model.specs.declared.attributes.Limits.{Limits}
-use Rattle.tree_model.specs.Tree.{Tree, Record, Records, Body, Entry, top, body_at, listed, is_directory, is_directory_at, name_count, names_in, is_linked, count_names, weight, keep}
-use Rattle.tree_model.specs.Tree.Body.{File, Directory, Link}
+use Rattle.tree_model.specs.Tree.{Tree, Record, Records, Entry, top, body_at, listed, is_directory, is_directory_at, name_count, names_in, is_linked, weight}
+use Rattle.tree_model.specs.Tree.Body.{Directory}
 use Rattle.tree_model.specs.Good.{IsAt, IsGoodStamp, IsGoodLimits, IsGoodRecord, IsGoodTree, Climbs, links_of}
-use Rattle.tree_model.specs.Sound.{IsCounted, IsKept, AreStored, has_no_links}
+use Rattle.tree_model.specs.Sound.{IsCounted, AreStored, has_no_links}
 use Rattle.tree_model.specs.Finding.{entry_named}
-use Rattle.tree_model.specs.Making.{new_tree, with_entries, next_cookie, changed, change, joined_by, is_full, new_name_refused, NewFile, file_record, add_refused, with_file, add_file_of, add_file_unless}
+use Rattle.tree_model.specs.Making.{new_tree, next_cookie, changed, joined_by, is_full, new_name_refused, NewFile, file_record, add_refused, with_file, add_file_unless}
 use Rattle.tree_model.proofs.Maps.{inserted, insert_keeps}
 use Rattle.tree_model.proofs.Counting.{weigh-insert, weigh-empty}
 use Rattle.tree_model.proofs.Naming.{named_is_stored}
 use Rattle.tree_model.proofs.Sweeping.{no_links}
 use Rattle.tree_model.proofs.Bodies.{good_joined, same_some}
-use Rattle.tree_model.proofs.Adding.{IsAdded, mid_dir, added_good, added_kept, added_stored}
+use Rattle.tree_model.proofs.Adding.{IsAdded, mid_dir, added_good}
 
 -- ---- what is known where a new name is let in
 

@@ -1,12 +1,11 @@
 -- A good tree stays good where records go that are not linked.
-use Rattle.std.proofs.Common.{◌≡◌, ◌≢◌, ℕ, zero, suc, ◌+◌, ◌<◌, ◌≤◌, Bool, true, false, cond, not, ◌&&◌, ◌||◌, List, [], ◌∷◌, refl, sym, ap, ◌∙◌, subst, Option, Some, None, ◌⊎◌, inl, inr, ⊎_elim, arith, IsSome, IsTrue, nat_lt}
+use Rattle.std.proofs.Common.{◌≡◌, ℕ, zero, suc, ◌<◌, ◌≤◌, Bool, true, false, cond, ◌||◌, refl, sym, ap, ◌∙◌, subst, Option, Some, None, ◌⊎◌, inl, inr, ⊎_elim, arith, IsSome, nat_lt}
 use Rattle.std.specs.Prelude.{◌==◌, option_map, IfSome}
 use Rattle.std.proofs.Math.Logic.{∥∥₁_map}
 use Rattle.std.proofs.lemmas.Bool.{cases_eq, false≢true}
 use Rattle.std.proofs.lemmas.Bool.Decides.{nat_tests}
-use Rattle.std.specs.FinMap.{FinMap, get, retain_keys}
-use Rattle.tree_model.specs.Tree.{Tree, Record, Records, Body, Entry, top, listed, is_directory, is_directory_at, body_at, name_count, names_in, is_linked, count_names, weight, keep, linked}
-use Rattle.tree_model.specs.Tree.Body.{File, Directory, Link}
+use Rattle.std.specs.FinMap.{get, retain_keys}
+use Rattle.tree_model.specs.Tree.{Tree, Record, Records, top, is_directory_at, name_count, names_in, is_linked, count_names, weight, keep, linked}
 use Rattle.tree_model.specs.Good.{IsAt, IsGoodTree, Climbs, links_of}
 use Rattle.tree_model.specs.Sound.{IsKept, AreStored}
 use Rattle.tree_model.proofs.Maps.{retained}
@@ -80,14 +79,14 @@ module _ (t : Tree) (g : IsGoodTree t) (p : ℕ → Bool) (all : (i : ℕ) → i
   climbs_on (suc n) i live c = ⊎_elim
       (λ is. inl is)
       (λ s. ⊎_elim
-        (λ is. inl is)
-        (λ ne.
-          let higher : is_linked rs s.3 ≡ true = ⊎_elim
-            (λ is. subst (λ k. is_linked rs k ≡ true) (sym is) refl)
-            (λ had. above_is_linked t g i s.3 (g.above i s.0 s.1 s.2 s.3 s.4 s.5 live ne) had)
-            (climb_goes_on rs n s.3 s.6) in
-          inr (s.0, s.1, s.2, s.3, stays i (all i live) ∙ s.4, s.5, climbs_on n s.3 higher s.6))
-        (cases_eq i top))
+      (λ is. inl is)
+      (λ ne.
+      let higher : is_linked rs s.3 ≡ true = ⊎_elim
+      (λ is. subst (λ k. is_linked rs k ≡ true) (sym is) refl)
+      (λ had. above_is_linked t g i s.3 (g.above i s.0 s.1 s.2 s.3 s.4 s.5 live ne) had)
+      (climb_goes_on rs n s.3 s.6) in
+      inr (s.0, s.1, s.2, s.3, stays i (all i live) ∙ s.4, s.5, climbs_on n s.3 higher s.6))
+      (cases_eq i top))
       c
 
   still_above : (i up : ℕ) → IfSome (get rs up) (λ d. 1 ≤ names_in i d) → IfSome (get left up) (λ d. 1 ≤ names_in i d)

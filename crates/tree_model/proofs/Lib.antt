@@ -6,3 +6,5 @@ pub mod Keeping
 pub mod Bodies
 pub mod Adding
 pub mod Files
+pub mod Reading
+mod Examples

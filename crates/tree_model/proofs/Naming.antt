@@ -1,11 +1,10 @@
 -- What a look-up finds is named, and what is named is stored.
-use Rattle.std.proofs.Common.{◌≡◌, ◌≢◌, ℕ, zero, suc, ◌+◌, ◌<◌, ◌≤◌, Bool, true, false, cond, not, ◌&&◌, ◌||◌, List, [], ◌∷◌, ◌++◌, length, refl, sym, ap, ◌∙◌, subst, Option, Some, None, Result, Ok, Err, arith, IsSome, IsTrue, nat_lt, bytes_eq, eq-eqb}
-use Rattle.std.specs.Prelude.{◌==◌, option_and_then, option_map, is_some, find as first_where, Contains, slice_index_or}
-use Rattle.std.proofs.lemmas.Bool.{false≢true}
+use Rattle.std.proofs.Common.{◌≡◌, ℕ, zero, suc, ◌+◌, ◌<◌, ◌≤◌, Bool, true, false, cond, List, [], ◌∷◌, length, refl, ap, subst, Option, Some, None, Ok, arith, IsSome, bytes_eq, eq-eqb}
+use Rattle.std.specs.Prelude.{◌==◌, is_some, find as first_where, Contains, slice_index_or}
 use Rattle.std.proofs.lemmas.Bool.Decides.{nat_tests}
 use Rattle.std.proofs.lemmas.List.Elements.{Contains-append_right}
-use Rattle.std.specs.FinMap.{FinMap, get}
-use Rattle.tree_model.specs.Tree.{Tree, Record, Records, Body, Entry, listed, is_directory, name_count, names_in, is_linked, count_names, body_at, weigh, weight, top}
+use Rattle.std.specs.FinMap.{get}
+use Rattle.tree_model.specs.Tree.{Tree, Record, Records, Body, Entry, listed, name_count, names_in, count_names, weight, top}
 use Rattle.tree_model.specs.Tree.Body.{File, Directory, Link}
 use Rattle.tree_model.specs.Good.{IsAt, IsGoodTree}
 use Rattle.tree_model.specs.Finding.{entry_named, entry_folded, entries_of, entries_at, found_among, ino_among, ino_or_missing, find, same_folded}
@@ -82,11 +81,11 @@ pub names_somewhere : (rs : Records) (i : ℕ) → 0 < name_count rs i → (q : 
 names_somewhere rs i many =
     let place = weighs_somewhere (names_in i) rs many in
     by_record place.0 (get rs place.0) refl (place.1) where
-  by_record : (q : ℕ) (o : Option Record) → get rs q ≡ o → 0 < weight (names_in i) (get rs q) → (q : ℕ) × (r : Record) × (e : Entry) × IsAt rs q r × Contains (listed r.body) e × (e.ino ≡ i)
-  by_record q None at some = absurd (let zero : weight (names_in i) (get rs q) ≡ 0 = ap (weight (names_in i)) at in omega arith)
-  by_record q (Some r) at some =
-      let here = entry_that_names i (listed r.body) (subst (λ n. 0 < n) (ap (weight (names_in i)) at) some) in
-      (q, r, here.0, at, here.1, here.2)
+      by_record : (q : ℕ) (o : Option Record) → get rs q ≡ o → 0 < weight (names_in i) (get rs q) → (q : ℕ) × (r : Record) × (e : Entry) × IsAt rs q r × Contains (listed r.body) e × (e.ino ≡ i)
+      by_record q None at some = absurd (let zero : weight (names_in i) (get rs q) ≡ 0 = ap (weight (names_in i)) at in omega arith)
+      by_record q (Some r) at some =
+          let here = entry_that_names i (listed r.body) (subst (λ n. 0 < n) (ap (weight (names_in i)) at) some) in
+          (q, r, here.0, at, here.1, here.2)
 
 -- in a good tree what is named is stored, and the top is not named
 pub named_is_stored : (t : Tree) → IsGoodTree t → (i : ℕ) → 0 < name_count t.records i → IsSome (get t.records i)

@@ -1,11 +1,10 @@
 -- Sweeping one record away keeps what is linked or held.
-use Rattle.std.proofs.Common.{◌≡◌, ◌≢◌, ℕ, suc, ◌+◌, ◌<◌, Bool, true, false, cond, not, ◌&&◌, ◌||◌, List, [], ◌∷◌, refl, sym, ap, ◌∙◌, subst, Option, Some, None, ◌⊎◌, inl, inr, ⊎_elim, arith, IsSome, IsTrue, nat_lt}
+use Rattle.std.proofs.Common.{◌≡◌, ◌≢◌, ℕ, ◌<◌, Bool, true, false, cond, not, ◌&&◌, ◌||◌, refl, sym, ap, ◌∙◌, subst, Option, Some, None, ⊎_elim, arith, IsSome, IsTrue, nat_lt}
 use Rattle.std.specs.Prelude.{◌==◌}
 use Rattle.std.proofs.lemmas.Bool.{cases_eq, false≢true}
 use Rattle.std.proofs.lemmas.Bool.Decides.{nat_tests}
-use Rattle.std.specs.Ordering.{nat_cmp}
-use Rattle.std.specs.FinMap.{FinMap, get, insert, remove, retain_keys}
-use Rattle.tree_model.specs.Tree.{Tree, Record, Records, Body, listed, is_directory, name_count, names_in, is_linked, count_names, weigh, top}
+use Rattle.std.specs.FinMap.{get, remove, retain_keys}
+use Rattle.tree_model.specs.Tree.{Record, Records, Body, is_directory, name_count, names_in, is_linked, count_names, top}
 use Rattle.tree_model.specs.Tree.Body.{File, Directory, Link}
 use Rattle.tree_model.specs.Good.{IsAt, links_of}
 use Rattle.tree_model.specs.Sound.{IsCounted, IsKept, IsKeptBut, has_no_links, swept}
@@ -103,14 +102,18 @@ module _ {rs : Records} {next : ℕ} {held : ℕ → Bool} (s : IsCounted rs nex
   by_test : (i : ℕ) → IsKeptBut rs held i → (o : Option Record) → get rs i ≡ o → (g : Bool) → (has_no_links (get rs i) && not (held i)) ≡ g → IsCounted (cond g (remove rs i) rs) next held × IsKept (cond g (remove rs i) rs) held
   by_test i kept None at true e = absurd (false≢true (ap (λ o. has_no_links o && not (held i)) (sym at) ∙ e))
   by_test i kept (Some r) at true e =
-      let both = free_of (is_linked rs i) (held i) (ap (λ b. b && not (held i)) (sym (no_links i r at)) ∙ e) in
-      (counted_removed i r at both.0 both.1,
-       λ q had. ⊎_elim (λ e. absurd (false≢true (subst IsSome (ap (get (remove rs i)) e ∙ removed rs i) had)))
-         (λ ne. ap (λ b. b || held q) (same_linked i r at both.0 both.1 q) ∙ kept q ne (subst IsSome (remove_keeps rs i q ne) had)) (cases_eq q i))
+      let both = free_of (is_linked rs i) (held i) (ap (λ b. b && not (held i)) (sym (no_links i r at)) ∙ e) in (
+        counted_removed i r at both.0 both.1,
+        λ q had. ⊎_elim (λ e. absurd (false≢true (subst IsSome (ap (get (remove rs i)) e ∙ removed rs i) had)))
+            (λ ne. ap (λ b. b || held q) (same_linked i r at both.0 both.1 q) ∙ kept q ne (subst IsSome (remove_keeps rs i q ne) had)) (cases_eq q i),
+      )
   by_test i kept None at false e = (s, λ q had. kept q (λ e. false≢true (subst IsSome (ap (get rs) e ∙ at) had)) had)
-  by_test i kept (Some r) at false e = (s, λ q had. ⊎_elim
-      (λ is. subst (λ k. (is_linked rs k || held k) ≡ true) (sym is) (kept_of (is_linked rs i) (held i) (ap (λ b. b && not (held i)) (sym (no_links i r at)) ∙ e)))
-      (λ ne. kept q ne had) (cases_eq q i))
+  by_test i kept (Some r) at false e = (
+    s,
+    λ q had. ⊎_elim
+        (λ is. subst (λ k. (is_linked rs k || held k) ≡ true) (sym is) (kept_of (is_linked rs i) (held i) (ap (λ b. b && not (held i)) (sym (no_links i r at)) ∙ e)))
+        (λ ne. kept q ne had) (cases_eq q i),
+  )
 
   -- after the sweep all is sound
   pub swept_sound : (i : ℕ) → IsKeptBut rs held i → IsCounted (swept held rs i) next held × IsKept (swept held rs i) held

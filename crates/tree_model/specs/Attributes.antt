@@ -1,12 +1,11 @@
 -- What is told of an inode, by a host and by both protocols.
-use Rattle.std.specs.Prelude.{◌≡◌, ℕ, ◌+◌, ◌/◌, ◌%◌, ◌^◌, List, length, Option, Some, None, Result, Ok, Err}
+use Rattle.std.specs.Prelude.{ℕ, ◌+◌, ◌/◌, ◌%◌, ◌^◌, length, Option, Some, None, Result, Ok, Err}
 use Rattle.std.specs.FinMap as map
 use Rattle.port_base.specs.declared.errno.TheConstants.{ENOENT}
-use Rattle.tree_model.specs.declared.attributes.Stamp.{Stamp}
 use Rattle.tree_model.specs.declared.attributes.Kind.{Kind}
 use Rattle.tree_model.specs.declared.attributes.Kind.TheVariants as kind
 use Rattle.tree_model.specs.declared.attributes.Attr.{Attr}
-use Rattle.tree_model.specs.Tree.{Tree, Record, Records, Body, Entry}
+use Rattle.tree_model.specs.Tree.{Tree, Record, Body}
 use Rattle.tree_model.specs.Tree.Body.{File, Directory, Link}
 
 abbrev pub kind_of : Body → Kind

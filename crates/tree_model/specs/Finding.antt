@@ -1,8 +1,8 @@
 -- Names and paths in a tree.
-use Rattle.std.specs.Prelude.{◌≡◌, ℕ, ◌+◌, Bool, true, false, ◌&&◌, not, List, [], ◌∷◌, length, filter, find as first_where, Option, Some, None, Result, Ok, Err, option_and_then, if◌then◌else◌, ◌==◌, nat_le, bytes_eq, map, is_some}
+use Rattle.std.specs.Prelude.{ℕ, ◌+◌, Bool, false, ◌&&◌, not, List, [], ◌∷◌, length, filter, find as first_where, Option, Some, None, Result, Ok, Err, option_and_then, if◌then◌else◌, ◌==◌, nat_le, bytes_eq, map, is_some}
 use Rattle.std.specs.List.{slice_split}
 use Rattle.port_base.specs.declared.errno.TheConstants.{ENOENT, ENOTDIR}
-use Rattle.tree_model.specs.Tree.{Tree, Record, Records, Body, Entry, top, body_at, is_directory_at}
+use Rattle.tree_model.specs.Tree.{Tree, Records, Body, Entry, top, body_at, is_directory_at}
 use Rattle.tree_model.specs.Tree.Body.{File, Directory, Link}
 
 -- the entries, where it is a directory

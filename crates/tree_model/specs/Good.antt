@@ -1,5 +1,5 @@
 -- Trees as they are at every moment.
-use Rattle.std.specs.Prelude.{◌≡◌, ◌≢◌, ◌⊎◌, ℕ, zero, suc, ◌+◌, ◌<◌, ◌≤◌, Bool, true, false, not, List, [], ◌∷◌, length, All, AllPairs, Contains, Option, Some, None, if◌then◌else◌, ◌==◌, IsTrue, IsSome, IfSome}
+use Rattle.std.specs.Prelude.{◌≡◌, ◌≢◌, ◌⊎◌, ℕ, zero, suc, ◌+◌, ◌<◌, ◌≤◌, Bool, false, not, List, [], ◌∷◌, length, All, AllPairs, Contains, Some, None, if◌then◌else◌, ◌==◌, IsTrue, IsSome, IfSome}
 use Rattle.std.specs.List.{list_any}
 use Rattle.std.specs.Str.{is_utf8}
 use Rattle.std.specs.FinMap as map

@@ -1,10 +1,10 @@
 -- What is good has one proof at most, so that a ghost field can keep it.
-use Rattle.std.specs.Prelude.{◌≡◌, ℕ, ◌+◌, List, [], ◌∷◌, Option, Some, None}
-use Rattle.std.specs.Coded.{×_prop, Unit-prop, le_prop}
+use Rattle.std.specs.Prelude.{ℕ, ◌+◌, List, [], ◌∷◌}
+use Rattle.std.specs.Coded.{×_prop, le_prop}
 use Rattle.std.proofs.Props.{props}
-use Rattle.tree_model.specs.Tree.{Tree, Record, Records, Body, Entry}
+use Rattle.tree_model.specs.Tree.{Tree, Body, Entry}
 use Rattle.tree_model.specs.Tree.Body.{File, Directory, Link}
-use Rattle.tree_model.specs.Good.{CookiesRise, IsGoodBody, IsGoodRecord, IsGoodTree}
+use Rattle.tree_model.specs.Good.{CookiesRise, IsGoodBody, IsGoodTree}
 
 pub CookiesRise-prop : (from : ℕ) (es : List Entry) (end : ℕ) → IsProp (CookiesRise from es end)
 CookiesRise-prop from [] end = le_prop

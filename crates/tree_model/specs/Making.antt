@@ -1,5 +1,5 @@
 -- New trees and new records.
-use Rattle.std.specs.Prelude.{◌≡◌, ℕ, ◌+◌, ◌-◌, ◌^◌, Bool, true, false, not, ◌||◌, List, [], ◌∷◌, ◌++◌, length, Option, Some, None, Result, Ok, Err, if◌then◌else◌, nat_le, nat_lt, is_some}
+use Rattle.std.specs.Prelude.{ℕ, ◌+◌, ◌-◌, ◌^◌, Bool, not, ◌||◌, List, [], ◌∷◌, ◌++◌, length, Option, Some, None, Result, Ok, Err, if◌then◌else◌, nat_le, nat_lt, is_some}
 use Rattle.std.specs.FinMap as map
 use Rattle.port_base.specs.declared.errno.TheConstants.{ENOENT, EEXIST, ENOTDIR, EFBIG, ENOSPC}
 use Rattle.tree_model.specs.declared.attributes.Stamp.{Stamp}

@@ -1,5 +1,5 @@
 -- What is written through the borrow of the record is the change of the map.
-use Rattle.std.proofs.Common.{◌≡◌, sym, ap, ◌∙◌, subst, OnSome}
+use Rattle.std.proofs.Common.{◌≡◌, ap, ◌∙◌, subst, OnSome}
 use Rattle.std.specs.FinMap as map
 use Rattle.tree_model.specs.Making.{joined_by, changed}
 use Rattle.tree_model.proofs.Maps.{rewritten}

@@ -1,12 +1,12 @@
 -- Each part takes the walk a step on; the parts are those of the split.
-use Rattle.std.proofs.Common.{◌≡◌, ℕ, List, [], ◌∷◌, ◌++◌, map, Ok, Result, sym, ap, ◌∙◌, rules, tests, refl, Bor}
+use Rattle.std.proofs.Common.{ℕ, List, Ok, sym, ap, ◌∙◌, rules, tests, refl, Bor}
 use Rattle.std.specs.Prelude.{◌==◌}
 use Rattle.std.proofs.lemmas.Iterator.Consumers.{YieldsList-end}
 use Rattle.std.proofs.lemmas.Iterator.Splits.{YieldsList-from_slice_split}
 use Rattle.tree_model.specs.Tree.{top}
 use Rattle.tree_host.specs.Host.{as_errno}
 use Rattle.tree_host.specs.Kept.{tree_from}
-use Rattle.tree_host.specs.Walking.{walk_parts, part_step, part_end}
+use Rattle.tree_host.specs.Walking.{walk_parts, part_end}
 use Rattle.tree_host.proofs.Results.{walk_parts-push, walk_of-root_of, errno_of}
 use Rattle.tree_host.proofs.nodes.walk.Goals as goal
 

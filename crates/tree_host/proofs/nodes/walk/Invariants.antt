@@ -1,5 +1,5 @@
 -- The walk so far.
-use Rattle.std.proofs.Common.{◌≡◌, ℕ, List, map, Ok}
+use Rattle.std.proofs.Common.{◌≡◌, map, Ok}
 use Rattle.tree_model.specs.Tree.{top}
 use Rattle.tree_host.specs.Host.{as_errno}
 use Rattle.tree_host.specs.Walking.{walk_parts}

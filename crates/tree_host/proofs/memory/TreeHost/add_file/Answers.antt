@@ -1,5 +1,5 @@
 -- The refusals are the definition's, in its order; what is added leaves the definition's tree.
-use Rattle.std.proofs.Common.{◌≡◌, ◌≤◌, sym, ap, ◌∙◌, None, length, arith}
+use Rattle.std.proofs.Common.{ap, ◌∙◌}
 use Rattle.std.specs.FinMap as map
 use Rattle.tree_model.specs.Tree.{Record}
 use Rattle.tree_model.specs.Making.{change, joined_by}

@@ -1,9 +1,8 @@
 -- A new tree is good, and nothing of it is held.
-use Rattle.std.proofs.Common.{◌≡◌, ℕ, sym, ap, ◌∙◌, subst}
+use Rattle.std.proofs.Common.{sym, ap, ◌∙◌, subst}
 use Rattle.std.specs.FinMap as map
-use Rattle.tree_model.specs.Tree.{Tree, Record, Records, top}
+use Rattle.tree_model.specs.Tree.{Record, Records, top}
 use Rattle.tree_model.specs.Good.{IsGoodTree}
-use Rattle.tree_model.specs.Making.{new_tree, top_record}
 use Rattle.tree_model.proofs.Files.{new_tree_good}
 use Rattle.tree_host.specs.Holds.{Holds}
 use Rattle.tree_host.specs.Host.{IsHeldIn}

@@ -1,6 +1,6 @@
 -- The sweep at the inode leaves what is linked or held, which is good.
 use Rattle.std.proofs.Common.{sym, ap, subst}
-use Rattle.tree_model.specs.Tree.{Tree, Records, keep}
+use Rattle.tree_model.specs.Tree.{Records}
 use Rattle.tree_model.specs.Good.{IsGoodTree}
 use Rattle.tree_model.proofs.Keeping.{keep_good}
 use Rattle.tree_host.specs.Holds.{is_held}

@@ -1,0 +1,1 @@
+//! Laws on hosts. There are none yet beyond those of the trait.
