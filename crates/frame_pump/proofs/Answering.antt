@@ -35,9 +35,9 @@ record One (s : Settings) (m0 m1 : MachineState) (f0 f1 number : ℕ) (frame byt
   pub exact : hurt ≡ 0 → number ≡ messages s m0 frame
 
 one : (s : Settings) (m0 m1 : MachineState) (f0 f1 number : ℕ) (frame bytes : List ℕ) → f0 ≤ f1 → StepOutcome s m0 m1 f0 f1 number frame bytes → One s m0 m1 f0 f1 number frame bytes
-one s m0 m1 f0 f1 number frame bytes rises (inl (same, sent)) = record {
+one s m0 m1 f0 f1 number frame bytes rises (inl (replied, state, sent)) = record {
   hurt = 0;
-  run = inl ([], ap (λ (r : List ℕ × MachineState). r.0) same ∙ sym (append-nil (step s m0 frame).0), (refl, refl, ap (λ (r : List ℕ × MachineState). r.1) same));
+  run = inl ([], replied ∙ sym (append-nil (step s m0 frame).0), (refl, refl, state));
   met = omega (arith, rises);
   exact = λ _. sent;
 }

@@ -37,7 +37,7 @@ pub record Stays (old new : Session) : Type 0 where
 -- the step of the machine, with its messages; or, only where the count of faults rose, a step that met a fault
 abbrev pub StepOutcome : Settings → MachineState → MachineState → ℕ → ℕ → ℕ → List ℕ → List ℕ → Type 0
 StepOutcome s m0 m1 f0 f1 sent frame bytes =
-    (((bytes, m1) ≡ step s m0 frame) × (sent ≡ messages s m0 frame)) ⊎ (Rose f0 f1 × IsHurtStep s m0 frame bytes m1)
+    ((bytes ≡ (step s m0 frame).0) × (m1 ≡ (step s m0 frame).1) × (sent ≡ messages s m0 frame)) ⊎ (Rose f0 f1 × IsHurtStep s m0 frame bytes m1)
 
 -- a frame was answered by these bytes
 pub record Answers (old new : Session) (frame bytes : List ℕ) : Type 0 where
