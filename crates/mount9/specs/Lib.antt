@@ -1,0 +1,4 @@
+pub mod Command
+pub mod CommandViews
+pub mod Paths
+pub mod Texts

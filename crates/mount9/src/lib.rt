@@ -1,0 +1,7 @@
+//! The program: the words of its command line, the header of its input, and its report.
+#![tactic(auto)]
+
+pub mod command;
+pub mod laws;
+pub mod path;
+pub mod text;
