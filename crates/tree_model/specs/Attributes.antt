@@ -1,0 +1,69 @@
+-- What is told of an inode, by a host and by both protocols.
+use Rattle.std.specs.Prelude.{◌≡◌, ℕ, ◌+◌, ◌/◌, ◌%◌, ◌^◌, List, length, Option, Some, None, Result, Ok, Err}
+use Rattle.std.specs.FinMap as map
+use Rattle.port_base.specs.declared.errno.TheConstants.{ENOENT}
+use Rattle.tree_model.specs.declared.attributes.Stamp.{Stamp}
+use Rattle.tree_model.specs.declared.attributes.Kind.{Kind}
+use Rattle.tree_model.specs.declared.attributes.Kind.TheVariants as kind
+use Rattle.tree_model.specs.declared.attributes.Attr.{Attr}
+use Rattle.tree_model.specs.Tree.{Tree, Record, Records, Body, Entry}
+use Rattle.tree_model.specs.Tree.Body.{File, Directory, Link}
+
+abbrev pub kind_of : Body → Kind
+kind_of (File bytes) = kind.File
+kind_of (Directory es next above) = kind.Directory
+kind_of (Link target) = kind.Link
+
+abbrev pub size_of : Body → ℕ
+size_of (File bytes) = length bytes
+size_of (Directory es next above) = 0
+size_of (Link target) = length target
+
+-- what a host tells of a record
+abbrev pub attr_of : ℕ → Record → Attr
+attr_of i r = record {
+  ino = i;
+  kind = kind_of r.body;
+  mode = r.mode;
+  uid = r.uid;
+  gid = r.gid;
+  links = r.links;
+  size = size_of r.body;
+  atime = r.atime;
+  mtime = r.mtime;
+  ctime = r.ctime;
+}
+
+abbrev pub attr_or_missing : ℕ → Option Record → Result Attr ℕ
+attr_or_missing i None = Err ENOENT
+attr_or_missing i (Some r) = Ok (attr_of i r)
+
+-- `stat`: an inode that is held is stored, so a missing one is never asked for
+abbrev pub stat_of : Tree → ℕ → Result Attr ℕ
+stat_of t i = attr_or_missing i (map.get t.records i)
+
+-- ---- as 9P2000.L and FUSE tell it
+
+-- the type byte of a qid
+abbrev pub qid_type : Kind → ℕ
+qid_type kind.File = 0
+qid_type kind.Directory = 128
+qid_type kind.Link = 2
+
+-- the type bits of a mode
+abbrev pub type_bits : Kind → ℕ
+type_bits kind.File = 32768
+type_bits kind.Directory = 16384
+type_bits kind.Link = 40960
+
+-- a qid: type, version and path
+abbrev pub Qid : Type 0
+Qid = ℕ × (ℕ × ℕ)
+
+-- the version is the mtime's seconds modulo 2^32, the path the inode number
+abbrev pub qid_of : Attr → Qid
+qid_of a = (qid_type a.kind, (a.mtime.sec % 2 ^ 32, a.ino))
+
+-- blocks of 512 bytes, rounded up
+abbrev pub blocks_of : ℕ → ℕ
+blocks_of size = (size + 511) / 512

@@ -1,0 +1,49 @@
+//! What is told of a file, and the bounds of a tree.
+
+/// A moment: seconds since 1970 and nanoseconds, which are below 1000000000.
+#[derive(Clone, Copy, Debug, PartialEq, Eq)]
+pub struct Stamp {
+    pub sec: u64,
+    pub nsec: u32,
+}
+
+/// What a tree may hold: the bytes of a file, the entries of a directory, the links of a file.
+#[derive(Clone, Copy, Debug, PartialEq, Eq)]
+pub struct Limits {
+    pub file: u64,
+    pub entries: u64,
+    pub links: u64,
+}
+
+/// What a record is: a regular file, a directory or a symbolic link.
+#[derive(Clone, Copy, Debug, PartialEq, Eq)]
+pub enum Kind {
+    File,
+    Directory,
+    Link,
+}
+
+/// What a host tells of an inode. The mode is without its type bits; the size is in bytes, of a link that
+/// of its target, of a directory 0.
+#[derive(Clone, Copy, Debug, PartialEq, Eq)]
+pub struct Attr {
+    pub ino: u64,
+    pub kind: Kind,
+    pub mode: u32,
+    pub uid: u32,
+    pub gid: u32,
+    pub links: u64,
+    pub size: u64,
+    pub atime: Stamp,
+    pub mtime: Stamp,
+    pub ctime: Stamp,
+}
+
+/// Why a call of a host failed: a refusal with its error number, a fault of what it stands on, or want of
+/// memory.
+#[derive(Clone, Copy, Debug, PartialEq, Eq)]
+pub enum HostError {
+    Errno(u32),
+    Fault,
+    NoMemory,
+}

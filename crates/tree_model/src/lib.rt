@@ -1,0 +1,7 @@
+//! The tree of files: what it is, what each call on it answers, and laws over it.
+#![tactic(auto)]
+
+mod attributes;
+pub mod laws;
+
+pub use attributes::{Attr, HostError, Kind, Limits, Stamp};
