@@ -1,3 +1,9 @@
+pub mod Alone
+pub mod Digits
 pub mod Examples
+pub mod FileLemmas
+pub mod Gathering
+pub mod LineLemmas
+pub mod Taking
 pub mod WordOrder
 pub mod WordSteps

@@ -1,4 +1,9 @@
 pub mod Command
 pub mod CommandViews
+pub mod Header
+pub mod HeaderLines
+pub mod HeaderViews
+pub mod Numbers
 pub mod Paths
+pub mod Reading
 pub mod Texts

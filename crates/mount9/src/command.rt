@@ -127,3 +127,55 @@ pub fn read_words(alloc: Global, words: &Words) -> Result<Command, WordsError>
         Err(e) => Err(e),
     }
 }
+
+#[cfg(test)]
+mod tests {
+    use super::*;
+    use std::test::Fail;
+
+    // The words of one line, with a space between each two.
+    fn words_of(alloc: Global, line: &str) -> Result<Words, Fail> {
+        let mut words = Words::new(alloc);
+        for word in line.split_whitespace() {
+            words.push(word.as_bytes())?;
+        }
+        Ok(words)
+    }
+
+    #[test]
+    fn words_are_read_or_refused(rt: HostRuntime) -> Result<(), Fail> {
+        let words = words_of(rt.alloc(), "serve target=/mnt root=/")?;
+        let Command::Serve { target, root } = read_words(rt.alloc(), &words)
+            .ok()
+            .expect(&rt, "accepted");
+        assert_eq!(rt; target.as_slice(), b"/mnt".as_slice());
+        assert_eq!(rt; root.as_slice(), b"/".as_slice());
+        let cases = [
+            ("serve root=/ target=/a/b", true),
+            ("serve target=/ root=/", true),
+            ("serve target=/... root=/", true),
+            ("", false),
+            ("serve", false),
+            ("generate", false),
+            ("target=/mnt root=/", false),
+            ("serve target=/mnt", false),
+            ("serve root=/", false),
+            ("serve target=/mnt root=/ root=/", false),
+            ("serve target=/mnt target=/mnt root=/", false),
+            ("serve target=/mnt root=/a", false),
+            ("serve target=mnt root=/", false),
+            ("serve target=/mnt/ root=/", false),
+            ("serve target=//mnt root=/", false),
+            ("serve target=/a/../b root=/", false),
+            ("serve target=/. root=/", false),
+            ("serve target= root=/", false),
+            ("serve target=/mnt root=/ turns=1", false),
+            ("serve target=/mnt root=/ more", false),
+        ];
+        for (line, accepted) in cases {
+            let words = words_of(rt.alloc(), line)?;
+            assert_eq!(rt; read_words(rt.alloc(), &words).is_ok(), accepted, "{line}");
+        }
+        Ok(())
+    }
+}

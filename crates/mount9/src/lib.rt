@@ -2,6 +2,7 @@
 #![tactic(auto)]
 
 pub mod command;
+pub mod header;
 pub mod laws;
 pub mod path;
 pub mod text;
