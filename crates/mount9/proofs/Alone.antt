@@ -1,5 +1,5 @@
 -- A header by itself, from the text that was taken.
-use Rattle.std.proofs.Common.{◌≡◌, ℕ, List, ◌++◌, Some, None, Result, Ok, Err, refl, sym, ap, ◌∙◌}
+use Rattle.std.proofs.Common.{◌≡◌, ℕ, List, ◌++◌, Some, None, Result, Ok, Err, refl, ap, ◌∙◌}
 use Rattle.mount9.specs.Reading.{lines_of}
 use Rattle.mount9.specs.Header.{Header, header, header_by, header_of, header_alone, text_of, with_rest, without_rest}
 

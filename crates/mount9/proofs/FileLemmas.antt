@@ -1,10 +1,10 @@
 -- Files of a header, seen without memory.
-use Rattle.std.proofs.Common.{◌≡◌, ℕ, Bool, true, false, List, [], ◌∷◌, ◌++◌, length, map, Ok, Err, refl, sym, ap, ◌∙◌, bytes_eq}
+use Rattle.std.proofs.Common.{◌≡◌, ℕ, Bool, true, false, List, [], ◌∷◌, ◌++◌, length, Ok, Err, refl, ap, bytes_eq}
 use Rattle.std.specs.List.{list_any}
 use Rattle.std.specs.Prelude.{◌||◌}
 use Rattle.std.proofs.lemmas.List.{map-append, length-map}
 use Rattle.tree_model.specs.declared.attributes.Limits.{Limits}
-use Rattle.mount9.specs.HeaderLines.{NamedFile, add_file, is_allowed, is_taken}
+use Rattle.mount9.specs.HeaderLines.{add_file, is_allowed, is_taken}
 use Rattle.mount9.specs.HeaderViews.{file_view, files_view}
 use Rattle.mount9.specs.declared.header.files.FileLine.{FileLine}
 

@@ -1,5 +1,5 @@
 -- The loops over lines of one kind.
-use Rattle.std.proofs.Common.{◌≡◌, ℕ, ◌+◌, List, [], ◌∷◌, Some, None, Result, Ok, Err, refl, sym, ap, ◌∙◌, subst}
+use Rattle.std.proofs.Common.{◌≡◌, ℕ, ◌+◌, List, [], ◌∷◌, Some, None, Result, Ok, Err, refl, ap, ◌∙◌}
 use Rattle.std.specs.declared.option.Option.{Option}
 use Rattle.mount9.specs.Reading.{Fails, Place, line_at, gathered, gathered_by}
 use Rattle.mount9.specs.declared.header.error.HeaderError.{HeaderError}

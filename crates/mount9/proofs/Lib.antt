@@ -1,9 +1,11 @@
 pub mod Alone
 pub mod Digits
-pub mod Examples
+pub mod ByComputing
 pub mod FileLemmas
 pub mod Gathering
+pub mod HexRows
 pub mod LineLemmas
+pub mod Sequences
 pub mod Taking
 pub mod WordOrder
 pub mod WordSteps

@@ -4,7 +4,7 @@ use Rattle.std.specs.Prelude.{codes, option_map, option_and_then, is_some, ◌&&
 use Rattle.std.specs.declared.option.Option.{Option}
 use Rattle.mount9.specs.Texts.{split_once}
 use Rattle.mount9.specs.Paths.{is_path}
-use Rattle.mount9.specs.Command.{Draft, with_key, with_word, with_words, finished, command, no_words, is_top, is_serve}
+use Rattle.mount9.specs.Command.{Draft, with_key, with_word, with_words, finished, command, no_words, is_top}
 
 abbrev draft : Option (List ℕ) → Option (List ℕ) → Draft
 draft t r = record { target = t; root = r }

@@ -1,12 +1,12 @@
 -- One word more, in the loop over words and in the law on their order.
-use Rattle.std.proofs.Common.{◌≡◌, ℕ, zero, suc, ◌+◌, ◌≤◌, ◌<◌, Bool, true, false, List, [], ◌∷◌, ◌++◌, length, drop, Some, None, refl, sym, ap, ◌∙◌, arith, add-one, bytes_eq, cond}
-use Rattle.std.specs.Prelude.{slice_get, codes, option_map, option_and_then}
+use Rattle.std.proofs.Common.{◌≡◌, ℕ, zero, suc, ◌+◌, ◌≤◌, ◌<◌, List, [], ◌∷◌, length, drop, Some, None, refl, arith, add-one}
+use Rattle.std.specs.Prelude.{slice_get}
 use Rattle.std.specs.declared.option.Option.{Option}
 use Rattle.std.proofs.lemmas.List.{drop_all}
 use Rattle.mount9.specs.CommandViews.{Refuses}
 use Rattle.mount9.specs.declared.command.WordsError.{WordsError}
 use Rattle.mount9.specs.declared.command.WordsError.TheVariants.{Words, NoMemory}
-use Rattle.mount9.specs.Command.{Draft, Serve, with_word, with_words, finished, command, no_words}
+use Rattle.mount9.specs.Command.{Draft, with_word, with_words}
 
 drop-get : {A : Type 0} (xs : List A) (i : ℕ) (x : A) → slice_get xs i ≡ Some x → drop i xs ≡ x ∷ drop (suc i) xs
 drop-get [] i x h = cc

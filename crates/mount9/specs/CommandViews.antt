@@ -1,13 +1,12 @@
 -- Drafts and commands, without where they lie in memory.
 use Rattle.std.specs.Prelude.{◌≡◌, ℕ, List, Option, Some, None, Result, Ok, Err, Vec, option_map}
 use Rattle.std.specs.Global.{Global}
-use Rattle.mount9.specs.Command.{Draft, Serve, once}
+use Rattle.mount9.specs.Command.{Draft, Serve}
 use Rattle.mount9.specs.declared.command.DraftWords.{DraftWords}
 use Rattle.mount9.specs.declared.command.Command.{Command}
 use Rattle.mount9.specs.declared.command.Command.TheVariants as command
 use Rattle.mount9.specs.declared.command.WordsError.{WordsError}
 use Rattle.mount9.specs.declared.command.WordsError.TheVariants.{Words, NoMemory}
-use Rattle.mount9.specs.Paths.{is_path}
 
 abbrev pub slot_view : Option (Vec ℕ Global) → Option (List ℕ)
 slot_view slot = option_map (λ (v : Vec ℕ Global). v.items) slot

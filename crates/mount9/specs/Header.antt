@@ -1,6 +1,5 @@
 -- What a header says.
-use Rattle.std.specs.Prelude.{ℕ, ◌+◌, List, [], ◌∷◌, ◌++◌, length, Option, Some, None, Result, Ok, Err, ◌==◌, if◌then◌else◌, nat_le, Bool, codes, bytes_eq, option_map}
-use Rattle.tree_model.specs.declared.attributes.Limits.{Limits}
+use Rattle.std.specs.Prelude.{ℕ, List, [], ◌∷◌, ◌++◌, length, Option, Some, None, Result, Ok, Err, ◌==◌, if◌then◌else◌, nat_le, codes, bytes_eq, option_map}
 use Rattle.mount9.specs.Reading.{◌>>=◌, Place, check, line_at, lines_of, gathered}
 use Rattle.mount9.specs.HeaderLines.{stamp_at, limits_at, permit_at, present_at, top_at, record_at, NamedFile}
 use Rattle.mount9.specs.declared.header.start.Start.{Start}

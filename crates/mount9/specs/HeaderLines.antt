@@ -1,5 +1,5 @@
 -- The lines of a header, each by its kind.
-use Rattle.std.specs.Prelude.{ℕ, ◌-◌, ◌^◌, List, [], ◌∷◌, ◌++◌, length, drop, Option, Some, None, Result, Ok, Err, ◌==◌, ◌&&◌, ◌||◌, not, is_some, nat_le, nat_lt, slice_index, if◌then◌else◌, Bool, true, false, codes, bytes_eq}
+use Rattle.std.specs.Prelude.{ℕ, ◌-◌, ◌^◌, List, [], ◌∷◌, ◌++◌, length, drop, Option, Some, None, Result, Ok, Err, ◌==◌, ◌&&◌, not, is_some, nat_le, nat_lt, slice_index, if◌then◌else◌, Bool, true, false, codes, bytes_eq}
 use Rattle.std.specs.List.{list_any}
 use Rattle.hex.specs.Hex.{decode_of}
 use Rattle.hex.specs.declared.error.FromHexError.{FromHexError}
@@ -9,7 +9,7 @@ use Rattle.tree_model.specs.declared.attributes.Stamp.{Stamp}
 use Rattle.tree_model.specs.declared.attributes.Limits.{Limits}
 use Rattle.tree_model.specs.Making.{NewFile}
 use Rattle.mount9.specs.Paths.{is_path}
-use Rattle.mount9.specs.Reading.{◌>>=◌, check, or_refused, field_at, keyword_at, after_word}
+use Rattle.mount9.specs.Reading.{◌>>=◌, or_refused, field_at, keyword_at, after_word}
 use Rattle.mount9.specs.Numbers.{number_at, number_field, mode_field}
 use Rattle.mount9.specs.declared.header.start.Top.{Top}
 

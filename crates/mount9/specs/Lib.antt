@@ -6,4 +6,7 @@ pub mod HeaderViews
 pub mod Numbers
 pub mod Paths
 pub mod Reading
+pub mod Report
+pub mod ReportLines
 pub mod Texts
+pub mod Wrote

@@ -1,5 +1,5 @@
 -- Paths of directories.
-use Rattle.std.specs.Prelude.{ℕ, List, length, drop, ◌==◌, ◌&&◌, ◌||◌, not, nat_le, slice_index, Bool, codes}
+use Rattle.std.specs.Prelude.{ℕ, List, length, drop, ◌==◌, ◌&&◌, ◌||◌, not, nat_le, slice_index, Bool}
 use Rattle.std.specs.List.{list_any, list_all, slice_split}
 use Rattle.port_base.specs.Names.{is_dots}
 use Rattle.mount9.specs.declared.path.TheConstants.{PATH_LIMIT}

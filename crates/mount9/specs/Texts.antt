@@ -1,5 +1,5 @@
 -- Texts in parts.
-use Rattle.std.specs.Prelude.{ℕ, ◌+◌, List, take, drop, Option, Some, None, ◌==◌, position, option_map}
+use Rattle.std.specs.Prelude.{ℕ, ◌+◌, List, take, drop, Option, ◌==◌, position, option_map}
 
 -- what stands before the first such byte, and what stands after it
 unfoldable pub split_once : ℕ → List ℕ → Option (List ℕ × List ℕ)

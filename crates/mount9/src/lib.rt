@@ -2,7 +2,9 @@
 #![tactic(auto)]
 
 pub mod command;
+pub mod examples;
 pub mod header;
 pub mod laws;
 pub mod path;
+pub mod report;
 pub mod text;

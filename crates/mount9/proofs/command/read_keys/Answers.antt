@@ -1,5 +1,5 @@
 -- Each word is taken as the definition takes it.
-use Rattle.std.proofs.Common.{◌≡◌, ◌∙◌, sym, arith}
+use Rattle.std.proofs.Common.{◌∙◌, sym, arith}
 use Rattle.mount9.proofs.WordSteps.{with_words-more, with_words-stop, with_words-end, get-within, Refuses-from}
 use Rattle.mount9.proofs.command.read_keys.Goals as goal
 

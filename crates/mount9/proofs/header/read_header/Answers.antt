@@ -1,8 +1,6 @@
 -- A header is read from the text at the front of the bytes.
-use Rattle.std.proofs.Common.{◌≡◌, ◌∙◌, sym, ap, subst, Result, ℕ}
-use Rattle.mount9.specs.Reading.{Gives, lines_of}
-use Rattle.mount9.specs.Header.{Header, header_of, header_alone, text_of}
-use Rattle.mount9.specs.HeaderViews.{header_view}
+use Rattle.std.proofs.Common.{◌∙◌, sym, ap}
+use Rattle.mount9.specs.Header.{text_of}
 use Rattle.mount9.proofs.Alone.{header_alone-text, header_alone-none}
 use Rattle.mount9.proofs.header.read_header.Goals as goal
 

@@ -1,7 +1,6 @@
 -- A file is added where the tree takes it.
-use Rattle.std.proofs.Common.{◌≡◌, ◌∙◌, sym, ap, true, false, List, Ok, subst}
-use Rattle.mount9.specs.HeaderLines.{is_allowed}
-use Rattle.mount9.specs.HeaderViews.{file_view, files_view}
+use Rattle.std.proofs.Common.{◌∙◌, sym, ap, List, Ok}
+use Rattle.mount9.specs.HeaderViews.{files_view}
 use Rattle.mount9.specs.declared.header.files.FileLine.{FileLine}
 use Rattle.mount9.proofs.FileLemmas.{add_file-refused, add_file-new}
 use Rattle.mount9.proofs.header.files.add_file.Goals as goal

@@ -1,6 +1,5 @@
 -- The next line is the first of the lines.
-use Rattle.std.proofs.Common.{◌≡◌, ◌∙◌, sym, ap, refl, length}
-use Rattle.mount9.specs.Reading.{lines_of, line_at}
+use Rattle.std.proofs.Common.{sym, refl}
 use Rattle.mount9.proofs.LineLemmas.{lines_of-some, lines_of-none}
 use Rattle.mount9.proofs.header.lines.next_line.Goals as goal
 

@@ -1,6 +1,5 @@
 -- What `parse` reads of digits is their value.
-use Rattle.std.proofs.Common.{◌≡◌, ◌∙◌, sym, arith, refl, subst}
-use Rattle.mount9.specs.Numbers.{is_number, number_of, CountsTo}
+use Rattle.std.proofs.Common.{sym}
 use Rattle.mount9.proofs.Digits.{number_of-other, IsUtf8-number, number_of-parsed, number_of-large}
 use Rattle.mount9.proofs.header.numbers.value.Goals as goal
 

@@ -1,5 +1,5 @@
 -- Each line is taken as the definition takes it.
-use Rattle.std.proofs.Common.{◌≡◌, ◌∙◌, sym, ap, ℕ, List, Ok}
+use Rattle.std.proofs.Common.{◌∙◌}
 use Rattle.mount9.proofs.Gathering.{Fails-from, gathered-end, gathered-more, gathered-stop, gathered-none}
 use Rattle.mount9.proofs.header.present.present_lines.Goals as goal
 

@@ -1,5 +1,5 @@
 -- The text up to its line `end`, or why there is none.
-use Rattle.std.proofs.Common.{◌≡◌, ◌∙◌, sym, ap, ℕ, arith, subst}
+use Rattle.std.proofs.Common.{◌∙◌, sym, arith, subst}
 use Rattle.mount9.proofs.Taking.{Taking-none, Taking-end, Taking-limit, AtEnd-back, single}
 use Rattle.std.specs.Io.KnownBytes.{Consumes}
 use Rattle.mount9.proofs.header.text.take_text.Goals as goal
