@@ -1,7 +1,8 @@
 //! The lines `file MODE UID GID HEX PATH` of a header.
-ghost use Rattle.std.specs.Prelude.{bytes_eq, ◌≡◌, ◌++◌, ◌∷◌, [], ◌==◌, ◌||◌, map, IfOk, Option, codes, drop, length};
+ghost use Rattle.std.specs.Prelude.{bytes_eq, ◌≡◌, ◌++◌, ◌∷◌, [], ◌==◌, ◌||◌, map, IfOk, Option, codes, drop, length, ◌<◌, IfSome, None};
 ghost use Rattle.std.specs.List.{list_any};
 ghost use Rattle.std.specs.Option.{option_map};
+ghost use Rattle.port_base.specs.Names.{name_fault};
 ghost use Rattle.mount9.specs.Reading.{Gives, GivesNext, gathered, lines_of};
 ghost use Rattle.mount9.specs.HeaderLines.{bytes_of, name_of, bytes_field, file_at, is_taken, is_allowed, add_file, record_at};
 ghost use Rattle.mount9.specs.HeaderViews.{file_view, files_view, GivesBytes};
@@ -56,7 +57,8 @@ fn bytes_field(alloc: Global, at: u64, line: &[u8]) -> Result<(Vec<u8>, &[u8]), 
 // The name of a path of one name.
 #[tactic(auto, unfolding(crate::specs::HeaderLines::name_of))]
 fn name_of(path: &[u8]) -> Option<&[u8]>
-    ensures { option_map (λ x. x.now) result ≡ name_of path.now }
+    ensures value { option_map (λ x. x.now) result ≡ name_of path.now }
+    ensures good { IfSome result (λ x. name_fault x.now ≡ None) }
 {
     if path.is_empty() || path[0] != b'/' || !is_plain(path) {
         return None;
@@ -69,7 +71,8 @@ fn name_of(path: &[u8]) -> Option<&[u8]>
 
 #[tactic(auto, unfolding(crate::specs::HeaderLines::file_at))]
 fn file_line(alloc: Global, at: u64, line: &[u8]) -> Result<FileLine, HeaderError>
-    ensures { Gives file_view result (file_at at line.now) }
+    ensures value { Gives file_view result (file_at at line.now) }
+    ensures good { IfOk result (λ f. (f.mode < 4096) × (name_fault f.name.items ≡ None)) }
 {
     let rest = keyword(b"file", at, line)?;
     let (mode, rest) = mode_field(at, rest)?;
