@@ -1,3 +1,4 @@
 pub mod Loops
 pub mod Takes
-mod TableViews
+pub mod TableViews
+pub mod TableOrder

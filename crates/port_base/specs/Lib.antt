@@ -4,3 +4,4 @@ pub mod Lending
 pub mod Names
 pub mod Streams
 pub mod Words
+pub mod Tables

@@ -1,5 +1,6 @@
 //! A map from numbers, which contracts see as a finite map.
-ghost use Rattle.std.specs.Prelude.{◌≡◌, OnOk, OnErr, IsSome, IsOk, option_copied};
+ghost use Rattle.std.specs.Prelude.{◌≡◌, ◌<◌, ℕ, Some, None, OnOk, OnErr, IfSome, IfNone, IsSome, IsOk, option_copied, option_map};
+ghost use Rattle.port_base.specs.Tables.{next_after};
 ghost use Rattle.std.specs.Ordering.{nat_cmp};
 ghost use Rattle.std.specs.FinMap as map;
 ghost use Rattle.std.specs.Borrow.{sem};
@@ -9,6 +10,7 @@ ghost use Rattle.port_base.specs.Lending.{LendsValue};
 use std::alloc::{AllocError, Global};
 use std::collections::BTreeMap;
 use std::marker::Model;
+use std::ops::Bound;
 
 /// Values by number, in order.
 #[derive(Drop)]
@@ -45,11 +47,29 @@ impl<V> Table<V> {
         self.entries.get(&key)
     }
 
+    /// How many keys have a value.
+    pub fn len(&self) -> usize
+        ensures { result ≡ map.len self.now }
+    {
+        self.entries.len()
+    }
+
     /// Whether a key has a value.
     pub fn contains_key(&self, key: u64) -> bool
         ensures { result ≡ map.contains_key self.now key }
     {
         self.entries.contains_key(&key)
+    }
+
+    /// The least key above the given one, with its value.
+    pub fn next_after(&self, key: u64) -> Option<(u64, &V)>
+        ensures { option_map (λ e. (e.0, e.1.now)) result ≡ next_after key self.now }
+    {
+        let mut above = self.entries.range((Bound::Excluded(key), Bound::Unbounded));
+        match above.next() {
+            Some(entry) => Some((*entry.0, entry.1)),
+            None => None,
+        }
     }
 
     /// Gives a key a value. A key that has one already takes no memory; without memory nothing changes.
@@ -70,6 +90,16 @@ impl<V> Table<V> {
         ensures removed { self.new ≡ map.remove self.old key }
     {
         self.entries.remove(&key)
+    }
+
+    /// Takes the least key that has a value away, and gives both back. It takes no memory.
+    pub fn pop_first(&mut self) -> Option<(u64, V)>
+        ensures value { IfSome result (λ e. map.get self.old e.0 ≡ Some e.1) }
+        ensures removed { IfSome result (λ e. self.new ≡ map.remove self.old e.0) }
+        ensures least { IfSome result (λ e. (k : ℕ) → k < e.0 → map.get self.old k ≡ None) }
+        ensures none { IfNone result ((self.old ≡ map.empty) × (self.new ≡ self.old)) }
+    {
+        self.entries.pop_first()
     }
 
     /// Writes a value in the place of the one that a key has.

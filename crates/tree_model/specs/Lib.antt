@@ -5,3 +5,5 @@ pub mod Attributes
 pub mod Settings
 pub mod Making
 pub mod Sound
+pub mod GoodLaws
+pub mod Reading

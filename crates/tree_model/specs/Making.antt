@@ -8,10 +8,14 @@ use Rattle.tree_model.specs.Tree.{Tree, Record, Records, Body, Entry, top, body_
 use Rattle.tree_model.specs.Tree.Body.{File, Directory, Link}
 use Rattle.tree_model.specs.Finding.{entry_named}
 
+-- the top directory as it is made, without entries
+abbrev pub top_record : Stamp → ℕ → ℕ → ℕ → Record
+top_record born mode uid gid = record { body = Directory [] 1 top; mode = mode; uid = uid; gid = gid; links = 2; atime = born; mtime = born; ctime = born }
+
 -- a tree of the top directory alone
 abbrev pub new_tree : Limits → Stamp → Stamp → ℕ → ℕ → ℕ → Tree
 new_tree limits moment born mode uid gid = record {
-  records = map.insert map.empty top (record { body = Directory [] 1 top; mode = mode; uid = uid; gid = gid; links = 2; atime = born; mtime = born; ctime = born });
+  records = map.insert map.empty top (top_record born mode uid gid);
   next = 2;
   limits = limits;
   moment = moment;

@@ -1,5 +1,5 @@
 -- How a tree is shared.
-use Rattle.std.specs.Prelude.{◌≡◌, ℕ, ◌+◌, Bool, List, Option, unwrap_or}
+use Rattle.std.specs.Prelude.{◌≡◌, ℕ, ◌+◌, Bool, List, Option, unwrap_or, Result, Ok, Err}
 use Rattle.std.specs.Ordering.{nat_cmp}
 use Rattle.std.specs.FinMap as map
 use Rattle.std.specs.FinMap.{FinMap}
@@ -25,3 +25,7 @@ mapped ids id = unwrap_or (map.get ids id) id
 -- what is shown of an inode: its mode has the type bits, its owners are mapped
 abbrev pub shown_of : Settings → Attr → Attr
 shown_of s a = record a { mode = type_bits a.kind + a.mode; uid = mapped s.uid_map a.uid; gid = mapped s.gid_map a.gid }
+
+abbrev pub shown_told : Settings → Result Attr ℕ → Result Attr ℕ
+shown_told s (Ok a) = Ok (shown_of s a)
+shown_told s (Err e) = Err e

@@ -1,1 +1,52 @@
 //! Laws over trees. Each function makes no call: its contract is the law.
+ghost use Rattle.std.specs.Prelude.{◌≡◌, ℕ, ◌+◌, ◌<◌, List, Bool, Ok, None};
+ghost use Rattle.std.specs.FinMap as map;
+ghost use Rattle.port_base.specs.Names.{name_fault};
+ghost use Rattle.tree_model.specs.Tree.{Tree, Records, Record, name_count, names_in, weight, linked, keep};
+ghost use Rattle.tree_model.specs.Good.{IsGoodTree, IsGoodLimits, IsGoodStamp};
+ghost use Rattle.tree_model.specs.Sound.{IsCounted, AreStored};
+ghost use Rattle.tree_model.specs.Making.{new_tree, NewFile, add_file_of};
+ghost use Rattle.tree_model.specs.declared.attributes.Stamp.{Stamp};
+ghost use Rattle.tree_model.specs.declared.attributes.Limits.{Limits};
+
+/// After one record changed, the entries that name an inode are those that did, but for those of that
+/// record.
+pub fn count_after_change()
+    ensures { (rs : Records) (k i : ℕ) (r : Record) →
+        name_count (map.insert rs k r) i + weight (names_in i) (map.get rs k) ≡ name_count rs i + names_in i r }
+{
+}
+
+/// In a good tree links are counted, and what is named is stored.
+pub fn good_trees_are_counted()
+    ensures { (t : Tree) (held : ℕ → Bool) → IsGoodTree t → AreStored t.records held → IsCounted t.records t.next held }
+{
+}
+
+/// A tree of the top directory alone is good.
+pub fn new_trees_are_good()
+    ensures { (limits : Limits) (moment born : Stamp) (mode uid gid : ℕ) →
+        IsGoodLimits limits → IsGoodStamp moment → IsGoodStamp born → mode < 4096 →
+        IsGoodTree (new_tree limits moment born mode uid gid) }
+{
+}
+
+/// What is kept of a good tree is good, whatever is held.
+pub fn kept_trees_are_good()
+    ensures { (t : Tree) (held : ℕ → Bool) → IsGoodTree t → IsGoodTree (keep held t) }
+{
+}
+
+/// What is linked of a good tree is a good tree.
+pub fn linked_trees_are_good()
+    ensures { (t : Tree) → IsGoodTree t → IsGoodTree (linked t) }
+{
+}
+
+/// A good tree stays good where a file is added.
+pub fn trees_with_a_file_are_good()
+    ensures { (t : Tree) (born : Stamp) (dir : ℕ) (name : List ℕ) (f : NewFile) (ino : ℕ) (u : Tree) →
+        IsGoodTree t → IsGoodStamp born → name_fault name ≡ None → f.mode < 4096 →
+        add_file_of born t dir name f ≡ Ok (ino, u) → IsGoodTree u }
+{
+}

@@ -1,0 +1,36 @@
+-- What single messages answer, in the terms of those that ask them.
+use Rattle.std.specs.Prelude.{◌≡◌, ◌⊎◌, ℕ, List, [], ◌∷◌, Option, Some, None, Result, Ok, Err, if◌then◌else◌, nat_le}
+use Rattle.std.specs.FinMap as map
+use Rattle.port_base.specs.Faults.{Rose}
+use Rattle.port_base.specs.declared.errno.TheConstants.{EIO, ENFILE}
+use Rattle.tree_model.specs.Finding.{find, root_of}
+use Rattle.tree_model.specs.Attributes.{Qid, stat_of}
+use Rattle.tree_model.specs.Settings.{Settings, shown_told}
+use Rattle.tree_model.specs.declared.attributes.Attr.{Attr}
+use Rattle.fid_model.specs.Fids.{ServerState, settled, closed}
+use Rattle.fid_model.specs.Answers.{qid_at}
+
+-- the answer and state that are told; or, only where the count rose, EIO and the same state
+abbrev pub Asks : {A : Type 0} → Result A ℕ × ServerState → Result A ℕ → ServerState → ServerState → ℕ → ℕ → Type 0
+Asks told answer s0 s1 f0 f1 = ((answer, s1) ≡ told) ⊎ (Rose f0 f1 × (answer ≡ Err EIO) × (s1 ≡ s0))
+
+-- a new fid names what was found
+abbrev pub named : ServerState → ℕ → Result ℕ ℕ → Result Qid ℕ × ServerState
+named s newfid (Ok i) = (Ok (qid_at s.tree i), record s { fids = map.insert s.fids newfid (closed i) })
+named s newfid (Err e) = (Err e, s)
+
+-- a walk by one name that has no fault, from an inode to a new fid
+abbrev pub walk_one_told : ServerState → ℕ → ℕ → List ℕ → Result Qid ℕ × ServerState
+walk_one_told s dir newfid name = named s newfid (find s.settings.casefold s.tree dir name)
+
+-- an attach to a server without fids
+abbrev pub attach_told : ServerState → ℕ → Result Qid ℕ × ServerState
+attach_told s fid = if nat_le s.settings.limit 0 then (Err ENFILE, s) else named s fid (root_of s.tree s.settings.root)
+
+-- what is shown of an inode
+abbrev pub getattr_told : ServerState → ℕ → Result Attr ℕ × ServerState
+getattr_told s i = (shown_told s.settings (stat_of s.tree i), s)
+
+-- a fid goes
+abbrev pub clunked : ServerState → ℕ → ServerState
+clunked s fid = settled (record s { fids = map.remove s.fids fid })

@@ -1,0 +1,5 @@
+pub mod Fids
+pub mod Answers
+pub mod Serving
+pub mod Handling
+pub mod Asked

@@ -1,0 +1,20 @@
+-- How long the bodies of replies are.
+use Rattle.std.proofs.Common.{◌≡◌, ℕ, length, refl}
+use Rattle.fuse_wire.specs.declared.attr.FileAttr.{FileAttr}
+use Rattle.fuse_wire.specs.Reply.{u32s, u64s, attr_bytes, entry_body, attr_body, init_body}
+
+pub length-attr_bytes : (attr : FileAttr) → length (attr_bytes attr) ≡ 88
+unfolding attr_bytes u32s u64s
+length-attr_bytes attr = refl
+
+pub length-entry_body : (node : ℕ) (attr : FileAttr) → length (entry_body node attr) ≡ 128
+unfolding entry_body attr_bytes u32s u64s
+length-entry_body node attr = refl
+
+pub length-attr_body : (attr : FileAttr) → length (attr_body attr) ≡ 104
+unfolding attr_body attr_bytes u32s u64s
+length-attr_body attr = refl
+
+pub length-init_body : (minor max_readahead : ℕ) → length (init_body minor max_readahead) ≡ 64
+unfolding init_body u32s
+length-init_body minor max_readahead = refl

@@ -1,0 +1,56 @@
+-- What a frame asks, by the bodies that fuse.h (protocol 7) lays out.
+use Rattle.std.specs.Prelude.{ℕ, ◌+◌, List, length, take, drop, position, Option, Some, None, Result, Err, Bool, ◌==◌, nat_lt, if◌then◌else◌}
+use Rattle.std.specs.Option.{option_map, option_and_then, ok_or}
+use Rattle.port_base.specs.declared.errno.TheConstants.{EINVAL, ENOSYS}
+use Rattle.fuse_wire.specs.declared.head.TheConstants.{IN_HEADER_SIZE}
+use Rattle.fuse_wire.specs.declared.opcode.TheConstants.{FUSE_LOOKUP, FUSE_GETATTR, FUSE_INIT, FUSE_GETATTR_FH}
+use Rattle.fuse_wire.specs.declared.request.TheConstants.{INIT_IN_SIZE, GETATTR_IN_SIZE}
+use Rattle.fuse_wire.specs.Fields.{u32_at, u64_at, given}
+use Rattle.fuse_wire.specs.Head.{head_of}
+
+-- what a request asks of the node in its head
+pub data Request : Type 0 where
+  init : (major minor max_readahead flags : ℕ) → Request
+  lookup : (name : List ℕ) → Request
+  getattr : (handle : Option ℕ) → Request
+
+abbrev pub is_zero : ℕ → Bool
+is_zero byte = byte == 0
+
+-- a name up to its zero byte, and what follows that
+abbrev pub split_name : List ℕ → ℕ → List ℕ × List ℕ
+split_name bytes zero_at = (take zero_at bytes, drop (zero_at + 1) bytes)
+
+unfoldable pub name_at : List ℕ → Option (List ℕ × List ℕ)
+name_at bytes = option_map (split_name bytes) (position is_zero bytes)
+
+-- the name, where nothing follows it
+abbrev pub alone : List ℕ × List ℕ → Option (List ℕ)
+alone x = if length x.1 == 0 then Some x.0 else None
+
+-- a body that is one name: it ends by a zero byte, and has none inside
+unfoldable pub only_name : List ℕ → Option (List ℕ)
+only_name body = option_and_then alone (name_at body)
+
+-- four numbers of 4 bytes, and then any bytes
+unfoldable pub init_of : List ℕ → Option Request
+init_of body = if nat_lt (length body) INIT_IN_SIZE then None else Some (init (u32_at body 0) (u32_at body 4) (u32_at body 8) (u32_at body 12))
+
+unfoldable pub lookup_of : List ℕ → Option Request
+lookup_of body = option_map lookup (only_name body)
+
+-- exactly flags of 4 bytes, 4 bytes that are ignored, and a handle of 8
+unfoldable pub getattr_of : List ℕ → Option Request
+getattr_of body = if length body == GETATTR_IN_SIZE then Some (getattr (given (u32_at body 0) FUSE_GETATTR_FH (u64_at body 8))) else None
+
+-- ENOSYS for an opcode that isn't served, EINVAL for a body outside its grammar
+unfoldable pub request_in : ℕ → List ℕ → Result Request ℕ
+request_in opcode body =
+    if opcode == FUSE_LOOKUP then ok_or (lookup_of body) EINVAL else
+    if opcode == FUSE_GETATTR then ok_or (getattr_of body) EINVAL else
+    if opcode == FUSE_INIT then ok_or (init_of body) EINVAL else
+    Err ENOSYS
+
+-- what a frame asks
+unfoldable pub request_of : List ℕ → Result Request ℕ
+request_of frame = request_in (head_of frame).opcode (drop IN_HEADER_SIZE frame)

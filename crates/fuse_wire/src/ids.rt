@@ -1,0 +1,21 @@
+//! Numbers that are told apart by their types.
+
+/// An error number, as Linux has them (`errno(3)`).
+#[derive(Clone, Copy, Debug, PartialEq, Eq)]
+pub struct Errno(pub u32);
+
+/// A node id, `nodeid` of `fuse.h`.
+#[derive(Clone, Copy, Debug, PartialEq, Eq)]
+pub struct INodeNo(pub u64);
+
+/// A handle of an open file, `fh` of `fuse.h`.
+#[derive(Clone, Copy, Debug, PartialEq, Eq)]
+pub struct FileHandle(pub u64);
+
+/// A node's generation, which tells apart inodes that had one number.
+#[derive(Clone, Copy, Debug, PartialEq, Eq)]
+pub struct Generation(pub u64);
+
+/// A request's number, `unique` of `fuse.h`. Its reply has the same.
+#[derive(Clone, Copy, Debug, PartialEq, Eq)]
+pub struct RequestId(pub u64);

@@ -1,0 +1,13 @@
+//! FUSE frames on the wire: requests by their grammar, replies by their layouts (Linux `fuse.h`, protocol 7).
+#![tactic(auto)]
+
+pub mod attr;
+mod fields;
+pub mod frames;
+pub mod head;
+pub mod ids;
+pub mod opcode;
+pub mod reply;
+pub mod request;
+#[cfg(test)]
+mod tests;

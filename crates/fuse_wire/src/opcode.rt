@@ -1,0 +1,21 @@
+//! Numbers of the FUSE protocol, as Linux's `fuse.h` has them (protocol 7).
+
+/// Looks a name up in a directory.
+pub const FUSE_LOOKUP: u32 = 1;
+/// Asks for attributes.
+pub const FUSE_GETATTR: u32 = 3;
+/// Begins a session.
+pub const FUSE_INIT: u32 = 26;
+
+/// Counts a node down. It never gets a reply.
+pub const FUSE_FORGET: u32 = 2;
+/// Takes a request back. It never gets a reply.
+pub const FUSE_INTERRUPT: u32 = 36;
+/// Counts several nodes down. It never gets a reply.
+pub const FUSE_BATCH_FORGET: u32 = 42;
+
+/// A flag of GETATTR: a handle is given.
+pub const FUSE_GETATTR_FH: u32 = 1;
+
+/// The protocol's major number.
+pub const FUSE_KERNEL_VERSION: u32 = 7;

@@ -1,0 +1,137 @@
+//! Requests.
+ghost use Rattle.std.specs.Prelude.{◌≡◌, ◌<◌, ◌≤◌, length, position, IfSome};
+ghost use Rattle.std.specs.Option.{option_map};
+ghost use Rattle.fuse_wire.specs.Body.{plain, Gives, Reads};
+ghost use Rattle.fuse_wire.specs.Request.{is_zero, name_at, only_name, init_of, lookup_of, getattr_of, request_in, request_of};
+
+use crate::fields::{given, u32_at, u64_at};
+use crate::head::{Head, IN_HEADER_SIZE};
+use crate::ids::Errno;
+use crate::opcode::{FUSE_GETATTR, FUSE_GETATTR_FH, FUSE_INIT, FUSE_LOOKUP};
+use port_base::errno::{EINVAL, ENOSYS};
+
+/// The size of what INIT tells (`fuse_init_in` of `fuse.h` up to its flags), in bytes.
+pub const INIT_IN_SIZE: usize = 16;
+/// The size of GETATTR's body (`fuse_getattr_in` of `fuse.h`), in bytes.
+pub const GETATTR_IN_SIZE: usize = 16;
+
+/// What a request asks, behind its head. Its names are parts of the frame.
+#[derive(Clone, Copy, Debug, PartialEq, Eq)]
+pub enum Body<'a> {
+    /// Begins a session.
+    Init {
+        major: u32,
+        minor: u32,
+        max_readahead: u32,
+        flags: u32,
+    },
+    /// Looks a name up in the node, a directory.
+    Lookup {
+        name: &'a [u8],
+    },
+    /// Asks for the attributes of a handle's file, or of the node.
+    GetAttr {
+        handle: Option<u64>,
+    },
+}
+
+/// A request.
+#[derive(Clone, Copy, Debug, PartialEq, Eq)]
+pub struct FuseRequest<'a> {
+    pub head: Head,
+    pub body: Body<'a>,
+}
+
+// Where the first zero byte is.
+fn zero_at(bytes: &[u8]) -> Option<usize>
+    ensures found { result ≡ position is_zero bytes.now }
+    ensures bound { IfSome result (λ i. i < length bytes.now) }
+{
+    bytes.iter().position(|byte| *byte == 0)
+}
+
+// A name at the front, and what follows its zero byte.
+#[tactic(auto, unfolding(crate::specs::Request::name_at))]
+fn name_at(bytes: &[u8]) -> Option<(&[u8], &[u8])>
+    ensures { option_map (λ x. (x.0.now, x.1.now)) result ≡ name_at bytes.now }
+{
+    let end = zero_at(bytes)?;
+    Some((&bytes[..end], &bytes[end + 1..]))
+}
+
+// The name that is the whole body, with its zero byte.
+#[tactic(auto, unfolding(crate::specs::Request::only_name))]
+fn only_name(body: &[u8]) -> Option<&[u8]>
+    ensures { option_map (λ name. name.now) result ≡ only_name body.now }
+{
+    let (name, rest) = name_at(body)?;
+    if !rest.is_empty() {
+        return None;
+    }
+    Some(name)
+}
+
+#[tactic(auto, unfolding(crate::specs::Request::init_of))]
+fn init_of(body: &[u8]) -> Option<Body<'_>>
+    ensures { option_map plain result ≡ init_of body.now }
+{
+    if body.len() < INIT_IN_SIZE {
+        return None;
+    }
+    Some(Body::Init {
+        major: u32_at(body, 0),
+        minor: u32_at(body, 4),
+        max_readahead: u32_at(body, 8),
+        flags: u32_at(body, 12),
+    })
+}
+
+#[tactic(auto, unfolding(crate::specs::Request::lookup_of))]
+fn lookup_of(body: &[u8]) -> Option<Body<'_>>
+    ensures { option_map plain result ≡ lookup_of body.now }
+{
+    let name = only_name(body)?;
+    Some(Body::Lookup { name })
+}
+
+#[tactic(auto, unfolding(crate::specs::Request::getattr_of))]
+fn getattr_of(body: &[u8]) -> Option<Body<'_>>
+    ensures { option_map plain result ≡ getattr_of body.now }
+{
+    if body.len() != GETATTR_IN_SIZE {
+        return None;
+    }
+    let flags = u32_at(body, 0);
+    let handle = given(flags, FUSE_GETATTR_FH, u64_at(body, 8));
+    Some(Body::GetAttr { handle })
+}
+
+// The body of a request with this opcode.
+#[tactic(auto, unfolding(crate::specs::Request::request_in))]
+fn body_of(opcode: u32, body: &[u8]) -> Result<Body<'_>, Errno>
+    ensures { Gives result (request_in opcode body.now) }
+{
+    match opcode {
+        FUSE_LOOKUP => lookup_of(body).ok_or(Errno(EINVAL)),
+        FUSE_GETATTR => getattr_of(body).ok_or(Errno(EINVAL)),
+        FUSE_INIT => init_of(body).ok_or(Errno(EINVAL)),
+        _ => Err(Errno(ENOSYS)),
+    }
+}
+
+impl<'a> FuseRequest<'a> {
+    /// The request that a frame is. It takes no memory.
+    ///
+    /// ENOSYS exactly for an opcode that isn't served; then EINVAL exactly for a body outside its grammar.
+    #[tactic(auto, unfolding(crate::specs::Request::request_of))]
+    pub fn read(frame: &'a [u8]) -> Result<FuseRequest<'a>, Errno>
+        requires { IN_HEADER_SIZE ≤ length frame.now }
+        ensures { Reads result frame.now }
+    {
+        let head = Head::read(frame);
+        match body_of(head.opcode, &frame[IN_HEADER_SIZE..]) {
+            Ok(body) => Ok(FuseRequest { head, body }),
+            Err(errno) => Err(errno),
+        }
+    }
+}

@@ -1,0 +1,5 @@
+mod Replies
+mod Answering
+mod Names
+mod Settled
+mod Attaching

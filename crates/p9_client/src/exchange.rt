@@ -1,0 +1,87 @@
+// One message and its reply.
+ghost use Rattle.std.specs.Prelude.{◌≡◌, ◌+◌, ◌-◌, ◌<◌, ◌≤◌, ◌^◌, ℕ, List, min, length, IfOk, OnOk, OnErr, slice_index, drop};
+ghost use Rattle.p9_tmsg.specs.Messages.{Message, message_of, MessageSpells, message_spelling};
+ghost use Rattle.p9_tmsg.specs.Frames.{message_frame};
+ghost use Rattle.p9_rmsg.specs.Replies.{Reply, reply_of, ReplySpells};
+ghost use Rattle.p9_rmsg.specs.Frames.{reply_frame};
+ghost use Rattle.fid_model.specs.Handling.{Outcome, Steadily};
+ghost use Rattle.p9_client.specs.Asking.{IsAskable, RepliesWith, IsUnfinished, IsReplyFrame};
+
+use fid_model::Nine;
+use p9_rmsg::Rmessage;
+use p9_tmsg::Tmessage;
+use p9_wire::error::WireError;
+use p9_wire::frame::Framed;
+use port_base::memory::{MemSink, SliceSource};
+use port_base::sink::NoMemory;
+use std::alloc::Global;
+
+// The tag of every message: one is asked at a time.
+const TAG: u16 = 0;
+
+// The message in its frame.
+fn frame_of(alloc: Global, message: &Tmessage) -> Result<MemSink, NoMemory>
+    requires spells { MessageSpells (message_of message.now) }
+    requires short { 7 + length (message_spelling (message_of message.now)) < 2 ^ 32 }
+    ensures { IfOk result (λ s. s.bytes.items ≡ message_frame 0 (message_of message.now)) }
+{
+    let mut sink = MemSink::new(alloc);
+    match message.send_frame(TAG, &mut sink) {
+        Ok(()) => Ok(sink),
+        Err(_) => Err(NoMemory),
+    }
+}
+
+// What the server answers to a frame.
+fn reply_to<N: Nine>(alloc: Global, nine: &mut N, frame: &[u8]) -> Result<MemSink, NoMemory>
+    ensures reply { (m : Message) → frame.now ≡ message_frame 0 m → IsAskable (N.state nine.old) m → IfOk result (λ s. RepliesWith m (N.state nine.old) (N.state nine.new) (N.faults nine.old) (N.faults nine.new) s.bytes.items) }
+    ensures err { OnErr result (N.state nine.new ≡ N.state nine.old) }
+    ensures rises { N.faults nine.old ≤ N.faults nine.new }
+    ensures fixed { (N.state nine.new).settings ≡ (N.state nine.old).settings }
+    ensures asked { N.asked nine.new ≡ min (N.asked nine.old + 1) (2 ^ 64 - 1) }
+    ensures steady { N.steady nine.new ≡ N.steady nine.old }
+    ensures steadily { Steadily (N.steady nine.old) (N.faults nine.old) (N.faults nine.new) }
+{
+    let mut reader = SliceSource::new(frame);
+    let mut writer = MemSink::new(alloc);
+    match nine.handle_message(&mut reader, &mut writer) {
+        Ok(()) => Ok(writer),
+        Err(_) => Err(NoMemory),
+    }
+}
+
+// The message that a reply's frame spells.
+fn reply_in(alloc: Global, frame: &[u8]) -> Result<Rmessage, NoMemory>
+    requires { IsReplyFrame frame.now }
+    ensures { (tag : ℕ) (r : Reply) → frame.now ≡ reply_frame tag r → ReplySpells r → IfOk result (λ m. reply_of m ≡ r) }
+{
+    let mut source = SliceSource::new(&frame[7..]);
+    match Rmessage::decode_body(alloc, &mut source, frame[4]) {
+        Ok(message) => Ok(message),
+        Err(fault) => match fault {
+            WireError::NoMemory => Err(NoMemory),
+            _ => unreachable!(),
+        },
+    }
+}
+
+/// Asks a server one message. Its only error is want of memory, which leaves the state as it was or as the
+/// message left it.
+pub fn exchange<N: Nine>(
+    alloc: Global,
+    nine: &mut N,
+    message: &Tmessage,
+) -> Result<Rmessage, NoMemory>
+    requires { IsAskable (N.state nine.old) (message_of message.now) }
+    ensures outcome { IfOk result (λ r. Outcome (N.state nine.old) (message_of message.now) (reply_of r) (N.state nine.new) (N.faults nine.old) (N.faults nine.new)) }
+    ensures err { OnErr result (IsUnfinished (N.state nine.old) (message_of message.now) (N.state nine.new) (N.faults nine.old) (N.faults nine.new)) }
+    ensures rises { N.faults nine.old ≤ N.faults nine.new }
+    ensures fixed { (N.state nine.new).settings ≡ (N.state nine.old).settings }
+    ensures asked { OnOk result (N.asked nine.new ≡ min (N.asked nine.old + 1) (2 ^ 64 - 1)) }
+    ensures steady { N.steady nine.new ≡ N.steady nine.old }
+    ensures steadily { Steadily (N.steady nine.old) (N.faults nine.old) (N.faults nine.new) }
+{
+    let request = frame_of(alloc, message)?;
+    let reply = reply_to(alloc, nine, request.as_bytes())?;
+    reply_in(alloc, reply.as_bytes())
+}

@@ -1,0 +1,5 @@
+//! Asking a 9P server: one typed call a message, over any `Nine`.
+#![tactic(auto)]
+
+pub mod calls;
+mod exchange;

@@ -1,0 +1,4 @@
+pub mod Replies
+pub mod ReplyLaws
+pub mod Frames
+pub mod Dirents

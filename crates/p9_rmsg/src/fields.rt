@@ -1,0 +1,3 @@
+// The fields of each message, one after another.
+mod attributes;
+mod session;

@@ -1,0 +1,12 @@
+pub mod Reading
+pub mod Sending
+pub mod Steps
+pub mod Numbers
+pub mod Fields
+pub mod Items
+pub mod Texts
+pub mod Frames
+pub mod FrameLaws
+pub mod Qids
+pub mod Values
+pub mod Kinds

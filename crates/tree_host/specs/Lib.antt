@@ -1,0 +1,6 @@
+pub mod Holds
+pub mod Host
+pub mod Stored
+pub mod Walking
+pub mod Kept
+pub mod TreeHosts

@@ -1,0 +1,300 @@
+//! Records as they are kept in memory.
+ghost use Rattle.std.specs.Prelude.{◌≡◌, ◌+◌, ◌-◌, ◌^◌, ◌<◌, ◌++◌, ◌∷◌, [], not, ◌==◌, Some, IfOk, OnOk, OnErr, option_copied, option_and_then, bytes_eq, false, length, take, drop};
+ghost use Rattle.tree_model.specs.Tree.{is_directory};
+ghost use Rattle.tree_model.specs.Finding.{entry_named, entries_of, ino_among};
+ghost use Rattle.tree_model.specs.Attributes.{attr_of};
+ghost use Rattle.tree_model.specs.Reading.{above, entry_above, bytes_of, part};
+ghost use Rattle.tree_model.specs.Making.{joined_by, next_cookie, new_name_refused, file_record, top_record};
+ghost use Rattle.tree_host.specs.Host.{as_errno};
+ghost use Rattle.tree_host.specs.Stored.{body_of};
+
+use port_base::errno::{EEXIST, ENOENT, ENOSPC, ENOTDIR};
+use std::alloc::{AllocError, Global};
+use std::marker::Model;
+use tree_model::{Attr, HostError, Kind, Stamp};
+
+/// The inode number of the top directory.
+pub const TOP: u64 = 1;
+
+/// A name in a directory, with its cookie and the inode that it names.
+#[derive(Drop)]
+pub struct Name {
+    cookie: u64,
+    name: Vec<u8>,
+    ino: u64,
+}
+
+impl Model for Name {
+    ghost use Rattle.tree_model.specs.Tree.{Entry};
+
+    ghost Value = { Entry };
+
+    ghost view = { λ a. record { cookie = a.cookie; name = a.name.items; ino = a.ino } };
+}
+
+impl Name {
+    pub fn cookie(&self) -> u64
+        ensures { result ≡ self.now.cookie }
+    {
+        self.cookie
+    }
+
+    pub fn ino(&self) -> u64
+        ensures { result ≡ self.now.ino }
+    {
+        self.ino
+    }
+
+    pub fn name(&self) -> &[u8]
+        ensures { result.now ≡ self.now.name }
+    {
+        &self.name
+    }
+
+    fn is_named(&self, name: &[u8]) -> bool
+        ensures { result ≡ bytes_eq self.now.name name.now }
+    {
+        self.name.as_slice() == name
+    }
+}
+
+fn find_name<'a>(entries: &'a [Name], name: &[u8]) -> Option<&'a Name>
+    ensures { option_copied result ≡ entry_named name.now entries.now }
+{
+    entries.iter().find(|e| e.is_named(name))
+}
+
+fn find_above(entries: &[Name], cookie: u64) -> Option<&Name>
+    ensures { option_copied result ≡ entry_above cookie entries.now }
+{
+    entries.iter().find(|e| cookie < e.cookie())
+}
+
+// Copies what is there from an offset on and fits, and returns how many bytes.
+fn copy_part(bytes: &[u8], offset: u64, buf: &mut [u8]) -> usize
+    ensures count { result ≡ length (part bytes.now offset (length buf.old)) }
+    ensures bytes { buf.new ≡ part bytes.now offset (length buf.old) ++ drop result buf.old }
+{
+    let start = bytes.len().min(offset as usize);
+    let rest = &bytes[start..];
+    let count = rest.len().min(buf.len());
+    buf[..count].copy_from_slice(&rest[..count]);
+    count
+}
+
+fn push_name(alloc: Global, entries: &mut Vec<Name>, cookie: u64, name: &[u8], ino: u64) -> Result<(), AllocError>
+    ensures ok { OnOk result (entries.new.items ≡ entries.old.items ++ record { cookie = cookie; name = name.now; ino = ino } ∷ []) }
+    ensures err { OnErr result (entries.new.items ≡ entries.old.items) }
+{
+    let name = Vec::from_slice(alloc, name)?;
+    entries.push(Name { cookie, name, ino })?;
+    Ok(())
+}
+
+/// What a record holds: a file its bytes; a directory its names, the next cookie and the number of the
+/// directory above; a link its target.
+#[derive(Drop)]
+pub enum Stored {
+    Bytes(Vec<u8>),
+    Names {
+        entries: Vec<Name>,
+        next: u64,
+        above: u64,
+    },
+    Target(Vec<u8>),
+}
+
+/// A record.
+#[derive(Drop)]
+pub struct Node {
+    body: Stored,
+    mode: u32,
+    uid: u32,
+    gid: u32,
+    links: u64,
+    atime: Stamp,
+    mtime: Stamp,
+    ctime: Stamp,
+}
+
+impl Model for Node {
+    ghost use Rattle.tree_model.specs.Tree.{Record};
+    ghost use Rattle.tree_host.specs.Stored.{body_of};
+
+    ghost Value = { Record };
+
+    ghost view = {
+        λ a. record {
+            body = body_of a.body; mode = a.mode; uid = a.uid; gid = a.gid; links = a.links;
+            atime = a.atime; mtime = a.mtime; ctime = a.ctime
+        }
+    };
+}
+
+impl Node {
+    /// The top directory, with no entries.
+    pub fn top(alloc: Global, mode: u32, uid: u32, gid: u32, born: Stamp) -> Self
+        ensures { result ≡ top_record born mode uid gid }
+    {
+        Node {
+            body: Stored::Names {
+                entries: Vec::new(alloc),
+                next: 1,
+                above: TOP,
+            },
+            mode,
+            uid,
+            gid,
+            links: 2,
+            atime: born,
+            mtime: born,
+            ctime: born,
+        }
+    }
+
+    /// A file that one entry names.
+    pub fn file(alloc: Global, mode: u32, uid: u32, gid: u32, bytes: &[u8], born: Stamp) -> Result<Self, AllocError>
+        ensures { IfOk result (λ node. node ≡ file_record born (record { mode = mode; uid = uid; gid = gid; bytes = bytes.now })) }
+    {
+        let bytes = Vec::from_slice(alloc, bytes)?;
+        Ok(Node {
+            body: Stored::Bytes(bytes),
+            mode,
+            uid,
+            gid,
+            links: 1,
+            atime: born,
+            mtime: born,
+            ctime: born,
+        })
+    }
+
+    pub fn links(&self) -> u64
+        ensures { result ≡ self.now.links }
+    {
+        self.links
+    }
+
+    pub fn is_directory(&self) -> bool
+        ensures { result ≡ is_directory self.now.body }
+    {
+        match &self.body {
+            Stored::Bytes(_) => false,
+            Stored::Names { .. } => true,
+            Stored::Target(_) => false,
+        }
+    }
+
+    /// The inode that a name of this directory names.
+    pub fn ino_of(&self, name: &[u8]) -> Result<u64, HostError>
+        ensures { result ≡ as_errno (ino_among false name.now (entries_of self.now.body)) }
+    {
+        let Stored::Names { entries, .. } = &self.body else {
+            return Err(HostError::Errno(ENOTDIR));
+        };
+        match find_name(entries, name) {
+            Some(entry) => Ok(entry.ino),
+            None => Err(HostError::Errno(ENOENT)),
+        }
+    }
+
+    /// What is told of this record, as inode `ino`.
+    pub fn attr(&self, ino: u64) -> Attr
+        ensures { result ≡ attr_of ino self.now }
+    {
+        let (kind, size) = match &self.body {
+            Stored::Bytes(bytes) => (Kind::File, bytes.len() as u64),
+            Stored::Names { .. } => (Kind::Directory, 0),
+            Stored::Target(target) => (Kind::Link, target.len() as u64),
+        };
+        Attr {
+            ino,
+            kind,
+            mode: self.mode,
+            uid: self.uid,
+            gid: self.gid,
+            links: self.links,
+            size,
+            atime: self.atime,
+            mtime: self.mtime,
+            ctime: self.ctime,
+        }
+    }
+
+    /// The number of the directory above, 0 for what is no directory.
+    pub fn above(&self) -> u64
+        ensures { result ≡ above self.now.body }
+    {
+        match &self.body {
+            Stored::Bytes(_) => 0,
+            Stored::Names { above, .. } => *above,
+            Stored::Target(_) => 0,
+        }
+    }
+
+    /// The cookie that the next entry gets, 0 for what is no directory.
+    pub fn next_cookie(&self) -> u64
+        ensures { result ≡ next_cookie self.now.body }
+    {
+        match &self.body {
+            Stored::Bytes(_) => 0,
+            Stored::Names { next, .. } => *next,
+            Stored::Target(_) => 0,
+        }
+    }
+
+    /// The first entry above a cookie.
+    pub fn entry_above(&self, cookie: u64) -> Option<&Name>
+        ensures { option_copied result ≡ option_and_then (entry_above cookie) (entries_of self.now.body) }
+    {
+        match &self.body {
+            Stored::Bytes(_) => None,
+            Stored::Names { entries, .. } => find_above(entries, cookie),
+            Stored::Target(_) => None,
+        }
+    }
+
+    /// Copies the bytes of a file from an offset on, as many as there are and fit, and returns how many.
+    pub fn read(&self, offset: u64, buf: &mut [u8]) -> usize
+        ensures count { result ≡ length (part (bytes_of self.now.body) offset (length buf.old)) }
+        ensures bytes { buf.new ≡ part (bytes_of self.now.body) offset (length buf.old) ++ drop result buf.old }
+    {
+        match &self.body {
+            Stored::Bytes(bytes) => copy_part(bytes, offset, buf),
+            Stored::Names { .. } => 0,
+            Stored::Target(_) => 0,
+        }
+    }
+
+    /// The first refusal of a new name in this directory.
+    pub fn refusal(&self, name: &[u8], number: u64, limit: u64) -> Option<u32>
+        ensures { result ≡ new_name_refused (not (self.now.links == 0)) limit number name.now (Some self.now.body) }
+    {
+        let Stored::Names { entries, next, .. } = &self.body else {
+            return Some(ENOTDIR);
+        };
+        if self.links == 0 {
+            return Some(ENOENT);
+        }
+        if find_name(entries, name).is_some() {
+            return Some(EEXIST);
+        }
+        if entries.len() as u64 >= limit || number >= u64::MAX || *next >= u64::MAX {
+            return Some(ENOSPC);
+        }
+        None
+    }
+
+    /// Adds an entry, where there is memory for it.
+    pub fn join(&mut self, alloc: Global, name: &[u8], ino: u64) -> Result<(), AllocError>
+        requires room { next_cookie self.old.body < 2 ^ 64 - 1 }
+        ensures ok { OnOk result (self.new ≡ joined_by name.now ino self.old) }
+        ensures err { OnErr result (self.new ≡ self.old) }
+    {
+        if let Stored::Names { entries, next, .. } = &mut self.body {
+            push_name(alloc, entries, *next, name, ino)?;
+            *next += 1;
+        }
+        Ok(())
+    }
+}

@@ -1,0 +1,170 @@
+//! Records in a table, by inode number.
+ghost use Rattle.std.specs.Prelude.{◌≡◌, ◌≢◌, not, Result, None, ℕ, ◌+◌, ◌-◌, ◌^◌, ◌<◌, OnOk, OnErr, IfOk, IfErr, Err, IsSome, option_map, unwrap_or, false};
+ghost use Rattle.std.specs.FinMap as map;
+ghost use Rattle.tree_model.specs.Tree.{body_at, is_directory_at};
+ghost use Rattle.tree_model.specs.Finding.{entries_at, ino_among, root_of, path_names};
+ghost use Rattle.tree_model.specs.Making.{change, joined_by, next_cookie, new_name_refused};
+ghost use Rattle.tree_model.specs.Sound.{has_no_links, swept};
+ghost use Rattle.tree_host.specs.Holds.{is_held};
+ghost use Rattle.tree_host.specs.Host.{as_errno, Answers};
+ghost use Rattle.tree_model.specs.Reading.{shown_entry, entry_after_among};
+ghost use Rattle.tree_host.specs.Walking.{part_step, part_end};
+ghost use Rattle.tree_host.specs.Kept.{tree_from};
+ghost use Rattle.tree_model.specs.declared.attributes.Limits.{Limits};
+ghost use Rattle.tree_model.specs.declared.attributes.Stamp.{Stamp};
+
+use crate::holds::is_held;
+use crate::entry::Entry;
+use crate::node::{Name, Node, TOP};
+use port_base::errno::ENOTDIR;
+use port_base::table::Table;
+use std::alloc::{AllocError, Global};
+use tree_model::HostError;
+
+/// The inode that a name of a directory names.
+pub fn find_in(nodes: &Table<Node>, dir: u64, name: &[u8]) -> Result<u64, HostError>
+    ensures { result ≡ as_errno (ino_among false name.now (entries_at nodes.now dir)) }
+{
+    match nodes.get(dir) {
+        Some(node) => node.ino_of(name),
+        None => Err(HostError::Errno(ENOTDIR)),
+    }
+}
+
+fn is_directory(nodes: &Table<Node>, ino: u64) -> bool
+    ensures { result ≡ is_directory_at (body_at nodes.now ino) }
+{
+    match nodes.get(ino) {
+        Some(node) => node.is_directory(),
+        None => false,
+    }
+}
+
+fn has_no_links(nodes: &Table<Node>, ino: u64) -> bool
+    ensures { result ≡ has_no_links (map.get nodes.now ino) }
+{
+    match nodes.get(ino) {
+        Some(node) => node.links() == 0,
+        None => false,
+    }
+}
+
+/// Takes a record away that has no links and no hold.
+pub fn sweep(nodes: &mut Table<Node>, holds: &Table<u64>, ino: u64)
+    ensures { nodes.new ≡ swept (is_held holds.now) nodes.old ino }
+{
+    if has_no_links(nodes, ino) && !is_held(holds, ino) {
+        nodes.remove(ino);
+    }
+}
+
+// One more part of a path.
+fn walk_part(nodes: &Table<Node>, at: Result<u64, HostError>, part: &[u8]) -> Result<u64, HostError>
+    ensures { (told : Result ℕ ℕ) → at ≡ as_errno told → result ≡ as_errno (part_step nodes.now part.now told) }
+{
+    let ino = at?;
+    if part.is_empty() {
+        return Ok(ino);
+    }
+    find_in(nodes, ino, part)
+}
+
+fn end_of_walk(nodes: &Table<Node>, at: Result<u64, HostError>) -> Result<u64, HostError>
+    ensures { (told : Result ℕ ℕ) → at ≡ as_errno told → result ≡ as_errno (part_end nodes.now told) }
+{
+    let ino = at?;
+    if is_directory(nodes, ino) {
+        Ok(ino)
+    } else {
+        Err(HostError::Errno(ENOTDIR))
+    }
+}
+
+/// The directory at the end of a path from the top, whatever else the tree has.
+pub fn walk(nodes: &Table<Node>, path: &[u8]) -> Result<u64, HostError>
+    ensures answer { (next : ℕ) (limits : Limits) (moment : Stamp) →
+        result ≡ as_errno (root_of (tree_from nodes.now next limits moment) (path_names path.now)) }
+    ensures errno { IfErr result (λ e. (n : ℕ) × (e ≡ HostError.Errno n)) }
+{
+    let mut at = Ok(TOP);
+    for part in path.split(|b| *b == b'/') {
+        at = walk_part(nodes, at, part);
+    }
+    end_of_walk(nodes, at)
+}
+
+/// The first refusal of a new name in a directory.
+pub fn refusal(nodes: &Table<Node>, dir: u64, name: &[u8], number: u64, limit: u64) -> Option<u32>
+    ensures { result ≡ new_name_refused (not (has_no_links (map.get nodes.now dir))) limit number name.now (body_at nodes.now dir) }
+{
+    match nodes.get(dir) {
+        Some(node) => node.refusal(name, number, limit),
+        None => Some(ENOTDIR),
+    }
+}
+
+fn take_away(nodes: &mut Table<Node>, ino: u64)
+    ensures { nodes.new ≡ map.remove nodes.old ino }
+{
+    nodes.remove(ino);
+}
+
+fn push_into(alloc: Global, nodes: &mut Table<Node>, dir: u64, name: &[u8], ino: u64) -> Result<(), AllocError>
+    requires room { unwrap_or (option_map next_cookie (body_at nodes.old dir)) 0 < 2 ^ 64 - 1 }
+    ensures ok { OnOk result (nodes.new ≡ change (joined_by name.now ino) nodes.old dir) }
+    ensures err { OnErr result (nodes.new ≡ nodes.old) }
+{
+    match nodes.get_mut(dir) {
+        Some(node) => node.join(alloc, name, ino),
+        None => Ok(()),
+    }
+}
+
+/// Adds a record with an entry for it. What was added is taken away again where memory is wanted.
+pub fn add_node(alloc: Global, nodes: &mut Table<Node>, dir: u64, name: &[u8], ino: u64, node: Node) -> Result<(), AllocError>
+    requires room { unwrap_or (option_map next_cookie (body_at nodes.old dir)) 0 < 2 ^ 64 - 1 }
+    requires apart { dir ≢ ino }
+    requires fresh { map.get nodes.old ino ≡ None }
+    ensures ok { OnOk result (nodes.new ≡ change (joined_by name.now ino) (map.insert nodes.old ino node) dir) }
+    ensures err { OnErr result (nodes.new ≡ nodes.old) }
+{
+    nodes.insert(ino, node)?;
+    match push_into(alloc, nodes, dir, name, ino) {
+        Ok(()) => Ok(()),
+        Err(error) => {
+            take_away(nodes, ino);
+            Err(error)
+        }
+    }
+}
+
+// An entry with what is told of the inode that it names.
+fn shown(alloc: Global, nodes: &Table<Node>, entry: &Name) -> Result<Option<Entry>, HostError>
+    ensures told { IfOk result (λ shown. shown ≡ shown_entry nodes.now entry.now) }
+    ensures memory { IfErr result (λ e. e ≡ HostError.NoMemory) }
+{
+    let Some(node) = nodes.get(entry.ino()) else {
+        return Ok(None);
+    };
+    match Vec::from_slice(alloc, entry.name()) {
+        Ok(name) => Ok(Some(Entry::new(entry.cookie(), name, node.attr(entry.ino())))),
+        Err(_) => Err(HostError::NoMemory),
+    }
+}
+
+/// The first entry of a directory above a cookie.
+pub fn entry_after(alloc: Global, nodes: &Table<Node>, dir: u64, cookie: u64) -> Result<Option<Entry>, HostError>
+    ensures answer { Answers (entry_after_among nodes.now cookie (entries_at nodes.now dir)) result }
+    ensures fault { result ≢ Err HostError.Fault }
+{
+    let Some(node) = nodes.get(dir) else {
+        return Err(HostError::Errno(ENOTDIR));
+    };
+    if !node.is_directory() {
+        return Err(HostError::Errno(ENOTDIR));
+    }
+    match node.entry_above(cookie) {
+        Some(entry) => shown(alloc, nodes, entry),
+        None => Ok(None),
+    }
+}

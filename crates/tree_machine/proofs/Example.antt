@@ -1,0 +1,211 @@
+-- A worked example: the replies to INIT, to a look-up of `hello` in the root, and to GETATTR of what it gave.
+use Rattle.std.proofs.Common.{◌≡◌, ℕ, ◌+◌, Bool, true, false, cond, List, [], ◌∷◌, ◌++◌, refl, sym, ap, ◌∙◌, Option, Some, None, Result, Ok, Err}
+use Rattle.std.specs.Prelude.{replicate, codes, is_some, option_map, option_and_then}
+use Rattle.std.specs.Ordering.{nat_cmp}
+use Rattle.std.specs.Cmp.{nat_cmp_total}
+use Rattle.std.specs.FinMap.{FinMap, get, insert, empty, entries, len, len-insert, len-empty, get-empty, entries-insert}
+use Rattle.tree_model.specs.Tree.{Tree, Record, Body, Entry, top}
+use Rattle.tree_model.specs.Tree.Body.{File, Directory}
+use Rattle.tree_model.specs.Settings.{Settings}
+use Rattle.tree_model.specs.Making.{new_tree, with_file, joined_by, file_record}
+use Rattle.tree_model.proofs.Maps.{inserted, insert_keeps}
+use Rattle.fuse_wire.specs.Fields.{u32_at, u64_at}
+use Rattle.fuse_wire.specs.Request.{request_of, request_in, init_of, lookup_of, getattr_of, only_name, name_at}
+use Rattle.fuse_wire.specs.Reply.{reply, reply_head, init_body, entry_body, attr_body, attr_bytes, u32s, u64s}
+use Rattle.tree_machine.specs.State.{MachineState, Phase, begun}
+use Rattle.tree_machine.specs.State.Phase.{New, Started}
+use Rattle.port_base.specs.declared.errno.TheConstants.{ENFILE}
+use Rattle.std.specs.Prelude.{find as first_where, ◌==◌, nat_le, ◌||◌, unwrap_or}
+use Rattle.std.proofs.Common.{subst, arith, ⊎_elim}
+use Rattle.std.proofs.lemmas.Bool.Decides.{nat_tests}
+use Rattle.tree_model.specs.declared.attributes.Attr.{Attr}
+use Rattle.tree_model.specs.declared.attributes.Kind.TheVariants as kind
+use Rattle.tree_model.specs.Tree.{Records, body_at}
+use Rattle.tree_model.specs.Making.{changed, NewFile}
+use Rattle.tree_model.specs.Attributes.{attr_or_missing}
+use Rattle.tree_model.specs.Settings.{shown_told}
+use Rattle.tree_model.specs.Finding.{find, ino_among, entries_of}
+use Rattle.fuse_wire.specs.Request.{Request, lookup, getattr}
+use Rattle.fuse_wire.specs.Head.{head_of}
+use Rattle.tree_machine.specs.State.{Node, Handle, is_at_limit}
+use Rattle.tree_machine.specs.Core.{Reply, core, lookup_core, lookup_named, looked_up, entered, node_given, node_of, entry_reply, getattr_node, attr_reply}
+use Rattle.tree_machine.specs.Core.Reply.{Refused, EntryOf, AttrOf}
+use Rattle.std.proofs.lemmas.Str.{is_utf8-from_IsUtf8, IsUtf8-from_ascii}
+use Rattle.std.specs.Str.{is_utf8}
+use Rattle.std.proofs.Common.{lit<, not, ◌<◌, zero, suc}
+use Rattle.std.specs.Prelude.{slice_index}
+use Rattle.std.specs.List.{AllByRecursion}
+use Rattle.port_base.specs.Names.{name_fault}
+use Rattle.tree_machine.proofs.First.{first_entry}
+use Rattle.tree_machine.proofs.Begun.{one_node}
+use Rattle.tree_machine.specs.Step.{step, asked, answer_bytes, core_of}
+
+-- a tree of one file, `/hello`, with the bytes `hello` and a line feed
+abbrev tree : Tree
+tree = with_file (record { sec = 1600000000; nsec = 0 })
+    (new_tree (record { file = 1048576; entries = 65536; links = 65000 }) (record { sec = 1700000000; nsec = 5 }) (record { sec = 1600000000; nsec = 0 }) 493 0 0)
+    top (codes "hello") (record { mode = 420; uid = 1000; gid = 1000; bytes = codes "hello\n" })
+
+abbrev settings : Settings
+settings = record { root = []; uid_map = empty; gid_map = empty; casefold = false; limit = 1024 }
+
+
+abbrev init_frame : List ℕ
+init_frame = (104 ∷ 0 ∷ 0 ∷ 0 ∷ 26 ∷ 0 ∷ 0 ∷ 0 ∷ 1 ∷ []) ++ (replicate 31 0 ++ ((7 ∷ 0 ∷ 0 ∷ 0 ∷ 31 ∷ 0 ∷ 0 ∷ 0 ∷ 0 ∷ 0 ∷ 2 ∷ 0 ∷ []) ++ replicate 52 0))
+
+abbrev init_reply : List ℕ
+init_reply =
+    (80 ∷ 0 ∷ 0 ∷ 0 ∷ 0 ∷ 0 ∷ 0 ∷ 0 ∷ 1 ∷ 0 ∷ 0 ∷ 0 ∷ 0 ∷ 0 ∷ 0 ∷ 0 ∷ 7 ∷ 0 ∷ 0 ∷ 0 ∷ 31 ∷ 0 ∷ 0 ∷ 0 ∷ 0 ∷ 0 ∷ 2 ∷ 0 ∷ 0 ∷ 0 ∷ 0 ∷ 0 ∷
+     12 ∷ 0 ∷ 9 ∷ 0 ∷ 0 ∷ 0 ∷ 1 ∷ 0 ∷ 1 ∷ 0 ∷ 0 ∷ 0 ∷ []) ++ replicate 36 0
+
+-- INIT of minor 31 is granted
+pub init_answered : (step settings (begun tree 1) init_frame).0 ≡ init_reply
+unfolding u32_at u64_at request_of request_in init_of reply reply_head init_body u32s u64s
+init_answered = refl
+
+-- ---- a look-up
+
+abbrev started : MachineState
+started = record (begun tree 1) { phase = Started }
+
+abbrev root_node : Node
+root_node = record { ino = 1; count = 1 }
+
+abbrev lookup_frame : List ℕ
+lookup_frame = (46 ∷ 0 ∷ 0 ∷ 0 ∷ 1 ∷ 0 ∷ 0 ∷ 0 ∷ 2 ∷ 0 ∷ 0 ∷ 0 ∷ 0 ∷ 0 ∷ 0 ∷ 0 ∷ 1 ∷ []) ++ (replicate 23 0 ++ (codes "hello" ++ 0 ∷ []))
+
+abbrev file : Record
+file = file_record (record { sec = 1600000000; nsec = 0 }) (record { mode = 420; uid = 1000; gid = 1000; bytes = codes "hello\n" })
+
+abbrev first_records : Records
+first_records = (new_tree (record { file = 1048576; entries = 65536; links = 65000 }) (record { sec = 1700000000; nsec = 5 }) (record { sec = 1600000000; nsec = 0 }) 493 0 0).records
+
+abbrev top_record : Record
+top_record = record { body = Directory [] 1 1; mode = 493; uid = 0; gid = 0; links = 2; atime = record { sec = 1600000000; nsec = 0 }; mtime = record { sec = 1600000000; nsec = 0 }; ctime = record { sec = 1600000000; nsec = 0 } }
+
+abbrev with_file_alone : Records
+with_file_alone = insert first_records 2 file
+
+top_first : get with_file_alone 1 ≡ Some top_record
+top_first = insert_keeps first_records 2 file 1 (λ h. absurd (omega (arith, h))) ∙ inserted empty 1 top_record
+
+records_are : tree.records ≡ insert with_file_alone 1 (joined_by (codes "hello") 2 top_record)
+records_are = ap (λ o. changed (joined_by (codes "hello") 2) o with_file_alone 1) top_first
+
+top_at : get tree.records 1 ≡ Some (joined_by (codes "hello") 2 top_record)
+top_at = ap (λ (rs : Records). get rs 1) records_are ∙ inserted with_file_alone 1 (joined_by (codes "hello") 2 top_record)
+
+file_at : get tree.records 2 ≡ Some file
+file_at = ap (λ (rs : Records). get rs 2) records_are ∙ insert_keeps with_file_alone 1 (joined_by (codes "hello") 2 top_record) 2 (λ h. absurd (omega (arith, h))) ∙ inserted first_records 2 file
+
+root_at : get started.nodes 1 ≡ Some root_node
+root_at = inserted empty 1 root_node
+
+found : find false tree 1 (codes "hello") ≡ Ok 2
+found = ap (λ (o : Option Record). ino_among false (codes "hello") (option_and_then entries_of (option_map (λ (r : Record). r.body) o))) top_at
+
+unfoldable shown : Attr
+shown = record { ino = 2; kind = kind.File; mode = 33188; uid = 1000; gid = 1000; links = 1; size = 6; atime = record { sec = 1600000000; nsec = 0 }; mtime = record { sec = 1600000000; nsec = 0 }; ctime = record { sec = 1600000000; nsec = 0 } }
+
+
+shown_is : shown_told settings (attr_or_missing 2 (get tree.records 2)) ≡ Ok shown
+unfolding shown
+shown_is = ap (λ o. shown_told settings (attr_or_missing 2 o)) file_at
+    ∙ ap (λ (o : Option ℕ). Ok (record { ino = 2; kind = kind.File; mode = 33188; uid = unwrap_or o 1000; gid = unwrap_or o 1000; links = 1; size = 6; atime = record { sec = 1600000000; nsec = 0 }; mtime = record { sec = 1600000000; nsec = 0 }; ctime = record { sec = 1600000000; nsec = 0 } })) (get-empty {X = ℕ} nat_cmp 1000)
+
+open_limit : is_at_limit settings started ≡ false
+open_limit =
+    let nodes : len started.nodes ≡ 1 = len-insert nat_cmp_total empty 1 root_node ∙ ap (λ (o : Option Node). cond (is_some o) (len (empty {X = Node} {R = nat_cmp})) (len (empty {X = Node} {R = nat_cmp}) + 1)) (get-empty {X = Node} nat_cmp 1) ∙ ap (λ k. k + 1) (len-empty nat_cmp Node) in
+    ap (λ k. nat_le 1024 (k + len started.handles) || nat_le 4294967295 2) nodes ∙ ap (λ k. nat_le 1024 (1 + k) || nat_le 4294967295 2) (len-empty nat_cmp Handle)
+
+unknown_by : (o : Option (ℕ × Node)) → node_of started 2 ≡ o → node_of started 2 ≡ None
+unknown_by None at = at
+unknown_by (Some e) at =
+    let there = first_entry (λ (e : ℕ × Node). e.1.ino == 2) started.nodes e at in
+    let one = (one_node settings tree 1 e.0 e.1 there.0).1 in
+    let two : (1 == 2) ≡ true = subst (λ (n : Node). (n.ino == 2) ≡ true) (sym one) there.1 in
+    absurd cc
+
+ascii_at : (bs : List ℕ) → AllByRecursion (λ b. b < 128) bs → (i : ℕ) → slice_index bs i < 128
+ascii_at [] h i = lit< tt
+ascii_at (b ∷ bs) h zero = h.0
+ascii_at (b ∷ bs) h (suc i) = ascii_at bs h.1 i
+
+hello_is_text : is_utf8 (codes "hello") ≡ true
+hello_is_text = is_utf8-from_IsUtf8 (codes "hello") (IsUtf8-from_ascii (codes "hello") (ascii_at (codes "hello") (lit< tt, (lit< tt, (lit< tt, (lit< tt, (lit< tt, tt)))))))
+
+hello_has_no_fault : name_fault (codes "hello") ≡ None
+hello_has_no_fault = ap (λ (b : Bool). cond {A = Option ℕ} (not b) (Some 22) None) hello_is_text
+
+looked : (core settings started 1 (Ok (lookup (codes "hello")))).0 ≡ EntryOf 2 shown
+looked =
+    ap (λ (o : Option Node). (lookup_core settings started (codes "hello") o).0) root_at
+    ∙ ap (λ (o : Option ℕ). (lookup_named settings started root_node (codes "hello") o).0) hello_has_no_fault
+    ∙ ap (λ (b : Bool). (cond b (Refused ENFILE, started) (looked_up settings started (find false tree 1 (codes "hello")))).0) open_limit
+    ∙ ap (λ r. (looked_up settings started r).0) found
+    ∙ ap (λ (o : Option (ℕ × Node)). (entered settings tree 2 (node_given started 2 o)).0) (unknown_by (node_of started 2) refl)
+    ∙ ap (entry_reply 2) shown_is
+
+abbrev entry_reply_bytes : List ℕ
+entry_reply_bytes =
+    (144 ∷ 0 ∷ 0 ∷ 0 ∷ 0 ∷ 0 ∷ 0 ∷ 0 ∷ 2 ∷ 0 ∷ 0 ∷ 0 ∷ 0 ∷ 0 ∷ 0 ∷ 0 ∷ 2 ∷ []) ++ (replicate 15 0 ++ ((1 ∷ 0 ∷ 0 ∷ 0 ∷ 0 ∷ 0 ∷ 0 ∷ 0 ∷ 1 ∷ []) ++ (replicate 15 0
+    ++ ((2 ∷ 0 ∷ 0 ∷ 0 ∷ 0 ∷ 0 ∷ 0 ∷ 0 ∷ 6 ∷ 0 ∷ 0 ∷ 0 ∷ 0 ∷ 0 ∷ 0 ∷ 0 ∷ 1 ∷ 0 ∷ 0 ∷ 0 ∷ 0 ∷ 0 ∷ 0 ∷ 0 ∷ [])
+    ++ ((0 ∷ 16 ∷ 94 ∷ 95 ∷ 0 ∷ 0 ∷ 0 ∷ 0 ∷ 0 ∷ 16 ∷ 94 ∷ 95 ∷ 0 ∷ 0 ∷ 0 ∷ 0 ∷ 0 ∷ 16 ∷ 94 ∷ 95 ∷ []) ++ (replicate 16 0
+    ++ (164 ∷ 129 ∷ 0 ∷ 0 ∷ 1 ∷ 0 ∷ 0 ∷ 0 ∷ 232 ∷ 3 ∷ 0 ∷ 0 ∷ 232 ∷ 3 ∷ 0 ∷ 0 ∷ 0 ∷ 0 ∷ 0 ∷ 0 ∷ 0 ∷ 16 ∷ 0 ∷ 0 ∷ 0 ∷ 0 ∷ 0 ∷ 0 ∷ [])))))))
+
+entry_spelled : answer_bytes lookup_frame (EntryOf 2 shown) ≡ entry_reply_bytes
+unfolding u32_at u64_at reply reply_head entry_body attr_bytes u32s u64s shown
+entry_spelled = refl
+
+lookup_asked : asked Started lookup_frame ≡ Ok (lookup (codes "hello"))
+unfolding u32_at u64_at request_of request_in lookup_of only_name name_at
+lookup_asked = refl
+
+nodeid_is : (head_of lookup_frame).nodeid ≡ 1
+unfolding u32_at u64_at
+nodeid_is = refl
+
+-- the look-up gives node 2 and the file's attributes
+pub lookup_answered : (step settings started lookup_frame).0 ≡ entry_reply_bytes
+lookup_answered =
+    ap (λ r. answer_bytes lookup_frame (core settings started (head_of lookup_frame).nodeid r).0) lookup_asked
+    ∙ ap (λ n. answer_bytes lookup_frame (core settings started n (Ok (lookup (codes "hello")))).0) nodeid_is
+    ∙ ap (answer_bytes lookup_frame) looked ∙ entry_spelled
+
+-- ---- attributes of the node that the look-up gave
+
+abbrev getattr_frame : List ℕ
+getattr_frame = (56 ∷ 0 ∷ 0 ∷ 0 ∷ 3 ∷ 0 ∷ 0 ∷ 0 ∷ 3 ∷ 0 ∷ 0 ∷ 0 ∷ 0 ∷ 0 ∷ 0 ∷ 0 ∷ 2 ∷ []) ++ replicate 39 0
+
+abbrev with_hello : MachineState
+with_hello = record started { nodes = insert started.nodes 2 (record { ino = 2; count = 1 }); next = 3 }
+
+abbrev attr_reply_bytes : List ℕ
+attr_reply_bytes =
+    (120 ∷ 0 ∷ 0 ∷ 0 ∷ 0 ∷ 0 ∷ 0 ∷ 0 ∷ 3 ∷ 0 ∷ 0 ∷ 0 ∷ 0 ∷ 0 ∷ 0 ∷ 0 ∷ 1 ∷ []) ++ (replicate 15 0
+    ++ ((2 ∷ 0 ∷ 0 ∷ 0 ∷ 0 ∷ 0 ∷ 0 ∷ 0 ∷ 6 ∷ 0 ∷ 0 ∷ 0 ∷ 0 ∷ 0 ∷ 0 ∷ 0 ∷ 1 ∷ 0 ∷ 0 ∷ 0 ∷ 0 ∷ 0 ∷ 0 ∷ 0 ∷ [])
+    ++ ((0 ∷ 16 ∷ 94 ∷ 95 ∷ 0 ∷ 0 ∷ 0 ∷ 0 ∷ 0 ∷ 16 ∷ 94 ∷ 95 ∷ 0 ∷ 0 ∷ 0 ∷ 0 ∷ 0 ∷ 16 ∷ 94 ∷ 95 ∷ []) ++ (replicate 16 0
+    ++ (164 ∷ 129 ∷ 0 ∷ 0 ∷ 1 ∷ 0 ∷ 0 ∷ 0 ∷ 232 ∷ 3 ∷ 0 ∷ 0 ∷ 232 ∷ 3 ∷ 0 ∷ 0 ∷ 0 ∷ 0 ∷ 0 ∷ 0 ∷ 0 ∷ 16 ∷ 0 ∷ 0 ∷ 0 ∷ 0 ∷ 0 ∷ 0 ∷ [])))))
+
+getattr_asked : asked Started getattr_frame ≡ Ok (getattr None)
+unfolding u32_at u64_at request_of request_in getattr_of
+getattr_asked = refl
+
+getattr_nodeid_is : (head_of getattr_frame).nodeid ≡ 2
+unfolding u32_at u64_at
+getattr_nodeid_is = refl
+
+got : (core settings with_hello 2 (Ok (getattr None))).0 ≡ AttrOf shown
+got =
+    ap (λ (o : Option Node). getattr_node settings with_hello o) (inserted started.nodes 2 (record { ino = 2; count = 1 }))
+    ∙ ap attr_reply shown_is
+
+attr_spelled : answer_bytes getattr_frame (AttrOf shown) ≡ attr_reply_bytes
+unfolding u32_at u64_at reply reply_head attr_body attr_bytes u32s u64s shown
+attr_spelled = refl
+
+pub getattr_answered : (step settings with_hello getattr_frame).0 ≡ attr_reply_bytes
+getattr_answered =
+    ap (λ r. answer_bytes getattr_frame (core settings with_hello (head_of getattr_frame).nodeid r).0) getattr_asked
+    ∙ ap (λ n. answer_bytes getattr_frame (core settings with_hello n (Ok (getattr None))).0) getattr_nodeid_is
+    ∙ ap (answer_bytes getattr_frame) got ∙ attr_spelled

@@ -1,0 +1,4 @@
+mod Steps
+mod Begun
+mod First
+mod Example
