@@ -1,9 +1,9 @@
 -- A header by itself, from the text that was taken.
 use Rattle.std.proofs.Common.{◌≡◌, ℕ, List, ◌++◌, Some, None, Result, Ok, Err, refl, ap, ◌∙◌}
 use Rattle.mount9.specs.Reading.{lines_of}
-use Rattle.mount9.specs.Header.{Header, header, header_by, header_of, header_alone, text_of, with_rest, without_rest}
+use Rattle.mount9.specs.Header.{HeaderRead, header, header_by, header_of, header_alone, text_of, with_rest, without_rest}
 
-rest_away : (rest : List ℕ) (r : Result Header ℕ) → without_rest (with_rest rest r) ≡ r
+rest_away : (rest : List ℕ) (r : Result HeaderRead ℕ) → without_rest (with_rest rest r) ≡ r
 rest_away rest (Ok h) = refl
 rest_away rest (Err n) = refl
 

@@ -1,7 +1,6 @@
 pub mod Alone
 pub mod Digits
 pub mod ByComputing
-pub mod FileLemmas
 pub mod Gathering
 pub mod HexRows
 pub mod LineLemmas

@@ -1,7 +1,9 @@
 -- What a header says.
-use Rattle.std.specs.Prelude.{ℕ, List, [], ◌∷◌, ◌++◌, length, Option, Some, None, Result, Ok, Err, ◌==◌, if◌then◌else◌, nat_le, codes, bytes_eq, option_map}
+use Rattle.std.specs.Prelude.{ℕ, Bool, List, [], ◌∷◌, ◌++◌, length, Option, Some, None, Result, Ok, Err, ◌==◌, if◌then◌else◌, nat_le, codes, bytes_eq, option_map}
 use Rattle.mount9.specs.Reading.{◌>>=◌, Place, check, line_at, lines_of, gathered}
-use Rattle.mount9.specs.HeaderLines.{stamp_at, limits_at, permit_at, present_at, top_at, record_at, NamedFile}
+use Rattle.mount9.specs.HeaderLines.{stamp_at, limits_at, permit_at, present_at, top_at, record_at}
+use Rattle.tree_model.specs.Tree.{Tree}
+use Rattle.tree_model.specs.Making.{new_tree}
 use Rattle.mount9.specs.declared.header.start.Start.{Start}
 use Rattle.mount9.specs.declared.header.start.Top.{Top}
 use Rattle.mount9.specs.declared.header.text.TheConstants.{HEADER_LIMIT}
@@ -21,21 +23,25 @@ start_at at = do
   permitted ← permit_at l4.1.0 l5.0
   Ok (record { moment = moment; born = born; limits = limits; permitted = permitted }, l5.1)
 
-pub record Header : Type 0 where
-  pub start : Start
+-- the tree that is shared, whether mounting is permitted, and the directories that mounts may stand on
+pub record HeaderRead : Type 0 where
+  pub tree : Tree
+  pub permitted : Bool
   pub present : List (List ℕ)
-  pub top : Top
-  pub files : List NamedFile
+
+-- the top directory alone, as the first lines say
+abbrev pub first_tree : Start → Top → Tree
+first_tree start top = new_tree start.limits start.moment start.born top.mode top.uid top.gid
 
 -- the header of these lines, or the number of the first that is refused
-unfoldable pub header_of : List (List ℕ) → Result Header ℕ
+unfoldable pub header_of : List (List ℕ) → Result HeaderRead ℕ
 header_of lines = do
   start ← start_at (1, lines)
   present ← gathered present_at [] start.1.0 start.1.1
   l ← line_at present.1
   top ← top_at present.1.0 l.0
-  files ← gathered (record_at start.0.limits) [] l.1.0 l.1.1
-  Ok (record { start = start.0; present = present.0; top = top; files = files.0 })
+  records ← gathered (record_at start.0.born) (first_tree start.0 top) l.1.0 l.1.1
+  Ok (record { tree = records.0; permitted = start.0.permitted; present = present.0 })
 
 -- ---- up to the line `end`
 
@@ -60,22 +66,22 @@ within_limit (Some p) = if nat_le (length p.0) HEADER_LIMIT then Some p else Non
 unfoldable pub text_of : List ℕ → Split
 text_of bytes = within_limit (text_from [] bytes)
 
-abbrev pub with_rest : List ℕ → Result Header ℕ → Result (Header × List ℕ) ℕ
+abbrev pub with_rest : List ℕ → Result HeaderRead ℕ → Result (HeaderRead × List ℕ) ℕ
 with_rest rest (Ok h) = Ok (h, rest)
 with_rest rest (Err n) = Err n
 
-abbrev pub header_by : Split → Result (Header × List ℕ) ℕ
+abbrev pub header_by : Split → Result (HeaderRead × List ℕ) ℕ
 header_by None = Err 0
 header_by (Some p) = with_rest p.1 (header_of (lines_of p.0))
 
 -- the header and what follows it, or the first refused line, 0 where no line `end` stands within the limit
-unfoldable pub header : List ℕ → Result (Header × List ℕ) ℕ
+unfoldable pub header : List ℕ → Result (HeaderRead × List ℕ) ℕ
 header bytes = header_by (text_of bytes)
 
 -- the header without what follows it
-abbrev pub without_rest : Result (Header × List ℕ) ℕ → Result Header ℕ
+abbrev pub without_rest : Result (HeaderRead × List ℕ) ℕ → Result HeaderRead ℕ
 without_rest (Ok p) = Ok p.0
 without_rest (Err n) = Err n
 
-unfoldable pub header_alone : List ℕ → Result Header ℕ
+unfoldable pub header_alone : List ℕ → Result HeaderRead ℕ
 header_alone bytes = without_rest (header bytes)

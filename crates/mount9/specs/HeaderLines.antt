@@ -1,5 +1,5 @@
 -- The lines of a header, each by its kind.
-use Rattle.std.specs.Prelude.{ℕ, ◌-◌, ◌^◌, List, [], ◌∷◌, ◌++◌, length, drop, Option, Some, None, Result, Ok, Err, ◌==◌, ◌&&◌, not, is_some, nat_le, nat_lt, slice_index, if◌then◌else◌, Bool, true, false, codes, bytes_eq}
+use Rattle.std.specs.Prelude.{ℕ, ◌-◌, ◌^◌, List, [], ◌∷◌, ◌++◌, length, drop, Option, Some, None, Result, Ok, Err, ◌==◌, ◌&&◌, not, is_some, slice_index, if◌then◌else◌, Bool, true, false, codes, bytes_eq}
 use Rattle.std.specs.List.{list_any}
 use Rattle.hex.specs.Hex.{decode_of}
 use Rattle.hex.specs.declared.error.FromHexError.{FromHexError}
@@ -7,7 +7,8 @@ use Rattle.port_base.specs.Escapes.{is_escaped}
 use Rattle.port_base.specs.Names.{name_fault}
 use Rattle.tree_model.specs.declared.attributes.Stamp.{Stamp}
 use Rattle.tree_model.specs.declared.attributes.Limits.{Limits}
-use Rattle.tree_model.specs.Making.{NewFile}
+use Rattle.tree_model.specs.Tree.{Tree, top}
+use Rattle.tree_model.specs.Making.{NewFile, add_file_of}
 use Rattle.mount9.specs.Paths.{is_path}
 use Rattle.mount9.specs.Reading.{◌>>=◌, or_refused, field_at, keyword_at, after_word}
 use Rattle.mount9.specs.Numbers.{number_at, number_field, mode_field}
@@ -97,19 +98,14 @@ file_at n line = do
   name ← or_refused n (name_of bytes.1)
   Ok (record { name = name; file = record { mode = mode.0; uid = uid.0; gid = gid.0; bytes = bytes.0 } })
 
-abbrev pub is_taken : List ℕ → List NamedFile → Bool
-is_taken name files = list_any (λ (f : NamedFile). bytes_eq f.name name) files
+-- the tree that an addition leaves, or the refused line
+abbrev pub added : ℕ → Result (ℕ × Tree) ℕ → Result Tree ℕ
+added n (Ok p) = Ok p.1
+added n (Err errno) = Err n
 
--- the tree takes the file: its name is new, and there is room for one more and for its bytes
-abbrev pub is_allowed : Limits → List NamedFile → NamedFile → Bool
-is_allowed limits files f = not (is_taken f.name files) && (nat_lt (length files) limits.entries && nat_le (length f.file.bytes) limits.file)
-
-abbrev pub add_file : Limits → ℕ → List NamedFile → NamedFile → Result (List NamedFile) ℕ
-add_file limits n files f = if is_allowed limits files f then Ok (files ++ f ∷ []) else Err n
-
--- one more file, or the line `end`
-unfoldable pub record_at : Limits → ℕ → List NamedFile → List ℕ → Result (Option (List NamedFile)) ℕ
-record_at limits n files line = if bytes_eq line (codes "end") then Ok None else (do
+-- the tree with one more file below its top, or the line `end`
+unfoldable pub record_at : Stamp → ℕ → Tree → List ℕ → Result (Option Tree) ℕ
+record_at born n t line = if bytes_eq line (codes "end") then Ok None else (do
   f ← file_at n line
-  more ← add_file limits n files f
+  more ← added n (add_file_of born t top f.name f.file)
   Ok (Some more))

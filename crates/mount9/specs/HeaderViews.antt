@@ -1,25 +1,38 @@
 -- Headers in memory, and what taking their text from a source does.
-use Rattle.std.specs.Prelude.{◌≡◌, ℕ, ◌≤◌, List, [], ◌∷◌, ◌++◌, length, drop, map, Option, Some, None, IfSome, Result, Ok, Err, Vec}
+use Rattle.std.specs.Prelude.{◌≡◌, ℕ, ◌≤◌, List, [], ◌∷◌, ◌++◌, length, drop, true, Option, Some, None, IfSome, Result, Ok, Err, Vec}
 use Rattle.std.specs.Global.{Global}
 use Rattle.std.specs.Io.KnownBytes.{Consumes}
 use Rattle.port_base.specs.Faults.{Faulted}
 use Rattle.mount9.specs.HeaderLines.{NamedFile}
-use Rattle.mount9.specs.Header.{Header, text_of, text_from, onto}
+use Rattle.mount9.specs.Header.{HeaderRead, text_of, text_from, onto}
 use Rattle.mount9.specs.declared.header.error.HeaderError.{HeaderError}
 use Rattle.mount9.specs.declared.header.error.HeaderError.TheVariants as error
 use Rattle.mount9.specs.declared.header.files.FileLine.{FileLine}
-use Rattle.mount9.specs.declared.header.Header as code
+use Rattle.mount9.specs.declared.header.Header.{Header}
+use Rattle.std.specs.FinMap as map
+use Rattle.tree_host.specs.declared.memory.TreeHost.{TreeHost}
+use Rattle.tree_host.specs.TreeHosts.{tree, holds}
 use Rattle.mount9.specs.declared.header.text.TextError.{TextError}
 use Rattle.mount9.specs.declared.header.text.TextError.TheVariants.{NoEnd, Read, NoMemory}
 
 abbrev pub file_view : FileLine → NamedFile
 file_view f = record { name = f.name.items; file = record { mode = f.mode; uid = f.uid; gid = f.gid; bytes = f.bytes.items } }
 
-abbrev pub files_view : List FileLine → List NamedFile
-files_view fs = map file_view fs
+abbrev pub header_view : Header → HeaderRead
+header_view h = record { tree = tree h.host; permitted = h.permitted; present = h.present }
 
-abbrev pub header_view : code.Header → Header
-header_view h = record { start = h.start; present = h.present; top = h.top; files = files_view h.files.items }
+-- a host that is always steady, has never failed and holds nothing
+pub record IsFresh (host : TreeHost) : Type 0 where
+  pub holds : holds host ≡ map.empty
+  pub faults : host.faults ≡ 0
+  pub steady : host.steady ≡ true
+
+-- but for the tree, the host is as before
+pub record ChangesTree (old new : TreeHost) : Type 0 where
+  pub born : new.born ≡ old.born
+  pub holds : holds new ≡ holds old
+  pub faults : new.faults ≡ old.faults
+  pub steady : new.steady ≡ old.steady
 
 abbrev pub GivesBytes : Result (Option (Vec ℕ Global)) HeaderError → Option (List ℕ) → Type 0
 GivesBytes (Ok (Some v)) read = read ≡ Some v.items

@@ -1,8 +1,10 @@
 //! The header of the input: what the share is, in lines of text.
-ghost use Rattle.std.specs.Prelude.{◌≡◌};
+ghost use Rattle.std.specs.Prelude.{◌≡◌, ◌<◌, IfOk, Ok};
+ghost use Rattle.tree_model.specs.Good.{IsGoodStamp, IsGoodLimits};
+ghost use Rattle.tree_host.specs.TreeHosts.{tree};
 ghost use Rattle.mount9.specs.Reading.{Gives, lines_of};
-ghost use Rattle.mount9.specs.Header.{header_of, header_alone};
-ghost use Rattle.mount9.specs.HeaderViews.{header_view};
+ghost use Rattle.mount9.specs.Header.{first_tree, header_of, header_alone};
+ghost use Rattle.mount9.specs.HeaderViews.{header_view, IsFresh};
 
 pub mod error;
 mod files;
@@ -13,30 +15,52 @@ mod start;
 pub mod text;
 
 use error::HeaderError;
-pub use files::FileLine;
 use files::file_lines;
 use lines::{Place, next_line};
 use port_base::memory::SliceSource;
 use port_base::words::Words;
 use present::present_lines;
-pub use start::{Start, Top};
-use start::{start_lines, top_line};
+use start::{Start, Top, start_lines, top_line};
 use std::alloc::Global;
 use text::{TextError, take_text};
+use tree_host::TreeHost;
 
-/// What a header says.
+/// What a header says: the tree that is shared, whether mounting is permitted, and the directories that
+/// mounts may stand on.
 #[derive(Drop)]
 pub struct Header {
-    pub start: Start,
+    pub host: TreeHost,
+    pub permitted: bool,
     pub present: Words,
-    pub top: Top,
-    pub files: Vec<FileLine>,
+}
+
+// The host of the top directory alone.
+fn new_host(alloc: Global, start: &Start, top: &Top) -> Result<TreeHost, HeaderError>
+    requires moment { IsGoodStamp start.now.moment }
+    requires born { IsGoodStamp start.now.born }
+    requires limits { IsGoodLimits start.now.limits }
+    requires mode { top.now.mode < 4096 }
+    ensures tree { Gives (λ host. tree host) result (Ok (first_tree start.now top.now)) }
+    ensures born { IfOk result (λ host. host.born ≡ start.now.born) }
+    ensures fresh { IfOk result IsFresh }
+{
+    let host = TreeHost::new(
+        alloc,
+        start.limits,
+        start.moment,
+        start.born,
+        top.mode,
+        top.uid,
+        top.gid,
+    )?;
+    Ok(host)
 }
 
 /// Reads the text of a header, which its line `end` ends.
 #[tactic(auto, unfolding(crate::specs::Header::header_of))]
 pub fn read_text(alloc: Global, text: &[u8]) -> Result<Header, HeaderError>
-    ensures { Gives header_view result (header_of (lines_of text.now)) }
+    ensures value { Gives header_view result (header_of (lines_of text.now)) }
+    ensures fresh { IfOk result (λ header. IsFresh header.host) }
 {
     let (start, at) = start_lines(Place {
         number: 1,
@@ -45,18 +69,19 @@ pub fn read_text(alloc: Global, text: &[u8]) -> Result<Header, HeaderError>
     let (present, at) = present_lines(alloc, at)?;
     let (line, after) = next_line(at)?;
     let top = top_line(at.number, line)?;
-    let (files, _) = file_lines(alloc, start.limits, after)?;
+    let mut host = new_host(alloc, &start, &top)?;
+    let _ = file_lines(alloc, &mut host, after)?;
     Ok(Header {
-        start,
+        host,
+        permitted: start.permitted,
         present,
-        top,
-        files,
     })
 }
 
 /// Reads the header at the front of these bytes, whatever follows it.
 pub fn read_header(alloc: Global, bytes: &[u8]) -> Result<Header, HeaderError>
-    ensures { Gives header_view result (header_alone bytes.now) }
+    ensures value { Gives header_view result (header_alone bytes.now) }
+    ensures fresh { IfOk result (λ header. IsFresh header.host) }
 {
     let mut source = SliceSource::new(bytes);
     let mut text = Vec::new(alloc);
@@ -84,18 +109,18 @@ mod tests {
         let header = read_header(rt.alloc(), text.as_bytes())
             .ok()
             .expect(&rt, "accepted");
-        assert_eq!(rt; header.start.moment.sec, 1700000000);
-        assert_eq!(rt; header.start.moment.nsec, 5);
-        assert_eq!(rt; header.start.limits.entries, 65536);
-        assert_eq!(rt; header.start.permitted, true);
+        assert_eq!(rt; header.permitted, true);
         assert_eq!(rt; header.present.len(), 1);
-        assert_eq!(rt; header.top.mode, 0o755);
-        assert_eq!(rt; header.files.len(), 1);
-        let file = &header.files[0];
-        assert_eq!(rt; file.mode, 0o644);
-        assert_eq!(rt; file.gid, 1001);
-        assert_eq!(rt; file.bytes.as_slice(), b"hello\n".as_slice());
-        assert_eq!(rt; file.name.as_slice(), b"hello".as_slice());
+        assert_eq!(rt; header.host.next_ino(), 3);
+        let top = header.host.record_after(0).ok_or("no top")?;
+        assert_eq!(rt; (top.ino, top.mode, top.links), (1, 0o755, 2));
+        let file = header.host.record_after(1).ok_or("no file")?;
+        assert_eq!(rt;
+            (file.ino, file.mode, file.uid, file.gid, file.size),
+            (2, 0o644, 1000, 1001, 6)
+        );
+        assert_eq!(rt; (file.mtime.sec, file.mtime.nsec), (1600000000, 0));
+        assert_eq!(rt; header.host.record_after(2), None);
         Ok(())
     }
 

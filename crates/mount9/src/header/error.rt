@@ -2,6 +2,7 @@
 ghost use Rattle.std.specs.Prelude.{◌≡◌};
 ghost use Rattle.mount9.specs.declared.header.error.HeaderError.TheVariants.{NoMemory};
 
+use port_base::sink::NoMemory as MemoryWanted;
 use std::alloc::{AllocError, AllocFailed};
 
 /// Why a header is refused.
@@ -24,6 +25,14 @@ impl<T: Drop> From<AllocFailed<T>> for HeaderError {
     ghost from_gives = { λ _ e. e ≡ NoMemory };
 
     fn from(_error: AllocFailed<T>) -> HeaderError {
+        HeaderError::NoMemory
+    }
+}
+
+impl From<MemoryWanted> for HeaderError {
+    ghost from_gives = { λ _ e. e ≡ NoMemory };
+
+    fn from(_error: MemoryWanted) -> HeaderError {
         HeaderError::NoMemory
     }
 }

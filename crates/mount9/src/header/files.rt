@@ -1,11 +1,13 @@
 //! The lines `file MODE UID GID HEX PATH` of a header.
-ghost use Rattle.std.specs.Prelude.{bytes_eq, ◌≡◌, ◌++◌, ◌∷◌, [], ◌==◌, ◌||◌, map, IfOk, Option, codes, drop, length, ◌<◌, IfSome, None};
-ghost use Rattle.std.specs.List.{list_any};
+ghost use Rattle.std.specs.Prelude.{◌≡◌, IfOk, IfSome, Option, None, ◌<◌};
 ghost use Rattle.std.specs.Option.{option_map};
 ghost use Rattle.port_base.specs.Names.{name_fault};
+ghost use Rattle.tree_model.specs.Tree.{top};
+ghost use Rattle.tree_model.specs.Making.{add_file_of};
+ghost use Rattle.tree_host.specs.TreeHosts.{tree};
 ghost use Rattle.mount9.specs.Reading.{Gives, GivesNext, gathered, lines_of};
-ghost use Rattle.mount9.specs.HeaderLines.{bytes_of, name_of, bytes_field, file_at, is_taken, is_allowed, add_file, record_at};
-ghost use Rattle.mount9.specs.HeaderViews.{file_view, files_view, GivesBytes};
+ghost use Rattle.mount9.specs.HeaderLines.{bytes_of, name_of, bytes_field, file_at, added, record_at};
+ghost use Rattle.mount9.specs.HeaderViews.{file_view, GivesBytes, ChangesTree};
 
 use crate::header::error::HeaderError;
 use crate::header::lines::{Place, field, keyword, next_line};
@@ -13,7 +15,11 @@ use crate::header::numbers::{mode_field, owner_field};
 use crate::header::present::is_plain;
 use port_base::names::name_fault;
 use std::alloc::Global;
-use tree_model::Limits;
+use tree_host::{NewItem, TreeHost};
+use tree_model::HostError;
+
+// The inode number of the top directory.
+const TOP: u64 = 1;
 
 /// A file directly below the top: its mode, below 4096, its owners, its bytes and its name.
 #[derive(Debug, Drop)]
@@ -94,77 +100,62 @@ fn file_line(alloc: Global, at: u64, line: &[u8]) -> Result<FileLine, HeaderErro
     }
 }
 
-fn is_taken(name: &[u8], files: &[FileLine]) -> bool
-    ensures { result ≡ list_any (λ f. bytes_eq f.name.items name.now) files.now }
+// Adds a file below the top directory.
+fn add_file(at: u64, host: &mut TreeHost, file: &FileLine) -> Result<(), HeaderError>
+    requires mode { file.now.mode < 4096 }
+    requires named { name_fault file.now.name.items ≡ None }
+    ensures tree { Gives (λ _. tree host.new) result (added at (add_file_of host.old.born (tree host.old) top (file_view file.now).name (file_view file.now).file)) }
+    ensures rest { ChangesTree host.old host.new }
 {
-    files.iter().any(|f| f.name.as_slice() == name)
-}
-
-// Whether the tree takes the file: its name is new, and there is room for one more and for its bytes.
-#[tactic(auto, using(crate::proofs::FileLemmas::files_view_len, crate::proofs::FileLemmas::is_taken_views))]
-fn is_allowed(limits: Limits, files: &[FileLine], file: &FileLine) -> bool
-    ensures { result ≡ is_allowed limits (files_view files.now) (file_view file.now) }
-{
-    if is_taken(&file.name, files) {
-        return false;
+    let item = NewItem::File {
+        mode: file.mode,
+        uid: file.uid,
+        gid: file.gid,
+        bytes: &file.bytes,
+    };
+    match host.add(TOP, &file.name, item) {
+        Ok(_) => Ok(()),
+        Err(e) => match e {
+            HostError::Errno(_) => Err(HeaderError::Line(at)),
+            HostError::Fault => unreachable!(),
+            HostError::NoMemory => Err(HeaderError::NoMemory),
+        },
     }
-    (files.len() as u64) < limits.entries && file.bytes.len() as u64 <= limits.file
-}
-
-// Adds a file that the tree takes.
-fn add_file(
-    limits: Limits,
-    at: u64,
-    files: &mut Vec<FileLine>,
-    file: FileLine,
-) -> Result<(), HeaderError>
-    ensures { Gives (λ _. files_view files.new.items) result (add_file limits at (files_view files.old.items) (file_view file)) }
-{
-    if !is_allowed(limits, files, &file) {
-        return Err(HeaderError::Line(at));
-    }
-    files.push(file)?;
-    Ok(())
 }
 
 // Takes one more file, unless the line is `end`.
 #[tactic(auto, unfolding(crate::specs::HeaderLines::record_at))]
-fn take_file(
-    alloc: Global,
-    limits: Limits,
-    at: u64,
-    files: &mut Vec<FileLine>,
-    line: &[u8],
-) -> Result<bool, HeaderError>
-    ensures { GivesNext result (files_view files.old.items) (files_view files.new.items) (record_at limits at (files_view files.old.items) line.now) }
+fn take_file(alloc: Global, at: u64, host: &mut TreeHost, line: &[u8]) -> Result<bool, HeaderError>
+    ensures tree { GivesNext result (tree host.old) (tree host.new) (record_at host.old.born at (tree host.old) line.now) }
+    ensures rest { ChangesTree host.old host.new }
 {
     if line == b"end".as_slice() {
         return Ok(false);
     }
     let file = file_line(alloc, at, line)?;
-    add_file(limits, at, files, file)?;
+    add_file(at, host, &file)?;
     Ok(true)
 }
 
-/// The files of these lines, up to the line `end`, and the place of that line.
+/// Adds the files of these lines, up to the line `end`, and answers the place of that line.
 pub fn file_lines<'a>(
     alloc: Global,
-    limits: Limits,
+    host: &mut TreeHost,
     start: Place<'a>,
-) -> Result<(Vec<FileLine>, Place<'a>), HeaderError>
-    ensures { Gives (λ x. (files_view x.0.items, (x.1.number, lines_of x.1.rest.now))) result (gathered (record_at limits) [] start.entry.number (lines_of start.entry.rest.now)) }
+) -> Result<Place<'a>, HeaderError>
+    ensures tree { Gives (λ at. (tree host.new, (at.number, lines_of at.rest.now))) result (gathered (record_at host.old.born) (tree host.old) start.entry.number (lines_of start.entry.rest.now)) }
+    ensures rest { ChangesTree host.old host.new }
 {
-    let mut files = Vec::new(alloc);
     let mut at = start;
     'lines: loop {
         let (line, next) = match next_line(at) {
             Ok(taken) => taken,
             Err(e) => return Err(e),
         };
-        match take_file(alloc, limits, at.number, &mut files, line) {
+        match take_file(alloc, at.number, host, line) {
             Ok(more) => {
                 if !more {
-                    return Ok((files, at));
+                    return Ok(at);
                 }
             }
             Err(e) => return Err(e),
