@@ -9,4 +9,5 @@ pub mod Reading
 pub mod Report
 pub mod ReportLines
 pub mod Texts
+pub mod Walking
 pub mod Wrote

@@ -52,6 +52,10 @@ entry_line dir cookie child name = line (codes "in") (decimal dir ∷ decimal co
 unfoldable pub file_line : Attr → List ℕ → List ℕ
 file_line a bytes = line (codes "file") (attr_fields a ++ hex_or_dash bytes ∷ [])
 
+-- the front of such a line, up to the space before its bytes
+unfoldable pub file_head : Attr → List ℕ
+file_head a = with_field (fold with_field (codes "file") (attr_fields a)) []
+
 -- `link INO MODE UID GID LINKS A M C TARGET`
 unfoldable pub link_line : Attr → List ℕ → List ℕ
 link_line a target = line (codes "link") (attr_fields a ++ escaped target ∷ [])

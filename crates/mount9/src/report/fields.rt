@@ -3,7 +3,7 @@
 ghost use Rattle.std.specs.Prelude.{◌≡◌, ◌++◌, ◌∷◌, [], OnOk, fold, replicate, ◌≤◌};
 ghost use Rattle.std.specs.Fmt.{decimal};
 ghost use Rattle.port_base.specs.Escapes.{octal_digit, escaped_byte, escaped};
-ghost use Rattle.mount9.specs.ReportLines.{with_field, mode_text, stamp_text, hex_or_dash, attr_fields, key_number};
+ghost use Rattle.mount9.specs.ReportLines.{with_field, mode_text, stamp_text, attr_fields, key_number};
 
 use std::alloc::{AllocError, Global};
 use tree_model::{Attr, Stamp};
@@ -94,18 +94,6 @@ pub fn push_stamp(alloc: Global, line: &mut Vec<u8>, stamp: Stamp) -> Result<(),
     let nsec = stamp.nsec.to_string(alloc)?;
     push_zeros(line, 9usize.saturating_sub(nsec.len()))?;
     push_text(line, nsec.as_bytes())
-}
-
-/// Adds hex, or - for nothing.
-#[tactic(auto, unfolding(crate::specs::ReportLines::hex_or_dash))]
-pub fn push_hex(alloc: Global, line: &mut Vec<u8>, bytes: &[u8]) -> Result<(), AllocError>
-    ensures { OnOk result (line.new.items ≡ with_field line.old.items (hex_or_dash bytes.now)) }
-{
-    if bytes.is_empty() {
-        return push_field(line, b"-");
-    }
-    let text = hex::encode(alloc, bytes)?;
-    push_field(line, text.as_bytes())
 }
 
 fn push_escaped_byte(line: &mut Vec<u8>, b: u8) -> Result<(), AllocError>

@@ -1,10 +1,10 @@
 //! Lines of a report, in memory. After an `Err` the line is of no use.
 ghost use Rattle.std.specs.Prelude.{◌≡◌, ◌++◌, ◌∷◌, [], OnOk, fold};
 ghost use Rattle.hex.specs.Hex.{encode_lower};
-ghost use Rattle.mount9.specs.ReportLines.{with_field, cause_fields, directory_line, entry_line, file_line, number_line, verdict_line};
+ghost use Rattle.mount9.specs.ReportLines.{with_field, cause_fields, directory_line, entry_line, file_head, number_line, verdict_line};
 
 use crate::report::fields::{
-    push_attr, push_escaped, push_field, push_hex, push_key_number, push_number, push_text,
+    push_attr, push_escaped, push_field, push_key_number, push_number, push_text,
 };
 use crate::report::verdict::{Cause, Verdict};
 use std::alloc::{AllocError, Global};
@@ -63,20 +63,14 @@ pub fn make_entry_line(
     end_line(line)
 }
 
-/// Makes a file's line.
-#[tactic(auto, unfolding(crate::specs::ReportLines::file_line))]
-pub fn make_file_line(
-    alloc: Global,
-    line: &mut Vec<u8>,
-    attr: &Attr,
-    bytes: &[u8],
-) -> Result<(), AllocError>
-    ensures { OnOk result (line.new.items ≡ file_line attr.now bytes.now) }
+/// Makes the front of a file's line, up to its bytes.
+#[tactic(auto, unfolding(crate::specs::ReportLines::file_head))]
+pub fn make_file_head(alloc: Global, line: &mut Vec<u8>, attr: &Attr) -> Result<(), AllocError>
+    ensures { OnOk result (line.new.items ≡ file_head attr.now) }
 {
     start_line(line, b"file")?;
     push_attr(alloc, line, attr)?;
-    push_hex(alloc, line, bytes)?;
-    end_line(line)
+    push_text(line, b" ")
 }
 
 /// Makes a line of a word and a number.

@@ -2,11 +2,11 @@
 ghost use Rattle.std.specs.Prelude.{◌≡◌, ◌++◌, ◌∷◌, [], take, drop, codes};
 ghost use Rattle.hex.specs.Hex.{encode_lower};
 ghost use Rattle.mount9.specs.Wrote.{Wrote};
-ghost use Rattle.mount9.specs.ReportLines.{directory_line, entry_line, file_line, number_line, hex_lines, verdict_line};
+ghost use Rattle.mount9.specs.ReportLines.{directory_line, entry_line, file_head, number_line, hex_lines, verdict_line};
 ghost use Rattle.mount9.specs.Report.{replies_text, closing};
 
 use crate::report::lines::{
-    make_directory_line, make_entry_line, make_file_line, make_hex_line, make_number_line,
+    make_directory_line, make_entry_line, make_file_head, make_hex_line, make_number_line,
     make_verdict_line,
 };
 use crate::report::verdict::Verdict;
@@ -87,20 +87,29 @@ pub fn write_entry_line<K: Sink>(
     write_text(out, buffer)
 }
 
-/// Writes a file's line. The buffer's contents are of no use before and after.
-pub fn write_file_line<K: Sink>(
+/// Writes the front of a file's line, up to its bytes. The buffer's contents are of no use before and after.
+pub fn write_file_head<K: Sink>(
     alloc: Global,
     out: &mut K,
     buffer: &mut Vec<u8>,
     attr: &Attr,
-    bytes: &[u8],
 ) -> Result<(), SinkFault>
-    ensures { Wrote (K.sent out.old) (K.sent out.new) (K.faults out.old) (K.faults out.new) (file_line attr.now bytes.now) result }
+    ensures { Wrote (K.sent out.old) (K.sent out.new) (K.faults out.old) (K.faults out.new) (file_head attr.now) result }
 {
-    if make_file_line(alloc, buffer, attr, bytes).is_err() {
+    if make_file_head(alloc, buffer, attr).is_err() {
         return Err(SinkFault::NoMemory);
     }
     write_text(out, buffer)
+}
+
+/// Writes bytes in hex.
+pub fn write_hex<K: Sink>(alloc: Global, out: &mut K, bytes: &[u8]) -> Result<(), SinkFault>
+    ensures { Wrote (K.sent out.old) (K.sent out.new) (K.faults out.old) (K.faults out.new) (encode_lower bytes.now) result }
+{
+    match hex::encode(alloc, bytes) {
+        Ok(text) => write_text(out, text.as_bytes()),
+        Err(_) => Err(SinkFault::NoMemory),
+    }
 }
 
 // The first 32 bytes, and what follows.
@@ -182,83 +191,4 @@ pub fn write_closing<K: Sink>(
         Err(e) => return Err(e),
     }
     write_number_line(alloc, out, b"nine", nine)
-}
-
-#[cfg(test)]
-mod tests {
-    use super::*;
-    use crate::report::verdict::Cause;
-    use port_base::memory::MemSink;
-    use std::test::Fail;
-    use tree_model::{Kind, Stamp};
-
-    // The attributes of a record of the worked example.
-    fn attr_of(ino: u64, kind: Kind, mode: u32, owner: u32, links: u64, size: u64) -> Attr {
-        let born = Stamp {
-            sec: 1600000000,
-            nsec: 0,
-        };
-        Attr {
-            ino,
-            kind,
-            mode,
-            uid: owner,
-            gid: owner,
-            links,
-            size,
-            atime: born,
-            mtime: born,
-            ctime: born,
-        }
-    }
-
-    #[test]
-    fn a_report_of_one_file(rt: HostRuntime) -> Result<(), Fail> {
-        let alloc = rt.alloc();
-        let mut out = MemSink::new(alloc);
-        let mut buffer = Vec::new(alloc);
-        let top = attr_of(1, Kind::Directory, 0o755, 0, 2, 0);
-        let file = attr_of(2, Kind::File, 0o644, 1000, 1, 6);
-        let replies = [0xabu8; 33];
-        write_replies(alloc, &mut out, &replies)?;
-        let verdict = Verdict::Served {
-            flags: 6,
-            handled: 3,
-        };
-        write_verdict(alloc, &mut out, verdict)?;
-        write_number_line(alloc, &mut out, b"tree", 3)?;
-        write_directory_line(alloc, &mut out, &mut buffer, &top, 1, 2)?;
-        write_entry_line(alloc, &mut out, &mut buffer, 1, 1, 2, b"hello")?;
-        write_file_line(alloc, &mut out, &mut buffer, &file, b"hello\n")?;
-        write_file_line(alloc, &mut out, &mut buffer, &file, b"")?;
-        write_closing(alloc, &mut out, b"1 1 0:1 / / rw - rootfs rootfs rw\n", 4)?;
-        let verdict = Verdict::Stopped {
-            cause: Cause::Mount(2),
-            handled: 0,
-        };
-        write_verdict(alloc, &mut out, verdict)?;
-        let verdict = Verdict::Stopped {
-            cause: Cause::Torn,
-            handled: 1,
-        };
-        write_verdict(alloc, &mut out, verdict)?;
-        let want = "replies
-abababababababababababababababababababababababababababababababab
-ab
-served flags=6 handled=3
-tree 3
-dir 1 0755 0 0 2 1600000000.000000000 1600000000.000000000 1600000000.000000000 1 2
-in 1 1 2 hello
-file 2 0644 1000 1000 1 1600000000.000000000 1600000000.000000000 1600000000.000000000 68656c6c6f0a
-file 2 0644 1000 1000 1 1600000000.000000000 1600000000.000000000 1600000000.000000000 -
-mounts
-1 1 0:1 / / rw - rootfs rootfs rw
-end
-nine 4
-stopped mount 2 handled=0
-stopped torn handled=1
-";
-        assert_eq!(rt; out.as_bytes(), want.as_bytes());
-        Ok(())
-    }
 }
