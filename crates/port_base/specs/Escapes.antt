@@ -1,0 +1,18 @@
+-- The escapes of names and paths in texts, which are those of fstab(5).
+use Rattle.std.specs.Prelude.{ℕ, ◌+◌, ◌/◌, ◌%◌, List, [], ◌∷◌, ◌==◌, ◌||◌, if◌then◌else◌, Bool}
+use Rattle.std.specs.List.{flat_map}
+
+-- a space, a tab, a line feed, a carriage return or a backslash
+abbrev pub is_escaped : ℕ → Bool
+is_escaped b = (b == 32) || ((b == 9) || ((b == 10) || ((b == 13) || (b == 92))))
+
+-- an octal digit of a number, at a place that is a power of 8
+abbrev pub octal_digit : ℕ → ℕ → ℕ
+octal_digit n place = 48 + (n / place) % 8
+
+-- such a byte as a backslash and three octal digits, every other byte as it is
+abbrev pub escaped_byte : ℕ → List ℕ
+escaped_byte b = if is_escaped b then 92 ∷ octal_digit b 64 ∷ octal_digit b 8 ∷ octal_digit b 1 ∷ [] else b ∷ []
+
+unfoldable pub escaped : List ℕ → List ℕ
+escaped bytes = flat_map escaped_byte bytes
