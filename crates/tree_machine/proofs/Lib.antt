@@ -1,4 +1,4 @@
-mod Steps
-mod Begun
-mod First
+pub mod Steps
+pub mod Begun
+pub mod First
 mod Example
