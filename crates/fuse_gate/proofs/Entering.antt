@@ -112,9 +112,10 @@ module _ {g : Gate} {s : ServerState} {ino : ℕ} {qid : Qid} (h : HasFresh g s 
 
   -- ---- an inode that has a node
 
-  pub enter_known : (id : ℕ) (a : FileAttr) (g1 g2 g3 : Gate) (s1 s2 : ServerState) (f0 f1 f2 a0 a1 a2 : ℕ) → get g.ids ino ≡ Some id → Shows s ino (Ok a) s1 f0 f1 → s2 ≡ clunked s1 g.next
+  pub enter_known : (id : ℕ) (a : FileAttr) (g1 g2 g3 : Gate) (s1 s2 : ServerState) (f0 f1 f2 a0 a1 a2 : ℕ) → get g1.ids ino ≡ Some id → Shows s ino (Ok a) s1 f0 f1 → s2 ≡ clunked s1 g.next
       → g1 ≡ one_sent g → g2 ≡ one_sent g1 → g3 ≡ counted_up g2 id → a1 ≡ min (a0 + 1) (2 ^ 64 - 1) → a2 ≡ min (a1 + 1) (2 ^ 64 - 1) → IsServed told rest g g3 s s2 f0 f2 a0 a2 (given.Entry id a)
-  enter_known id a g1 g2 g3 s1 s2 f0 f1 f2 a0 a1 a2 indexed answer gone sent more up counted again =
+  enter_known id a g1 g2 g3 s1 s2 f0 f1 f2 a0 a1 a2 there answer gone sent more up counted again =
+      let indexed : get g.ids ino ≡ Some id = ap (λ (x : Gate). get x.ids ino) (sym sent) ∙ there in
       let n = h.stands.paired.ids ino id indexed in
       let found = known_found h.stands ino id n.0 indexed n.1 n.2 in
       let is = told_is (Some (id, node_of n.0)) found in
@@ -138,9 +139,10 @@ module _ {g : Gate} {s : ServerState} {ino : ℕ} {qid : Qid} (h : HasFresh g s 
   kind_is : (r : Record) → get s.tree.records ino ≡ Some r → qid.0 ≡ qid_type (kind_of r.body)
   kind_is r at = ap (λ (q : Qid). q.0) (h.named ∙ ap (λ o. qid_told (attr_or_missing ino o)) at)
 
-  pub enter_new : (a : FileAttr) (g1 g2 : Gate) (s1 : ServerState) (f0 f1 a0 a1 : ℕ) → IsGoodServer s1 → get g.ids ino ≡ None → Shows s ino (Ok a) s1 f0 f1
+  pub enter_new : (a : FileAttr) (g1 g2 : Gate) (s1 : ServerState) (f0 f1 a0 a1 : ℕ) → IsGoodServer s1 → get g1.ids ino ≡ None → Shows s ino (Ok a) s1 f0 f1
       → g1 ≡ one_sent g → g2 ≡ with_node g1 ino qid.0 → a1 ≡ min (a0 + 1) (2 ^ 64 - 1) → IsServed told rest g g2 s s1 f0 f1 a0 a1 (given.Entry g.next a)
-  enter_new a g1 g2 s1 f0 f1 a0 a1 good unknown answer sent added counted =
+  enter_new a g1 g2 s1 f0 f1 a0 a1 good there answer sent added counted =
+      let unknown : get g.ids ino ≡ None = ap (λ (x : Gate). get x.ids ino) (sym sent) ∙ there in
       let same = shown_same s s1 ino f0 f1 (Ok a) answer in
       let found = unknown_found h.stands ino unknown in
       let is = told_is None found in

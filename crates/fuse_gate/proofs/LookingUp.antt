@@ -124,9 +124,7 @@ module _ {g : Gate} {s : ServerState} (st : IsInStep g s) (good : IsGoodServer s
       refused_walk r e s1 f0 f1 a0 a1 a counted = ⊎_elim (served r)
           (λ k. let is : e ≡ EIO = (let q = k.1 in cc) in subst (λ d. IsServed (looked_up s.settings (machine_of g s) r) (found_messages (machine_of g s) r) g (one_sent g) s s1 f0 f1 a0 a1 (given.Refused d)) (sym is)
             (hurt st (looked_up s.settings (machine_of g s) r) (found_messages (machine_of g s) r) 1 (min (g.nine_frames + 1) (2 ^ 64 - 1)) s1 f0 f1 a0 a1 k.2 k.0 (omega arith) (omega arith))) a where
-        abbrev walked_off : Result ℕ ℕ → Type 0
-        walked_off r = (let x : Result Qid ℕ × ServerState = (Err e, s1) in x) ≡ named s g.next r
-        served : (r : Result ℕ ℕ) → walked_off r → IsServed (looked_up s.settings (machine_of g s) r) (found_messages (machine_of g s) r) g (one_sent g) s s1 f0 f1 a0 a1 (given.Refused e)
+        served : (r : Result ℕ ℕ) → (let x : Result Qid ℕ × ServerState = (Err e, s1) in x) ≡ named s g.next r → IsServed (looked_up s.settings (machine_of g s) r) (found_messages (machine_of g s) r) g (one_sent g) s s1 f0 f1 a0 a1 (given.Refused e)
         served (Ok i) q = absurd (let clash : Err e ≡ Ok (qid_at s.tree i) = ap (λ (x : Result Qid ℕ × ServerState). x.0) q in cc)
         served (Err d) q =
             let is : e ≡ d = (let q = ap (λ (x : Result Qid ℕ × ServerState). x.0) q in cc) in
