@@ -1,6 +1,7 @@
 -- A whole frame: its turn, and the bytes of its reply.
 use Rattle.std.proofs.Common.{◌≡◌, ◌≢◌, ℕ, ◌+◌, ◌<◌, ◌≤◌, ◌^◌, Bool, true, false, cond, List, [], ◌++◌, length, refl, sym, ap, ◌∙◌, subst, Option, Some, None, Result, Ok, Err, arith, ◌⊎◌, inl, inr, ⊎_elim, ◌&&◌, nat_le}
 use Rattle.std.proofs.lemmas.Bool.Decides.{nat_tests}
+use Rattle.std.proofs.lemmas.List.{append-nil}
 use Rattle.port_base.specs.Faults.{Rose}
 use Rattle.port_base.specs.declared.errno.TheConstants.{EIO, EPROTO}
 use Rattle.fuse_wire.specs.Cuts.{IsFrame, is_allowed}
@@ -8,6 +9,7 @@ use Rattle.fuse_wire.specs.Body.{plain}
 use Rattle.fuse_wire.specs.declared.request.Body.{Body}
 use Rattle.fuse_wire.specs.declared.request.Body.TheVariants as body
 use Rattle.fuse_wire.specs.Head.{head_of}
+use Rattle.fuse_wire.specs.declared.head.Head.{Head}
 use Rattle.fuse_wire.specs.Request.{Request, request_of}
 use Rattle.tree_machine.specs.State.{MachineState, settled}
 use Rattle.tree_machine.specs.Core.{Reply as MachineReply, core, init_core}
@@ -19,6 +21,7 @@ use Rattle.fuse_gate.specs.Standing.{IsInStep, machine_of, phase_of}
 use Rattle.fuse_gate.specs.Steps.{IsServed, IsStepped, Answers}
 use Rattle.fuse_gate.specs.Replies.{laid_out, written}
 use Rattle.fuse_gate.specs.declared.gate.Gate.{Gate}
+use Rattle.fuse_gate.specs.declared.gate.Phase.{Phase}
 use Rattle.fuse_gate.specs.declared.gate.reply.Reply.{Reply}
 use Rattle.fuse_gate.specs.declared.gate.reply.Reply.TheVariants as given
 use Rattle.fuse_gate.proofs.Standings.{unmoved}
@@ -29,6 +32,10 @@ allowed_long len h = grind (arith, nat_tests)
 
 pub frame_long : (frame : List ℕ) → IsFrame frame → 40 ≤ length frame
 frame_long frame f = allowed_long (length frame) f.allowed
+
+-- the turn by the head that was read
+pub turn_of : (phase : Phase) (h : Head) (frame : List ℕ) (b : Bool) → h ≡ head_of frame → b ≡ is_in_turn (phase_of phase) h.opcode → is_in_turn (phase_of phase) (head_of frame).opcode ≡ b
+turn_of phase h frame b head is = ap (λ (x : Head). is_in_turn (phase_of phase) x.opcode) (sym head) ∙ sym is
 
 module _ {g : Gate} {s : ServerState} (st : IsInStep g s) (good : IsGoodServer s) (frame : List ℕ) where
   abbrev told : MachineReply × MachineState
@@ -92,10 +99,21 @@ stepped frame silent g0 g1 s0 s1 f0 f1 a0 a1 reply is served = record {
       served.outcome
   }
 
-module _ (frame : List ℕ) (g0 g1 : Gate) (s0 s1 : ServerState) (f0 f1 a0 a1 : ℕ) (reply : Reply)
+module _ (frame : List ℕ) (h : Head) (g0 g1 : Gate) (s0 s1 : ServerState) (f0 f1 a0 a1 : ℕ) (reply : Reply) (before kept after : List ℕ) (head : h ≡ head_of frame) (same : kept ≡ before)
     (served : IsServed (core_of s0.settings (machine_of g0 s0) frame) (messages s0.settings (machine_of g0 s0) frame) g0 g1 s0 s1 f0 f1 a0 a1 reply) where
-  pub answers_spoken : (before after : List ℕ) (silent : Bool) → silent ≡ is_silent (head_of frame).opcode → silent ≡ false → after ≡ before ++ written (head_of frame).unique reply → Answers frame g0 g1 s0 s1 f0 f1 a0 a1 before after
-  answers_spoken before after silent is no behind = record { bytes = written (head_of frame).unique reply; behind = behind; stepped = stepped frame false g0 g1 s0 s1 f0 f1 a0 a1 reply (sym is ∙ no) served }
+  silence : (silent : Bool) → silent ≡ is_silent h.opcode → is_silent (head_of frame).opcode ≡ silent
+  silence silent is = ap (λ (x : Head). is_silent x.opcode) (sym head) ∙ sym is
 
-  pub answers_silent : (before after : List ℕ) (silent : Bool) → silent ≡ is_silent (head_of frame).opcode → silent ≡ true → after ≡ before ++ [] → Answers frame g0 g1 s0 s1 f0 f1 a0 a1 before after
-  answers_silent before after silent is yes behind = record { bytes = []; behind = behind; stepped = stepped frame true g0 g1 s0 s1 f0 f1 a0 a1 reply (sym is ∙ yes) served }
+  pub answers_spoken : false ≡ is_silent h.opcode → after ≡ kept ++ written h.unique reply → Answers frame g0 g1 s0 s1 f0 f1 a0 a1 before after
+  answers_spoken is behind = record {
+    bytes = written (head_of frame).unique reply;
+    behind = behind ∙ ap (λ (x : Head). kept ++ written x.unique reply) head ∙ ap (λ bytes. bytes ++ written (head_of frame).unique reply) same;
+    stepped = stepped frame false g0 g1 s0 s1 f0 f1 a0 a1 reply (silence false is) served
+  }
+
+  pub answers_silent : true ≡ is_silent h.opcode → Answers frame g0 g1 s0 s1 f0 f1 a0 a1 before kept
+  answers_silent is = record {
+    bytes = [];
+    behind = same ∙ sym (append-nil before);
+    stepped = stepped frame true g0 g1 s0 s1 f0 f1 a0 a1 reply (silence true is) served
+  }

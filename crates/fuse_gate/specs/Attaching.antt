@@ -5,11 +5,12 @@ use Rattle.port_base.specs.Faults.{Rose}
 use Rattle.port_base.specs.declared.errno.TheConstants.{EIO, ENFILE}
 use Rattle.tree_model.specs.Tree.{linked}
 use Rattle.tree_model.specs.Finding.{root_of}
-use Rattle.tree_machine.specs.State.{begun}
+use Rattle.tree_machine.specs.State.{begun, ROOT_NODE}
 use Rattle.fid_model.specs.Fids.{ServerState}
 use Rattle.fuse_gate.specs.Standing.{IsInStep, machine_of}
 use Rattle.fuse_gate.specs.Steps.{Counted}
 use Rattle.fuse_gate.specs.declared.gate.Gate.{Gate}
+use Rattle.fuse_gate.specs.declared.gate.Phase.TheVariants.{New}
 use Rattle.fuse_gate.specs.declared.gate.attach.AttachError.{AttachError}
 use Rattle.fuse_gate.specs.declared.gate.attach.AttachError.TheVariants.{Errno, NoMemory}
 
@@ -24,6 +25,16 @@ pub record Begins (g : Gate) (s0 s1 : ServerState) : Type 0 where
   pub limit : 1 ≤ s0.settings.limit
   pub found : root_of (linked s0.tree) s0.settings.root ≡ Ok root
   pub state : machine_of g s1 ≡ begun (linked s0.tree) root
+  pub frames : g.nine_frames ≡ 1
+
+-- a new gate's tables: the root as node 1, and nothing else
+pub record IsGateAt (ino kind : ℕ) (g : Gate) : Type 0 where
+  pub phase : g.phase ≡ New
+  pub nodes : g.nodes ≡ map.insert map.empty ROOT_NODE (record { ino = ino; count = 1; kind = kind })
+  pub handles : g.handles ≡ map.empty
+  pub ids : g.ids ≡ map.insert map.empty ino ROOT_NODE
+  pub next : g.next ≡ 2
+  pub used : g.used ≡ 1
   pub frames : g.nine_frames ≡ 1
 
 -- the server without a fid, and its linked tree

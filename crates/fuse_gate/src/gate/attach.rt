@@ -1,7 +1,7 @@
 // The beginning of a session.
-ghost use Rattle.std.specs.Prelude.{◌≡◌, ◌≤◌};
+ghost use Rattle.std.specs.Prelude.{◌≡◌, ◌≤◌, IfOk};
 ghost use Rattle.fid_model.specs.Handling.{Steadily};
-ghost use Rattle.fuse_gate.specs.Attaching.{Attaches};
+ghost use Rattle.fuse_gate.specs.Attaching.{Attaches, IsGateAt};
 
 use crate::gate::{FUSE_ROOT_ID, Gate, LEAST_MSIZE, Node, Phase};
 use fid_model::Nine;
@@ -19,7 +19,9 @@ pub enum AttachError {
 }
 
 // A gate whose node 1 is the root, after one message.
-fn gate_at(alloc: Global, root: Qid) -> Result<Gate, NoMemory> {
+fn gate_at(alloc: Global, root: Qid) -> Result<Gate, NoMemory>
+    ensures { IfOk result (IsGateAt root.path root.ty) }
+{
     let mut nodes = Table::new(alloc);
     let mut ids = Table::new(alloc);
     let node = Node {

@@ -1,0 +1,2 @@
+-- The beginning of a session.
+use Rattle.std.proofs.Common.{◌≡◌}
