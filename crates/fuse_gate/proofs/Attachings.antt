@@ -1,5 +1,5 @@
 -- The beginning of a session.
-use Rattle.std.proofs.Common.{◌≡◌, ◌≢◌, ℕ, ◌+◌, ◌-◌, ◌<◌, ◌≤◌, ◌^◌, Bool, true, false, cond, ◌||◌, refl, sym, ap, ◌∙◌, subst, Option, Some, None, Result, Ok, Err, arith, IsSome, is_some, min, nat_le, nat_lt, ◌⊎◌, inl, inr, ⊎_elim}
+use Rattle.std.proofs.Common.{◌≡◌, ◌≢◌, ℕ, ◌+◌, ◌-◌, ◌≤◌, ◌^◌, Bool, true, false, cond, ◌||◌, refl, sym, ap, ◌∙◌, subst, Option, Some, None, Result, Ok, Err, arith, IsSome, is_some, min, nat_le, nat_lt, inl, inr, ⊎_elim}
 use Rattle.std.specs.Prelude.{option_map}
 use Rattle.std.proofs.lemmas.Bool.{cases_eq}
 use Rattle.std.proofs.lemmas.Bool.Decides.{nat_tests}
@@ -9,14 +9,13 @@ use Rattle.std.specs.FinMap as map
 use Rattle.std.specs.FinMap.{FinMap, get, insert, len, retain_keys, len-insert, get-empty}
 use Rattle.port_base.specs.Faults.{Rose}
 use Rattle.port_base.specs.declared.errno.TheConstants.{EIO, ENFILE}
-use Rattle.tree_model.specs.Tree.{Tree, Record, Records, is_linked, keep, linked, top}
+use Rattle.tree_model.specs.Tree.{Tree, Record, is_linked, keep, linked, top}
 use Rattle.tree_model.specs.Good.{IsGoodTree}
 use Rattle.tree_model.specs.Finding.{root_of}
-use Rattle.tree_model.specs.Attributes.{Qid, kind_of, qid_type, attr_or_missing}
+use Rattle.tree_model.specs.Attributes.{Qid, attr_or_missing}
 use Rattle.tree_model.specs.Settings.{Settings}
 use Rattle.tree_model.proofs.Maps.{inserted, insert_keeps, same_gets}
-use Rattle.tree_machine.specs.State.{MachineState, Node as MachineNode, Handle as MachineHandle, begun, ROOT_NODE}
-use Rattle.tree_machine.specs.State.Phase.{New}
+use Rattle.tree_machine.specs.State.{Node as MachineNode, begun, ROOT_NODE}
 use Rattle.tree_machine.specs.Good.{IsGoodMachine}
 use Rattle.tree_machine.proofs.Begun.{begun_good, root_is_directory, stored_by}
 use Rattle.fid_model.specs.Fids.{ServerState, Fid, Fids, fid_count, is_held, cleared, closed, IsGoodServer}
@@ -27,7 +26,7 @@ use Rattle.p9_wire.specs.declared.qid.Qid.{Qid as QidStruct}
 use Rattle.p9_wire.specs.Qids.{qid_of}
 use Rattle.p9_client.specs.Views.{qid_answer}
 use Rattle.fuse_gate.specs.Mapped.{mapped}
-use Rattle.fuse_gate.specs.Standing.{IsInStep, ArePaired, machine_of, node_of, handle_of, phase_of, fid_at}
+use Rattle.fuse_gate.specs.Standing.{ArePaired, machine_of, node_of, handle_of, phase_of, fid_at}
 use Rattle.fuse_gate.specs.Attaching.{Attaches, AttachedBy, Begins, IsCleared, IsGateAt, root_told}
 use Rattle.fuse_gate.specs.declared.gate.TheConstants.{LEAST_MSIZE}
 use Rattle.fuse_gate.specs.declared.gate.Node.{Node}
@@ -43,8 +42,8 @@ none_held i =
     let few = fid_count-few map.empty i in
     let none = map.len-empty nat_cmp Fid in
     zero_lt (fid_count map.empty i) (omega (arith, few, none)) where
-  zero_lt : (n : ℕ) → n ≡ 0 → nat_lt 0 n ≡ false
-  zero_lt n h = grind (arith, nat_tests)
+      zero_lt : (n : ℕ) → n ≡ 0 → nat_lt 0 n ≡ false
+      zero_lt n h = grind (arith, nat_tests)
 
 or_false : (a b : Bool) → b ≡ false → (a || b) ≡ a
 or_false true b h = refl
@@ -115,9 +114,9 @@ module _ (s0 s s1 : ServerState) (is : s ≡ cleared s0) where
   pub attach_refused : (r : Result QidStruct ℕ) (e f0 f f1 a0 a a1 : ℕ) → r ≡ Err e → f ≡ f0 → a ≡ a0 → Asks (attach_told s 1) (qid_answer r) s s1 f f1 → a1 ≡ min (a + 1) (2 ^ 64 - 1) → s1.settings ≡ s.settings
       → Attaches s0 s1 f0 f1 a0 a1 (Err (Errno e))
   attach_refused r e f0 f f1 a0 a a1 answered same_faults same_asked asks counted fixed = record {
-      fixed = fixed ∙ settings_is;
-      answer = by_asks (subst (λ (x : Result QidStruct ℕ). Asks (attach_told s 1) (qid_answer x) s s1 f f1) answered asks)
-    } where
+    fixed = fixed ∙ settings_is;
+    answer = by_asks (subst (λ (x : Result QidStruct ℕ). Asks (attach_told s 1) (qid_answer x) s s1 f f1) answered asks);
+  } where
     by_asks : Asks (attach_told s 1) (Err e) s s1 f f1 → AttachedBy s0 s1 f0 f1 a0 a1 (Err (Errno e))
     by_asks asks = ⊎_elim
         (λ h. let w = refused_by (nat_le s.settings.limit 0) (root_of s.tree s.settings.root) e h in (cleared_by w.0, inl (sym told_is ∙ w.1), omega arith))
@@ -171,18 +170,18 @@ module _ (s0 s s1 : ServerState) (is : s ≡ cleared s0) where
     paired : ArePaired g s1
     paired = record {
       fids = λ id. ⊎_elim
-        (λ e. one_there s1.fids 1 (closed i) fids_is id e ∙ ap (λ k. Some (closed k)) (sym path_is) ∙ sym (ap (λ o. fid_at o (get g.handles id)) (one_there g.nodes 1 root_node h.nodes id e)))
-        (λ ne. one_none s1.fids 1 (closed i) fids_is id ne ∙ sym (ap (λ o. fid_at o (get g.handles id)) (one_none g.nodes 1 root_node h.nodes id ne) ∙ ap (fid_at None) (no_handle id)))
-        (cases_eq id 1);
+          (λ e. one_there s1.fids 1 (closed i) fids_is id e ∙ ap (λ k. Some (closed k)) (sym path_is) ∙ sym (ap (λ o. fid_at o (get g.handles id)) (one_there g.nodes 1 root_node h.nodes id e)))
+          (λ ne. one_none s1.fids 1 (closed i) fids_is id ne ∙ sym (ap (λ o. fid_at o (get g.handles id)) (one_none g.nodes 1 root_node h.nodes id ne) ∙ ap (fid_at None) (no_handle id)))
+          (cases_eq id 1);
       used = h.used ∙ sym (one_long s1.fids 1 (closed i) fids_is);
       counted = (let a = one_long g.nodes 1 root_node h.nodes in let b : len g.handles ≡ 0 = ap len h.handles ∙ map.len-empty nat_cmp Handle in let c = h.used in omega arith);
       ids = λ ino id at. let one = one_only g.ids q.path 1 h.ids ino id at in (root_node, one_there g.nodes 1 root_node h.nodes id (sym one.1), sym one.0);
       known = λ id n at. let one = one_only g.nodes 1 root_node h.nodes id n at in ap (λ (x : Node). get g.ids x.ino) (sym one.1) ∙ one_there g.ids q.path 1 h.ids q.path refl ∙ ap Some (sym one.0);
       node_kinds = λ id n r at there.
-        let one = one_only g.nodes 1 root_node h.nodes id n at in
-        let here : get s.tree.records i ≡ Some r = ap (λ (t : Tree). get t.records i) (sym tree_same) ∙ ap (get s1.tree.records) (sym path_is) ∙ ap (λ (x : Node). get s1.tree.records x.ino) one.1 ∙ there in
-        ap (λ (x : Node). x.kind) (sym one.1) ∙ ap (λ (x : Qid). x.0) named_it ∙ ap (λ o. (qid_told (attr_or_missing i o)).0) here;
-      handle_kinds = λ id k r at there. absurd (let clash : None ≡ Some k = sym (no_handle id) ∙ at in cc)
+          let one = one_only g.nodes 1 root_node h.nodes id n at in
+          let here : get s.tree.records i ≡ Some r = ap (λ (t : Tree). get t.records i) (sym tree_same) ∙ ap (get s1.tree.records) (sym path_is) ∙ ap (λ (x : Node). get s1.tree.records x.ino) one.1 ∙ there in
+          ap (λ (x : Node). x.kind) (sym one.1) ∙ ap (λ (x : Qid). x.0) named_it ∙ ap (λ o. (qid_told (attr_or_missing i o)).0) here;
+      handle_kinds = λ id k r at there. absurd (let clash : None ≡ Some k = sym (no_handle id) ∙ at in cc);
     }
 
     nodes_is : mapped node_of g.nodes ≡ insert map.empty ROOT_NODE (record { ino = i; count = 1 })
@@ -210,9 +209,13 @@ module _ (s0 s s1 : ServerState) (is : s ≡ cleared s0) where
           stands = record {
             good = subst (λ (x : Settings). IsGoodMachine x (machine_of g s1)) (sym settings_same) (subst (IsGoodMachine s0.settings) (sym machine_is) begun_is);
             paired = paired;
-            roomy = subst (λ k. LEAST_MSIZE ≤ k) (sym (ap (λ (x : ServerState). x.msize) state ∙ ap (λ (x : ServerState). x.msize) is)) roomy
+            roomy = subst (λ k. LEAST_MSIZE ≤ k) (sym (ap (λ (x : ServerState). x.msize) state ∙ ap (λ (x : ServerState). x.msize) is)) roomy;
           };
-          root = i; limit = limit_some; found = sym root_is ∙ found; state = machine_is; frames = h.frames
+          root = i;
+          limit = limit_some;
+          found = sym root_is ∙ found;
+          state = machine_is;
+          frames = h.frames;
         }
 
   pub attach_made : IsGoodServer s → LEAST_MSIZE ≤ s0.msize → (r : Result QidStruct ℕ) (q : QidStruct) (g : Gate) (f0 f f1 a0 a a1 : ℕ) → r ≡ Ok q → a ≡ a0 → Asks (attach_told s 1) (qid_answer r) s s1 f f1 → a1 ≡ min (a + 1) (2 ^ 64 - 1) → s1.settings ≡ s.settings

@@ -2,11 +2,11 @@
 use Rattle.std.proofs.Common.{◌≡◌, ℕ, ◌+◌, ◌-◌, ◌^◌, refl, sym, ap, ◌∙◌, subst, min, Option, Some, None, Result, Ok, Err, arith, ⊎_elim, is_some, true, false}
 use Rattle.std.specs.Prelude.{option_map}
 use Rattle.std.proofs.lemmas.Bool.{false≢true}
-use Rattle.std.specs.FinMap.{FinMap, get}
+use Rattle.std.specs.FinMap.{get}
 use Rattle.port_base.specs.declared.errno.TheConstants.{EBADF, ESTALE}
 use Rattle.tree_model.specs.declared.attributes.Attr.{Attr}
 use Rattle.fuse_wire.specs.declared.attr.FileAttr.{FileAttr}
-use Rattle.tree_machine.specs.State.{MachineState, Node as MachineNode, Handle as MachineHandle}
+use Rattle.tree_machine.specs.State.{MachineState}
 use Rattle.tree_machine.specs.Core.{Reply as MachineReply, getattr_node, getattr_handle, attr_reply, shown_at}
 use Rattle.tree_machine.specs.Messages.{one_where}
 use Rattle.fid_model.specs.Fids.{ServerState, Fid, IsGoodServer}
@@ -49,21 +49,21 @@ module _ {g : Gate} {s : ServerState} (st : IsInStep g s) (good : IsGoodServer s
       → IsServed told messages g g1 s s1 f0 f1 a0 a1 (attr_given r)
   attr_served told messages ino g1 s1 f0 f1 a0 a1 r reply state one answer sent counted =
       subst (λ (x : Gate). IsServed told messages g x s s1 f0 f1 a0 a1 (attr_given r)) (sym sent) (⊎_elim
-        (λ e.
-          let is : r ≡ laid_out_attributes (shown_at s.settings s.tree ino) = first_of_pair r (laid_out_attributes (getattr_told s ino).0) s1 s e in
-          subst (λ (x : ServerState). IsServed told messages g (one_sent g) s x f0 f1 a0 a1 (attr_given r)) (sym (second_of_pair r (laid_out_attributes (getattr_told s ino).0) s1 s e))
-            (kept st good told messages (min (g.nine_frames + 1) (2 ^ 64 - 1)) f0 f1 a0 a1 (attr_given r)
-              (ap attr_given is ∙ given_laid_out (shown_at s.settings s.tree ino) ∙ ap laid_out (sym reply)) state (omega arith) (omega arith)))
-        (λ k. subst (λ (x : Result FileAttr ℕ). IsServed told messages g (one_sent g) s s1 f0 f1 a0 a1 (attr_given x)) (sym k.1)
-            (hurt st told messages 1 (min (g.nine_frames + 1) (2 ^ 64 - 1)) s1 f0 f1 a0 a1 k.2 k.0 (omega arith) (omega arith)))
-        answer)
+      (λ e.
+      let is : r ≡ laid_out_attributes (shown_at s.settings s.tree ino) = first_of_pair r (laid_out_attributes (getattr_told s ino).0) s1 s e in
+      subst (λ (x : ServerState). IsServed told messages g (one_sent g) s x f0 f1 a0 a1 (attr_given r)) (sym (second_of_pair r (laid_out_attributes (getattr_told s ino).0) s1 s e))
+      (kept st good told messages (min (g.nine_frames + 1) (2 ^ 64 - 1)) f0 f1 a0 a1 (attr_given r)
+      (ap attr_given is ∙ given_laid_out (shown_at s.settings s.tree ino) ∙ ap laid_out (sym reply)) state (omega arith) (omega arith)))
+      (λ k. subst (λ (x : Result FileAttr ℕ). IsServed told messages g (one_sent g) s s1 f0 f1 a0 a1 (attr_given x)) (sym k.1)
+      (hurt st told messages 1 (min (g.nine_frames + 1) (2 ^ 64 - 1)) s1 f0 f1 a0 a1 k.2 k.0 (omega arith) (omega arith)))
+      answer)
 
   -- what the call answered
   shown_answer : (fid ino : ℕ) (s1 : ServerState) (f0 f1 : ℕ) (f : Fid) (x r : Result FileAttr ℕ) → x ≡ r → get s.fids fid ≡ Some f → f.ino ≡ ino
       → ((f : Fid) → get s.fids fid ≡ Some f → Asks (laid_out_attributes (getattr_told s f.ino).0, s) x s s1 f0 f1) → Asks (laid_out_attributes (getattr_told s ino).0, s) r s s1 f0 f1
   shown_answer fid ino s1 f0 f1 f x r is at same answer =
       subst (λ (r : Result FileAttr ℕ). Asks (laid_out_attributes (getattr_told s ino).0, s) r s s1 f0 f1) is
-        (subst (λ i. Asks (laid_out_attributes (getattr_told s i).0, s) x s s1 f0 f1) same (answer f at))
+      (subst (λ i. Asks (laid_out_attributes (getattr_told s i).0, s) x s s1 f0 f1) same (answer f at))
 
   module _ (node : ℕ) where
     abbrev node_told : MachineReply × MachineState
@@ -78,15 +78,15 @@ module _ {g : Gate} {s : ServerState} (st : IsInStep g s) (good : IsGoodServer s
     pub node_unknown : (f a : ℕ) → get g.nodes node ≡ None → IsServed node_told node_messages g g s s f f a a (given.Refused ESTALE)
     node_unknown f a at =
         unmoved st good node_told node_messages f f a (given.Refused ESTALE) (ap (λ o. one_where o) (node_is None at))
-          (sym (ap (λ o. laid_out (getattr_node s.settings (machine_of g s) o)) (node_is None at))) refl
+        (sym (ap (λ o. laid_out (getattr_node s.settings (machine_of g s) o)) (node_is None at))) refl
 
     pub node_shown : (n : Node) (g1 : Gate) (s1 : ServerState) (f0 f1 a0 a1 : ℕ) (x r : Result FileAttr ℕ) → get g.nodes node ≡ Some n → x ≡ r
         → ((f : Fid) → get s.fids node ≡ Some f → Asks (laid_out_attributes (getattr_told s f.ino).0, s) x s s1 f0 f1) → g1 ≡ one_sent g → a1 ≡ min (a0 + 1) (2 ^ 64 - 1)
         → IsServed node_told node_messages g g1 s s1 f0 f1 a0 a1 (attr_given r)
     node_shown n g1 s1 f0 f1 a0 a1 x r at is answer sent counted =
         attr_served node_told node_messages n.ino g1 s1 f0 f1 a0 a1 r
-          (ap (getattr_node s.settings (machine_of g s)) (node_is (Some n) at)) refl (ap (λ o. one_where o) (node_is (Some n) at))
-          (shown_answer node n.ino s1 f0 f1 _ x r is (node_fid st node n at) refl answer) sent counted
+        (ap (getattr_node s.settings (machine_of g s)) (node_is (Some n) at)) refl (ap (λ o. one_where o) (node_is (Some n) at))
+        (shown_answer node n.ino s1 f0 f1 _ x r is (node_fid st node n at) refl answer) sent counted
 
   module _ (handle : ℕ) where
     abbrev handle_told : MachineReply × MachineState
@@ -101,12 +101,12 @@ module _ {g : Gate} {s : ServerState} (st : IsInStep g s) (good : IsGoodServer s
     pub handle_unknown : (f a : ℕ) → get g.handles handle ≡ None → IsServed handle_told handle_messages g g s s f f a a (given.Refused EBADF)
     handle_unknown f a at =
         unmoved st good handle_told handle_messages f f a (given.Refused EBADF) (ap (λ o. one_where o) (handle_is None at))
-          (sym (ap (λ o. laid_out (getattr_handle s.settings (machine_of g s) o)) (handle_is None at))) refl
+        (sym (ap (λ o. laid_out (getattr_handle s.settings (machine_of g s) o)) (handle_is None at))) refl
 
     pub handle_shown : (h : Handle) (g1 : Gate) (s1 : ServerState) (f0 f1 a0 a1 : ℕ) (x r : Result FileAttr ℕ) → get g.handles handle ≡ Some h → x ≡ r
         → ((f : Fid) → get s.fids handle ≡ Some f → Asks (laid_out_attributes (getattr_told s f.ino).0, s) x s s1 f0 f1) → g1 ≡ one_sent g → a1 ≡ min (a0 + 1) (2 ^ 64 - 1)
         → IsServed handle_told handle_messages g g1 s s1 f0 f1 a0 a1 (attr_given r)
     handle_shown h g1 s1 f0 f1 a0 a1 x r at is answer sent counted =
         attr_served handle_told handle_messages h.ino g1 s1 f0 f1 a0 a1 r
-          (ap (getattr_handle s.settings (machine_of g s)) (handle_is (Some h) at)) refl (ap (λ o. one_where o) (handle_is (Some h) at))
-          (shown_answer handle h.ino s1 f0 f1 _ x r is (handle_fid st handle h at) refl answer) sent counted
+        (ap (getattr_handle s.settings (machine_of g s)) (handle_is (Some h) at)) refl (ap (λ o. one_where o) (handle_is (Some h) at))
+        (shown_answer handle h.ino s1 f0 f1 _ x r is (handle_fid st handle h at) refl answer) sent counted

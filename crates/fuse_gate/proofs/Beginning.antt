@@ -15,7 +15,6 @@ use Rattle.fuse_gate.specs.Steps.{IsServed}
 use Rattle.fuse_gate.specs.Replies.{laid_out}
 use Rattle.fuse_gate.specs.declared.gate.Gate.{Gate}
 use Rattle.fuse_gate.specs.declared.gate.Phase.TheVariants as phase
-use Rattle.fuse_gate.specs.declared.gate.reply.Reply.{Reply}
 use Rattle.fuse_gate.specs.declared.gate.reply.Reply.TheVariants as given
 use Rattle.fuse_gate.proofs.Standings.{unmoved, made}
 
@@ -39,7 +38,7 @@ module _ {g : Gate} {s : ServerState} (st : IsInStep g s) (good : IsGoodServer s
       let is = by_test false (grind (arith, nat_tests)) in
       let begun_good : IsGoodMachine s.settings (settled (record (machine_of g s) { phase = Started })) = settles s.settings (record (machine_of g s) { phase = Started }) (begins s.settings (machine_of g s) st.good) in
       made told 0 g (record g { phase = phase.Started }) s s f f a a (given.Granted least max_readahead) good
-        (record { fids = st.paired.fids; used = st.paired.used; counted = st.paired.counted; ids = st.paired.ids; known = st.paired.known; node_kinds = st.paired.node_kinds; handle_kinds = st.paired.handle_kinds })
-        st.roomy refl (subst (λ (x : MachineReply × MachineState). IsGoodMachine s.settings (settled x.1)) (sym is) begun_good)
-        (ap (λ n. given.Granted n max_readahead) lower ∙ ap (λ (x : MachineReply × MachineState). laid_out x.0) (sym is))
-        (ap (λ (x : MachineReply × MachineState). x.1) (sym is)) (omega arith) (omega arith)
+      (record { fids = st.paired.fids; used = st.paired.used; counted = st.paired.counted; ids = st.paired.ids; known = st.paired.known; node_kinds = st.paired.node_kinds; handle_kinds = st.paired.handle_kinds })
+      st.roomy refl (subst (λ (x : MachineReply × MachineState). IsGoodMachine s.settings (settled x.1)) (sym is) begun_good)
+      (ap (λ n. given.Granted n max_readahead) lower ∙ ap (λ (x : MachineReply × MachineState). laid_out x.0) (sym is))
+      (ap (λ (x : MachineReply × MachineState). x.1) (sym is)) (omega arith) (omega arith)

@@ -1,10 +1,10 @@
 -- A new fid becomes a node, or goes again.
-use Rattle.std.proofs.Common.{◌≡◌, ◌≢◌, ℕ, ◌+◌, ◌-◌, ◌<◌, ◌≤◌, ◌^◌, Bool, true, false, refl, sym, ap, ◌∙◌, subst, Option, Some, None, Result, Ok, Err, arith, IsSome, min, ◌⊎◌, inl, inr, ⊎_elim}
-use Rattle.std.specs.FinMap.{FinMap, get, insert, remove}
+use Rattle.std.proofs.Common.{◌≡◌, ℕ, ◌+◌, ◌-◌, ◌≤◌, ◌^◌, refl, sym, ap, ◌∙◌, subst, Option, Some, None, Result, Ok, Err, arith, IsSome, min, ◌⊎◌, ⊎_elim}
+use Rattle.std.specs.FinMap.{FinMap, get, insert}
 use Rattle.port_base.specs.Faults.{Rose}
 use Rattle.port_base.specs.declared.errno.TheConstants.{EIO}
-use Rattle.tree_model.specs.Tree.{Tree, Record}
-use Rattle.tree_model.specs.Attributes.{kind_of, qid_type, Qid, attr_of, attr_or_missing, stat_of}
+use Rattle.tree_model.specs.Tree.{Record}
+use Rattle.tree_model.specs.Attributes.{kind_of, qid_type, Qid, attr_of, attr_or_missing}
 use Rattle.tree_model.specs.Settings.{shown_of, shown_told}
 use Rattle.tree_model.specs.declared.attributes.Attr.{Attr}
 use Rattle.fuse_wire.specs.declared.attr.FileAttr.{FileAttr}
@@ -13,16 +13,15 @@ use Rattle.tree_machine.specs.Core.{Reply as MachineReply, node_of as node_found
 use Rattle.tree_machine.specs.Good.{IsGoodMachine}
 use Rattle.tree_machine.proofs.Steps.{given_good, settles}
 use Rattle.fid_model.specs.Fids.{ServerState, Fid, IsGoodServer, closed}
-use Rattle.fid_model.specs.Answers.{qid_at, qid_told}
+use Rattle.fid_model.specs.Answers.{qid_told}
 use Rattle.fid_model.specs.Asked.{Asks, getattr_told, clunked}
 use Rattle.fid_model.proofs.Keeping.{settled_same}
 use Rattle.p9_client.specs.Views.{IsRoomy}
 use Rattle.fuse_gate.specs.Mapped.{mapped}
-use Rattle.fuse_gate.specs.Standing.{IsInStep, machine_of, node_of}
+use Rattle.fuse_gate.specs.Standing.{machine_of, node_of}
 use Rattle.fuse_gate.specs.Steps.{IsServed}
 use Rattle.fuse_gate.specs.Replies.{laid_out, laid_out_attributes}
 use Rattle.fuse_gate.specs.Changes.{HasFresh, without, counted_node, counted_by, counted_up, with_node, one_sent, entering_rest}
-use Rattle.fuse_gate.specs.declared.gate.Node.{Node}
 use Rattle.fuse_gate.specs.declared.gate.Gate.{Gate}
 use Rattle.fuse_gate.specs.declared.gate.reply.Reply.{Reply}
 use Rattle.fuse_gate.specs.declared.gate.reply.Reply.TheVariants as given
@@ -90,16 +89,16 @@ module _ {g : Gate} {s : ServerState} {ino : ℕ} {qid : Qid} (h : HasFresh g s 
       → g1 ≡ one_sent g → g2 ≡ one_sent g1 → a1 ≡ min (a0 + 1) (2 ^ 64 - 1) → a2 ≡ min (a1 + 1) (2 ^ 64 - 1) → IsServed told rest g g2 s s2 f0 f2 a0 a2 (given.Refused e)
   enter_refused e g1 g2 s1 s2 f0 f1 f2 a0 a1 a2 le answer gone sent more counted again =
       ⊎_elim
-        (λ q. absurd (
-          let r = some_value (get s.tree.records ino) h.stored in
-          let clash : Err e ≡ laid_out_attributes (Ok (shown_of s.settings (attr_of ino r.0))) = first_of_pair (Err e) (laid_out_attributes (getattr_told s ino).0) s1 s q ∙ shown_here r.0 r.1 in cc))
-        (λ k.
-          let is : e ≡ EIO = (let q = k.1 in cc) in
-          subst (λ d. IsServed told rest g g2 s s2 f0 f2 a0 a2 (given.Refused d)) (sym is)
-            (subst (λ (x : Gate). IsServed told rest g x s s2 f0 f2 a0 a2 (given.Refused EIO)) (sym (more ∙ ap one_sent sent))
-              (with_fid told rest (one_sent (one_sent g)) s2 f0 f2 a0 a2 (given.Refused EIO)
-                (hurt h.stands told rest 2 (min (min (g.nine_frames + 1) (2 ^ 64 - 1) + 1) (2 ^ 64 - 1)) s2 f0 f2 a0 a2 (back s1 s2 k.2 gone) (rose_on f0 f1 f2 le k.0) (omega arith) (omega arith)))))
-        answer
+      (λ q. absurd (
+      let r = some_value (get s.tree.records ino) h.stored in
+      let clash : Err e ≡ laid_out_attributes (Ok (shown_of s.settings (attr_of ino r.0))) = first_of_pair (Err e) (laid_out_attributes (getattr_told s ino).0) s1 s q ∙ shown_here r.0 r.1 in cc))
+      (λ k.
+      let is : e ≡ EIO = (let q = k.1 in cc) in
+      subst (λ d. IsServed told rest g g2 s s2 f0 f2 a0 a2 (given.Refused d)) (sym is)
+      (subst (λ (x : Gate). IsServed told rest g x s s2 f0 f2 a0 a2 (given.Refused EIO)) (sym (more ∙ ap one_sent sent))
+      (with_fid told rest (one_sent (one_sent g)) s2 f0 f2 a0 a2 (given.Refused EIO)
+      (hurt h.stands told rest 2 (min (min (g.nine_frames + 1) (2 ^ 64 - 1) + 1) (2 ^ 64 - 1)) s2 f0 f2 a0 a2 (back s1 s2 k.2 gone) (rose_on f0 f1 f2 le k.0) (omega arith) (omega arith)))))
+      answer
 
   -- the attributes that are told
   shown_ok : (node : ℕ) (a : FileAttr) (s1 : ServerState) (f0 f1 : ℕ) → Shows s ino (Ok a) s1 f0 f1 → given.Entry node a ≡ laid_out (entry_reply node (shown_at s.settings s.tree ino))
@@ -123,16 +122,16 @@ module _ {g : Gate} {s : ServerState} {ino : ℕ} {qid : Qid} (h : HasFresh g s 
       let k : ℕ = min (min (g.nine_frames + 1) (2 ^ 64 - 1) + 1) (2 ^ 64 - 1) in
       let gate : g3 ≡ record g { nodes = insert g.nodes id (counted_node n.0); nine_frames = k } = up ∙ ap (λ (x : Gate). counted_up x id) (more ∙ ap one_sent sent) ∙ ap (counted_by (record g { nine_frames = k }) id) n.1 in
       let nodes : mapped node_of (insert g.nodes id (counted_node n.0)) ≡ insert (mapped node_of g.nodes) id (record { ino = ino; count = min (n.0.count + 1) COUNT_LIMIT }) =
-          mapped-insert node_of g.nodes id (counted_node n.0) ∙ ap (λ (i : ℕ). insert (mapped node_of g.nodes) id (let v : MachineNode = record { ino = i; count = min (n.0.count + 1) COUNT_LIMIT } in v)) n.2 in
+      mapped-insert node_of g.nodes id (counted_node n.0) ∙ ap (λ (i : ℕ). insert (mapped node_of g.nodes) id (let v : MachineNode = record { ino = i; count = min (n.0.count + 1) COUNT_LIMIT } in v)) n.2 in
       let two : rest ≡ 2 = ap entering_rest found in
       subst (λ (x : Gate). IsServed told rest g x s s2 f0 f2 a0 a2 (given.Entry id a)) (sym gate)
-        (subst (λ (x : ServerState). IsServed told rest g (record g { nodes = insert g.nodes id (counted_node n.0); nine_frames = k }) s x f0 f2 a0 a2 (given.Entry id a)) (sym base)
-          (with_fid told rest (record g { nodes = insert g.nodes id (counted_node n.0); nine_frames = k }) (without s g.next) f0 f2 a0 a2 (given.Entry id a)
-            (made told rest g (record g { nodes = insert g.nodes id (counted_node n.0); nine_frames = k }) (without s g.next) (without s g.next) f0 f2 a0 a2 (given.Entry id a)
-              h.good (counted_paired (record g { nine_frames = k }) (without s g.next) (sent_stands h.stands k) id n.0 n.1) h.stands.roomy refl told_good
-              (shown_ok id a s1 f0 f1 answer ∙ sym (ap (λ (x : MachineReply × MachineState). laid_out x.0) is))
-              (ap (λ (x : FinMap _ MachineNode). let m : MachineState = record (machine_of g s) { nodes = x } in m) nodes ∙ sym (ap (λ (x : MachineReply × MachineState). x.1) is))
-              (omega arith) (omega arith))))
+      (subst (λ (x : ServerState). IsServed told rest g (record g { nodes = insert g.nodes id (counted_node n.0); nine_frames = k }) s x f0 f2 a0 a2 (given.Entry id a)) (sym base)
+      (with_fid told rest (record g { nodes = insert g.nodes id (counted_node n.0); nine_frames = k }) (without s g.next) f0 f2 a0 a2 (given.Entry id a)
+      (made told rest g (record g { nodes = insert g.nodes id (counted_node n.0); nine_frames = k }) (without s g.next) (without s g.next) f0 f2 a0 a2 (given.Entry id a)
+      h.good (counted_paired (record g { nine_frames = k }) (without s g.next) (sent_stands h.stands k) id n.0 n.1) h.stands.roomy refl told_good
+      (shown_ok id a s1 f0 f1 answer ∙ sym (ap (λ (x : MachineReply × MachineState). laid_out x.0) is))
+      (ap (λ (x : FinMap _ MachineNode). let m : MachineState = record (machine_of g s) { nodes = x } in m) nodes ∙ sym (ap (λ (x : MachineReply × MachineState). x.1) is))
+      (omega arith) (omega arith))))
 
   -- ---- an inode that has none
 
@@ -149,12 +148,12 @@ module _ {g : Gate} {s : ServerState} {ino : ℕ} {qid : Qid} (h : HasFresh g s 
       let one : rest ≡ 1 = ap entering_rest found in
       let nodes = mapped-insert node_of g.nodes g.next (record { ino = ino; count = 1; kind = qid.0 }) in
       subst (λ (x : Gate). IsServed told rest g x s s1 f0 f1 a0 a1 (given.Entry g.next a)) (sym (added ∙ ap (λ (x : Gate). with_node x ino qid.0) sent))
-        (subst (λ (x : ServerState). IsServed told rest g (with_node (one_sent g) ino qid.0) s x f0 f1 a0 a1 (given.Entry g.next a)) (sym same)
-          (made told rest g (with_node (one_sent g) ino qid.0) s s f0 f1 a0 a1 (given.Entry g.next a)
-            (subst IsGoodServer same good) (added_paired (one_sent g) s (sent_stands h.stands (min (g.nine_frames + 1) (2 ^ 64 - 1))) ino qid.0 h.fresh unknown kind_is) h.stands.roomy refl told_good
-            (shown_ok g.next a s1 f0 f1 answer ∙ sym (ap (λ (x : MachineReply × MachineState). laid_out x.0) is))
-            (ap (λ (x : FinMap _ MachineNode). let m : MachineState = record (machine_of g s) { nodes = x; next = g.next + 1 } in m) nodes ∙ sym (ap (λ (x : MachineReply × MachineState). x.1) is))
-            (omega arith) (omega arith)))
+      (subst (λ (x : ServerState). IsServed told rest g (with_node (one_sent g) ino qid.0) s x f0 f1 a0 a1 (given.Entry g.next a)) (sym same)
+      (made told rest g (with_node (one_sent g) ino qid.0) s s f0 f1 a0 a1 (given.Entry g.next a)
+      (subst IsGoodServer same good) (added_paired (one_sent g) s (sent_stands h.stands (min (g.nine_frames + 1) (2 ^ 64 - 1))) ino qid.0 h.fresh unknown kind_is) h.stands.roomy refl told_good
+      (shown_ok g.next a s1 f0 f1 answer ∙ sym (ap (λ (x : MachineReply × MachineState). laid_out x.0) is))
+      (ap (λ (x : FinMap _ MachineNode). let m : MachineState = record (machine_of g s) { nodes = x; next = g.next + 1 } in m) nodes ∙ sym (ap (λ (x : MachineReply × MachineState). x.1) is))
+      (omega arith) (omega arith)))
 
   -- ---- want of memory
 

@@ -1,6 +1,6 @@
 -- What nodes and handles name is what fids name.
-use Rattle.std.proofs.Common.{◌≡◌, ◌≢◌, ℕ, ◌+◌, ◌<◌, ◌≤◌, Bool, true, false, cond, List, [], ◌∷◌, refl, sym, ap, ◌∙◌, subst, Option, Some, None, arith, nat_lt, ◌⊎◌, inl, inr, ⊎_elim}
-use Rattle.std.specs.Prelude.{◌==◌, find, T}
+use Rattle.std.proofs.Common.{◌≡◌, ℕ, ◌+◌, ◌<◌, Bool, true, false, cond, List, [], ◌∷◌, refl, sym, ap, ◌∙◌, subst, Option, Some, None, arith, nat_lt, ◌⊎◌, inl, inr, ⊎_elim}
+use Rattle.std.specs.Prelude.{find}
 use Rattle.std.proofs.lemmas.Bool.{false≢true, cases_eq}
 use Rattle.std.proofs.lemmas.Bool.Decides.{nat_tests}
 use Rattle.std.specs.Ordering.{nat_cmp}
@@ -91,9 +91,9 @@ module _ (nodes : FinMap nat_cmp Node) (handles : FinMap nat_cmp Handle) (fids :
       let n = mapped_from handle_of handles s.0 s.1 s.2 in
       let w : 0 < handle_weight i (handle_of n.0) = subst (λ (v : MachineHandle). 0 < handle_weight i v) (sym n.2) s.3 in
       by_node s.0 n.0 n.1 w (get nodes s.0) refl where
-    by_node : (q : ℕ) (n : Handle) → get handles q ≡ Some n → 0 < handle_weight i (handle_of n) → (o : Option Node) → get nodes q ≡ o → 0 < weigh (fid_weight i) (entries fids)
-    by_node q n at w None is = weight_at (fid_weight i) fids q (opened n) (are q ∙ ap (λ o. fid_at o (get handles q)) is ∙ ap (fid_at None) at) w
-    by_node q n at w (Some m) is = absurd (let none : None ≡ Some n = sym (apart q m is) ∙ at in cc)
+        by_node : (q : ℕ) (n : Handle) → get handles q ≡ Some n → 0 < handle_weight i (handle_of n) → (o : Option Node) → get nodes q ≡ o → 0 < weigh (fid_weight i) (entries fids)
+        by_node q n at w None is = weight_at (fid_weight i) fids q (opened n) (are q ∙ ap (λ o. fid_at o (get handles q)) is ∙ ap (fid_at None) at) w
+        by_node q n at w (Some m) is = absurd (let none : None ≡ Some n = sym (apart q m is) ∙ at in cc)
 
   pub named_is_held : is_named (mapped node_of nodes) (mapped handle_of handles) i ≡ is_held fids i
   named_is_held = same_bool _ _

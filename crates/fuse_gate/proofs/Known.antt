@@ -1,9 +1,9 @@
 -- The node of an inode.
-use Rattle.std.proofs.Common.{◌≡◌, ◌≢◌, ℕ, Bool, true, false, List, refl, sym, ap, ◌∙◌, subst, Option, Some, None, eq-eqb}
+use Rattle.std.proofs.Common.{◌≡◌, ℕ, Bool, refl, sym, ap, ◌∙◌, Option, Some, None, eq-eqb}
 use Rattle.std.specs.Prelude.{◌==◌, find}
 use Rattle.std.proofs.lemmas.Bool.{false≢true}
 use borrow.Author.Tests.{eqb-true}
-use Rattle.std.specs.FinMap.{FinMap, get, entries}
+use Rattle.std.specs.FinMap.{get, entries}
 use Rattle.tree_machine.specs.State.{Node as MachineNode}
 use Rattle.tree_machine.specs.Core.{node_of as node_found}
 use Rattle.tree_machine.proofs.First.{first_entry, none_passes}

@@ -1,10 +1,10 @@
 -- Maps with each value changed.
-use Rattle.std.proofs.Common.{◌≡◌, ◌≢◌, ℕ, ◌+◌, Bool, true, false, cond, List, [], ◌∷◌, length, refl, sym, ap, ◌∙◌, subst, Option, Some, None, Ordering, arith, ◌&&◌, IsSome, is_some}
-use Rattle.std.specs.Prelude.{T, option_map, find as find_first}
+use Rattle.std.proofs.Common.{◌≡◌, ℕ, Bool, true, false, cond, List, [], ◌∷◌, length, refl, sym, ap, ◌∙◌, subst, Option, Some, None, arith, ◌&&◌}
+use Rattle.std.specs.Prelude.{T, option_map}
 use Rattle.std.specs.Ordering.{nat_cmp, eq_by_cmp, is_eq, is_lt}
 use Rattle.std.specs.Cmp.{nat_cmp_total}
 use Rattle.std.specs.FinMap as map
-use Rattle.std.specs.FinMap.{FinMap, get, insert, remove, len, find, is_sorted, entries, entries_sorted, entries-from_sorted, get-from_sorted, get-entries, get-insert, get-remove, len-insert, len-remove, len-entries}
+use Rattle.std.specs.FinMap.{FinMap, get, insert, remove, len, find, is_sorted, entries, entries_sorted, entries-from_sorted, get-from_sorted, get-entries, get-insert, get-remove, len-entries}
 use Rattle.tree_model.proofs.Maps.{same_gets}
 use Rattle.tree_model.proofs.Counting.{below_all}
 use Rattle.fuse_gate.specs.Mapped.{entries_mapped, mapped}

@@ -1,11 +1,10 @@
 -- What a server tells of an inode has room in FUSE's fields.
-use Rattle.std.proofs.Common.{◌≡◌, ℕ, ◌+◌, ◌<◌, ◌≤◌, ◌^◌, Bool, true, false, refl, sym, ap, ◌∙◌, subst, Option, Some, None, Result, Ok, Err, arith, IsSome, nat_lt, ⊎_elim}
+use Rattle.std.proofs.Common.{◌≡◌, ℕ, refl, sym, ap, ◌∙◌, subst, Option, Some, None, Result, Ok, arith, IsSome, ⊎_elim}
 use Rattle.std.proofs.lemmas.Bool.{false≢true}
-use Rattle.std.specs.FinMap.{FinMap, get}
+use Rattle.std.specs.FinMap.{get}
 use Rattle.tree_model.specs.Tree.{Record}
 use Rattle.tree_model.specs.Attributes.{attr_of, attr_or_missing}
 use Rattle.tree_model.specs.Settings.{shown_of, shown_told}
-use Rattle.tree_model.specs.declared.attributes.Attr.{Attr}
 use Rattle.p9_rmsg.specs.declared.message.Rgetattr.{Rgetattr}
 use Rattle.p9_rmsg.specs.Replies.{Attributes, attributes_of}
 use Rattle.fid_model.specs.Fids.{ServerState, Fid, IsGoodServer}
@@ -39,9 +38,9 @@ module _ (s : ServerState) (good : IsGoodServer s) where
   told_short : (s1 : ServerState) (i f0 f1 : ℕ) (a : Attributes) (r : Record) → get s.tree.records i ≡ Some r → Asks (laid_out (getattr_told s i).0, s) (Ok a) s s1 f0 f1 → HasShortFields a
   told_short s1 i f0 f1 a r at asked = ⊎_elim
       (λ e.
-        let is : Ok a ≡ Ok (attributes_shown (shown_of s.settings (attr_of i r))) = first_of_pair (Ok a) (laid_out (getattr_told s i).0) s1 s e ∙ ap (λ o. laid_out (shown_told s.settings (attr_or_missing i o))) at in
-        let same : a ≡ attributes_shown (shown_of s.settings (attr_of i r)) = cc in
-        subst HasShortFields (sym same) (shown_short i r at))
+      let is : Ok a ≡ Ok (attributes_shown (shown_of s.settings (attr_of i r))) = first_of_pair (Ok a) (laid_out (getattr_told s i).0) s1 s e ∙ ap (λ o. laid_out (shown_told s.settings (attr_or_missing i o))) at in
+      let same : a ≡ attributes_shown (shown_of s.settings (attr_of i r)) = cc in
+      subst HasShortFields (sym same) (shown_short i r at))
       (λ k. absurd (let clash = k.1 in cc)) asked
 
   pub short_fields : (s1 : ServerState) (fid f0 f1 : ℕ) (x : Result Rgetattr ℕ) (a : Rgetattr) → IsSome (get s.fids fid) → x ≡ Ok a

@@ -1,16 +1,14 @@
 -- Gates and servers that stay in step.
-use Rattle.std.proofs.Common.{◌≡◌, ◌≢◌, ℕ, ◌+◌, ◌<◌, ◌≤◌, Bool, true, false, refl, sym, ap, ◌∙◌, subst, Option, Some, None, arith, IsSome, inl, inr}
-use Rattle.std.specs.Ordering.{nat_cmp}
-use Rattle.std.specs.FinMap.{FinMap, get, len, entries}
-use Rattle.std.proofs.lemmas.Bool.{false≢true}
+use Rattle.std.proofs.Common.{◌≡◌, ℕ, ◌<◌, ◌≤◌, refl, sym, ap, ◌∙◌, subst, Option, Some, None, arith, inl, inr}
+use Rattle.std.specs.FinMap.{get}
 use Rattle.port_base.specs.Faults.{Rose}
 use Rattle.port_base.specs.declared.errno.TheConstants.{EIO}
-use Rattle.tree_model.specs.Tree.{Tree, Record, keep}
+use Rattle.tree_model.specs.Tree.{Tree}
 use Rattle.tree_model.specs.Settings.{Settings}
-use Rattle.tree_machine.specs.State.{MachineState, Node as MachineNode, Handle as MachineHandle, settled, is_named}
+use Rattle.tree_machine.specs.State.{MachineState, Node as MachineNode, settled, is_named}
 use Rattle.tree_machine.specs.Core.{Reply as MachineReply}
 use Rattle.tree_machine.specs.Good.{IsGoodMachine, IsGoodNode, IsGoodHandle}
-use Rattle.fid_model.specs.Fids.{ServerState, Fid, is_held, IsGoodServer, closed}
+use Rattle.fid_model.specs.Fids.{ServerState, is_held, IsGoodServer, closed}
 use Rattle.fid_model.proofs.Keeping.{keep_same, keep_alike}
 use Rattle.fuse_gate.specs.Mapped.{mapped}
 use Rattle.fuse_gate.specs.Standing.{IsInStep, ArePaired, machine_of, node_of, handle_of, fid_at, opened}
@@ -22,7 +20,7 @@ use Rattle.fuse_gate.specs.declared.gate.Handle.{Handle}
 use Rattle.fuse_gate.specs.declared.gate.Gate.{Gate}
 use Rattle.fuse_gate.specs.declared.gate.reply.Reply.{Reply}
 use Rattle.fuse_gate.specs.declared.gate.reply.Reply.TheVariants.{Refused}
-use Rattle.fuse_gate.proofs.MappedLemmas.{get-mapped, mapped_at, mapped_none}
+use Rattle.fuse_gate.proofs.MappedLemmas.{mapped_at, mapped_none}
 use Rattle.fuse_gate.proofs.Held.{named_is_held}
 
 -- no number is a node and a handle
@@ -33,9 +31,9 @@ AreApart m = (id : ℕ) (n : MachineNode) → get m.nodes id ≡ Some n → get 
 pub settled_same : (g : Gate) (s : ServerState) → ArePaired g s → AreApart (machine_of g s) → IsGoodServer s → settled (machine_of g s) ≡ machine_of g s
 settled_same g s paired apart good =
     ap (λ (t : Tree). let m : MachineState = record (machine_of g s) { tree = t } in m)
-      (keep_alike s.tree (is_named (mapped node_of g.nodes) (mapped handle_of g.handles)) (is_held s.fids)
-        (λ i. named_is_held g.nodes g.handles s.fids paired.fids (λ q n at. mapped_none handle_of g.handles q (apart q (node_of n) (mapped_at node_of g.nodes q n at))) i)
-       ∙ keep_same s.tree (is_held s.fids) good.kept)
+    (keep_alike s.tree (is_named (mapped node_of g.nodes) (mapped handle_of g.handles)) (is_held s.fids)
+    (λ i. named_is_held g.nodes g.handles s.fids paired.fids (λ q n at. mapped_none handle_of g.handles q (apart q (node_of n) (mapped_at node_of g.nodes q n at))) i)
+    ∙ keep_same s.tree (is_held s.fids) good.kept)
 
 -- a request that was carried out
 pub made : (told : MachineReply × MachineState) (messages : ℕ) (g0 g1 : Gate) (s0 s1 : ServerState) (f0 f1 a0 a1 : ℕ) (reply : Reply)
@@ -47,7 +45,11 @@ made told messages g0 g1 s0 s1 f0 f1 a0 a1 reply good paired roomy fixed told_go
     let all : machine_of g1 s1 ≡ settled told.1 = sym (settled_same g1 s1 paired apart good) ∙ ap settled state in
     record {
       stands = record { good = subst (λ (x : Settings). IsGoodMachine x (machine_of g1 s1)) (sym fixed) (subst (IsGoodMachine s0.settings) (sym all) told_good); paired = paired; roomy = roomy };
-      fixed = fixed; sent = messages; frames = frames; asked = asked; outcome = inl (is, all, refl)
+      fixed = fixed;
+      sent = messages;
+      frames = frames;
+      asked = asked;
+      outcome = inl (is, all, refl);
     }
 
 module _ {g : Gate} {s : ServerState} (st : IsInStep g s) where
@@ -56,7 +58,7 @@ module _ {g : Gate} {s : ServerState} (st : IsInStep g s) where
   sent_stands k = record {
     good = st.good;
     paired = record { fids = st.paired.fids; used = st.paired.used; counted = st.paired.counted; ids = st.paired.ids; known = st.paired.known; node_kinds = st.paired.node_kinds; handle_kinds = st.paired.handle_kinds };
-    roomy = st.roomy
+    roomy = st.roomy;
   }
 
   -- a fault leaves the state as it was
@@ -64,7 +66,7 @@ module _ {g : Gate} {s : ServerState} (st : IsInStep g s) where
       → IsServed told messages g (record g { nine_frames = k }) s s1 f0 f1 a0 a1 (Refused EIO)
   hurt told messages sent k s1 f0 f1 a0 a1 same rose frames asked =
       subst (λ (x : ServerState). IsServed told messages g (record g { nine_frames = k }) s x f0 f1 a0 a1 (Refused EIO)) (sym same)
-        (record { stands = sent_stands k; fixed = refl; sent = sent; frames = frames; asked = asked; outcome = inr (rose, refl, refl, inl refl) })
+      (record { stands = sent_stands k; fixed = refl; sent = sent; frames = frames; asked = asked; outcome = inr (rose, refl, refl, inl refl) })
 
   pub stands_settled : IsGoodServer s → settled (machine_of g s) ≡ machine_of g s
   stands_settled good = settled_same g s st.paired st.good.apart good

@@ -1,8 +1,7 @@
 -- A whole frame: its turn, and the bytes of its reply.
-use Rattle.std.proofs.Common.{◌≡◌, ◌≢◌, ℕ, ◌+◌, ◌<◌, ◌≤◌, ◌^◌, Bool, true, false, cond, List, [], ◌++◌, length, refl, sym, ap, ◌∙◌, subst, Option, Some, None, Result, Ok, Err, arith, ◌⊎◌, inl, inr, ⊎_elim, ◌&&◌, nat_le}
+use Rattle.std.proofs.Common.{◌≡◌, ℕ, ◌≤◌, Bool, true, false, cond, List, [], ◌++◌, length, refl, sym, ap, ◌∙◌, subst, Ok, Err, arith, inl, inr, ⊎_elim}
 use Rattle.std.proofs.lemmas.Bool.Decides.{nat_tests}
 use Rattle.std.proofs.lemmas.List.{append-nil}
-use Rattle.port_base.specs.Faults.{Rose}
 use Rattle.port_base.specs.declared.errno.TheConstants.{EIO, EPROTO}
 use Rattle.fuse_wire.specs.Cuts.{IsFrame, is_allowed}
 use Rattle.fuse_wire.specs.Body.{plain}
@@ -11,10 +10,10 @@ use Rattle.fuse_wire.specs.declared.request.Body.TheVariants as body
 use Rattle.fuse_wire.specs.Head.{head_of}
 use Rattle.fuse_wire.specs.declared.head.Head.{Head}
 use Rattle.fuse_wire.specs.Request.{Request, request_of}
-use Rattle.tree_machine.specs.State.{MachineState, settled}
+use Rattle.tree_machine.specs.State.{MachineState}
 use Rattle.tree_machine.specs.Core.{Reply as MachineReply, core, init_core}
 use Rattle.tree_machine.specs.Core.Reply.{Refused, Granted, EntryOf, AttrOf}
-use Rattle.tree_machine.specs.Step.{step, core_of, asked, is_in_turn, is_silent, answer_bytes, reply_bytes}
+use Rattle.tree_machine.specs.Step.{core_of, asked, is_in_turn, is_silent, answer_bytes, reply_bytes}
 use Rattle.tree_machine.specs.Messages.{messages, request_messages}
 use Rattle.fid_model.specs.Fids.{ServerState, IsGoodServer}
 use Rattle.fuse_gate.specs.Standing.{IsInStep, machine_of, phase_of}
@@ -48,7 +47,7 @@ module _ {g : Gate} {s : ServerState} (st : IsInStep g s) (good : IsGoodServer s
   refused_as : (e f a : ℕ) → asked (phase_of g.phase) frame ≡ Err e → IsServed told count g g s s f f a a (given.Refused e)
   refused_as e f a is =
       unmoved st good told count f f a (given.Refused e) (ap (request_messages s.settings (machine_of g s) (head_of frame).nodeid) is)
-        (sym (ap (λ r. laid_out (core s.settings (machine_of g s) (head_of frame).nodeid r).0) is)) (ap (λ r. (core s.settings (machine_of g s) (head_of frame).nodeid r).1) is)
+      (sym (ap (λ r. laid_out (core s.settings (machine_of g s) (head_of frame).nodeid r).0) is)) (ap (λ r. (core s.settings (machine_of g s) (head_of frame).nodeid r).1) is)
 
   in_turn_asked : (b : Bool) → is_in_turn (phase_of g.phase) (head_of frame).opcode ≡ b → asked (phase_of g.phase) frame ≡ cond b (request_of frame) (Err EPROTO)
   in_turn_asked b is = ap (λ b. cond b (request_of frame) (Err EPROTO)) is
@@ -63,7 +62,7 @@ module _ {g : Gate} {s : ServerState} (st : IsInStep g s) (good : IsGoodServer s
       → IsServed (core s.settings (machine_of g s) node (Ok r)) (request_messages s.settings (machine_of g s) node (Ok r)) g g1 s s1 f0 f1 a0 a1 reply → IsServed told count g g1 s s1 f0 f1 a0 a1 reply
   served_body node r g1 s1 f0 f1 a0 a1 reply is some at served =
       subst (λ x. IsServed (core s.settings (machine_of g s) (head_of frame).nodeid x) (request_messages s.settings (machine_of g s) (head_of frame).nodeid x) g g1 s s1 f0 f1 a0 a1 reply) (sym (in_turn_asked true is ∙ some))
-        (subst (λ i. IsServed (core s.settings (machine_of g s) i (Ok r)) (request_messages s.settings (machine_of g s) i (Ok r)) g g1 s s1 f0 f1 a0 a1 reply) at served)
+      (subst (λ i. IsServed (core s.settings (machine_of g s) i (Ok r)) (request_messages s.settings (machine_of g s) i (Ok r)) g g1 s s1 f0 f1 a0 a1 reply) at served)
 
 -- INIT
 pub served_init : (g g1 : Gate) (s : ServerState) (b : Body) (node major minor max_readahead flags f a : ℕ) (reply : Reply) → b ≡ body.Init major minor max_readahead flags
@@ -92,12 +91,16 @@ stepped : (frame : List ℕ) (silent : Bool) (g0 g1 : Gate) (s0 s1 : ServerState
     → IsServed (core_of s0.settings (machine_of g0 s0) frame) (messages s0.settings (machine_of g0 s0) frame) g0 g1 s0 s1 f0 f1 a0 a1 reply
     → IsStepped frame g0 g1 s0 s1 f0 f1 a0 a1 (put frame silent reply)
 stepped frame silent g0 g1 s0 s1 f0 f1 a0 a1 reply is served = record {
-    stands = served.stands; fixed = served.fixed; sent = served.sent; frames = served.frames; asked = served.asked;
-    outcome = ⊎_elim
+  stands = served.stands;
+  fixed = served.fixed;
+  sent = served.sent;
+  frames = served.frames;
+  asked = served.asked;
+  outcome = ⊎_elim
       (λ e. inl (ap (put frame silent) e.0 ∙ answered frame silent (core_of s0.settings (machine_of g0 s0) frame).0 is, e.1, e.2))
       (λ k. inr (k.0, record { answered = ap (put frame silent) k.1 ∙ answered frame silent (Refused EIO) is; state = k.2; tree = k.3 }))
-      served.outcome
-  }
+      served.outcome;
+}
 
 module _ (frame : List ℕ) (h : Head) (g0 g1 : Gate) (s0 s1 : ServerState) (f0 f1 a0 a1 : ℕ) (reply : Reply) (before kept after : List ℕ) (head : h ≡ head_of frame) (same : kept ≡ before)
     (served : IsServed (core_of s0.settings (machine_of g0 s0) frame) (messages s0.settings (machine_of g0 s0) frame) g0 g1 s0 s1 f0 f1 a0 a1 reply) where
@@ -108,12 +111,12 @@ module _ (frame : List ℕ) (h : Head) (g0 g1 : Gate) (s0 s1 : ServerState) (f0 
   answers_spoken is behind = record {
     bytes = written (head_of frame).unique reply;
     behind = behind ∙ ap (λ (x : Head). kept ++ written x.unique reply) head ∙ ap (λ bytes. bytes ++ written (head_of frame).unique reply) same;
-    stepped = stepped frame false g0 g1 s0 s1 f0 f1 a0 a1 reply (silence false is) served
+    stepped = stepped frame false g0 g1 s0 s1 f0 f1 a0 a1 reply (silence false is) served;
   }
 
   pub answers_silent : true ≡ is_silent h.opcode → Answers frame g0 g1 s0 s1 f0 f1 a0 a1 before kept
   answers_silent is = record {
     bytes = [];
     behind = same ∙ sym (append-nil before);
-    stepped = stepped frame true g0 g1 s0 s1 f0 f1 a0 a1 reply (silence true is) served
+    stepped = stepped frame true g0 g1 s0 s1 f0 f1 a0 a1 reply (silence true is) served;
   }

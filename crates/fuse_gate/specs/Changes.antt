@@ -1,5 +1,5 @@
 -- Changes of a gate, and the moment between two messages.
-use Rattle.std.specs.Prelude.{◌≡◌, ℕ, ◌+◌, ◌-◌, ◌^◌, ◌<◌, Bool, false, min, Option, Some, None, Result, IsSome}
+use Rattle.std.specs.Prelude.{◌≡◌, ℕ, ◌+◌, ◌-◌, ◌^◌, ◌<◌, false, min, Option, Some, None, IsSome}
 use Rattle.std.specs.FinMap as map
 use Rattle.tree_model.specs.Attributes.{Qid}
 use Rattle.tree_machine.specs.State.{is_at_limit, COUNT_LIMIT, Node as MachineNode}

@@ -33,31 +33,31 @@ enter-requires g c =
     let room = subst (λ k. (nat_le k c.args.self.now.used || nat_le 4294967295 c.args.self.now.next) ≡ false) c.fid_limit.ensures (sym c.if-is_full.ensures) in
     let small : c.fid_limit.result < 2 ^ 32 = omega arith in
     lookup_fresh c.requires (g.met.N.Nine.good c.args.nine.now) c.args.node c.args.name.now n.0 n.1 room c.in_default.ensures (qid_of c.in-Ok.qid) _ (g.N.Nine.state c.walk_one.new.nine) (g.N.Nine.faults c.args.nine.now) (g.N.Nine.faults c.walk_one.new.nine)
-      (subst (λ k. k < 2 ^ 32) c.fid_limit.ensures small) c.count_message.ensures
-      (walked_at (g.N.Nine.state c.args.nine.now) (g.N.Nine.state c.walk_one.new.nine) c.args.node c.args.self.now.next n.0.ino (g.N.Nine.faults c.args.nine.now) (g.N.Nine.faults c.walk_one.new.nine) c.args.name.now c.in_ok-walked.walked (Ok c.in-Ok.qid) c.in-Ok.is c.in_ok-walked.ensures.answer (node_fid c.requires c.args.node n.0 n.1))
+    (subst (λ k. k < 2 ^ 32) c.fid_limit.ensures small) c.count_message.ensures
+    (walked_at (g.N.Nine.state c.args.nine.now) (g.N.Nine.state c.walk_one.new.nine) c.args.node c.args.self.now.next n.0.ino (g.N.Nine.faults c.args.nine.now) (g.N.Nine.faults c.walk_one.new.nine) c.args.name.now c.in_ok-walked.walked (Ok c.in-Ok.qid) c.in-Ok.is c.in_ok-walked.ensures.answer (node_fid c.requires c.args.node n.0 n.1))
 
 pub returns-in-Ok-clause-served : goal.returns-in-Ok-clause-served
 returns-in-Ok-clause-served g c =
     let n = some_there _ (sym c.if-not-contains_key.ensures) in
     let room = subst (λ k. (nat_le k c.args.self.now.used || nat_le 4294967295 c.args.self.now.next) ≡ false) c.fid_limit.ensures (sym c.if-is_full.ensures) in
     ok_map c.enter.result _ _
-      (λ r served. lookup_entered c.requires (g.met.N.Nine.good c.args.nine.now) c.args.node c.args.name.now n.0 n.1 room c.in_default.ensures (qid_of c.in-Ok.qid) c.count_message.new.self (g.N.Nine.state c.walk_one.new.nine) (g.N.Nine.faults c.args.nine.now) (g.N.Nine.faults c.walk_one.new.nine) _ (g.N.Nine.asked c.args.nine.now) (g.N.Nine.asked c.walk_one.new.nine) _ _ _ _ c.in_ok-walked.ensures.rises c.count_message.ensures
-        (walked_at (g.N.Nine.state c.args.nine.now) (g.N.Nine.state c.walk_one.new.nine) c.args.node c.args.self.now.next n.0.ino (g.N.Nine.faults c.args.nine.now) (g.N.Nine.faults c.walk_one.new.nine) c.args.name.now c.in_ok-walked.walked (Ok c.in-Ok.qid) c.in-Ok.is c.in_ok-walked.ensures.answer (node_fid c.requires c.args.node n.0 n.1))
-        c.in_ok-walked.ensures.asked served)
-      c.enter.ensures.served
+    (λ r served. lookup_entered c.requires (g.met.N.Nine.good c.args.nine.now) c.args.node c.args.name.now n.0 n.1 room c.in_default.ensures (qid_of c.in-Ok.qid) c.count_message.new.self (g.N.Nine.state c.walk_one.new.nine) (g.N.Nine.faults c.args.nine.now) (g.N.Nine.faults c.walk_one.new.nine) _ (g.N.Nine.asked c.args.nine.now) (g.N.Nine.asked c.walk_one.new.nine) _ _ _ _ c.in_ok-walked.ensures.rises c.count_message.ensures
+    (walked_at (g.N.Nine.state c.args.nine.now) (g.N.Nine.state c.walk_one.new.nine) c.args.node c.args.self.now.next n.0.ino (g.N.Nine.faults c.args.nine.now) (g.N.Nine.faults c.walk_one.new.nine) c.args.name.now c.in_ok-walked.walked (Ok c.in-Ok.qid) c.in-Ok.is c.in_ok-walked.ensures.answer (node_fid c.requires c.args.node n.0 n.1))
+    c.in_ok-walked.ensures.asked served)
+    c.enter.ensures.served
 
 pub returns-in-Err-clause-served : goal.returns-in-Err-clause-served
 returns-in-Err-clause-served g c =
     let n = some_there _ (sym c.if-not-contains_key.ensures) in
     let room = subst (λ k. (nat_le k c.args.self.now.used || nat_le 4294967295 c.args.self.now.next) ≡ false) c.fid_limit.ensures (sym c.if-is_full.ensures) in
     lookup_refused c.requires (g.met.N.Nine.good c.args.nine.now) c.args.node c.args.name.now n.0 n.1 room c.in_default.ensures c.in-Err.errno _ (g.N.Nine.state c.walk_one.new.nine) (g.N.Nine.faults c.args.nine.now) (g.N.Nine.faults c.walk_one.new.nine) _ _ c.count_message.ensures
-      (walked_at (g.N.Nine.state c.args.nine.now) (g.N.Nine.state c.walk_one.new.nine) c.args.node c.args.self.now.next n.0.ino (g.N.Nine.faults c.args.nine.now) (g.N.Nine.faults c.walk_one.new.nine) c.args.name.now c.in_ok-walked.walked (Err c.in-Err.errno) c.in-Err.is c.in_ok-walked.ensures.answer (node_fid c.requires c.args.node n.0 n.1)) c.in_ok-walked.ensures.asked
+    (walked_at (g.N.Nine.state c.args.nine.now) (g.N.Nine.state c.walk_one.new.nine) c.args.node c.args.self.now.next n.0.ino (g.N.Nine.faults c.args.nine.now) (g.N.Nine.faults c.walk_one.new.nine) c.args.name.now c.in_ok-walked.walked (Err c.in-Err.errno) c.in-Err.is c.in_ok-walked.ensures.answer (node_fid c.requires c.args.node n.0 n.1)) c.in_ok-walked.ensures.asked
 
 pub returns-in-Ok-clause-unfinished : goal.returns-in-Ok-clause-unfinished
 returns-in-Ok-clause-unfinished g c =
     let n = some_there _ (sym c.if-not-contains_key.ensures) in
     let room = subst (λ k. (nat_le k c.args.self.now.used || nat_le 4294967295 c.args.self.now.next) ≡ false) c.fid_limit.ensures (sym c.if-is_full.ensures) in
     err_map c.enter.result _ _
-      (λ e. e ∙ lookup_tree c.requires (g.met.N.Nine.good c.args.nine.now) c.args.node c.args.name.now n.0 n.1 room c.in_default.ensures (qid_of c.in-Ok.qid) (g.N.Nine.state c.walk_one.new.nine) (g.N.Nine.faults c.args.nine.now) (g.N.Nine.faults c.walk_one.new.nine)
-        (walked_at (g.N.Nine.state c.args.nine.now) (g.N.Nine.state c.walk_one.new.nine) c.args.node c.args.self.now.next n.0.ino (g.N.Nine.faults c.args.nine.now) (g.N.Nine.faults c.walk_one.new.nine) c.args.name.now c.in_ok-walked.walked (Ok c.in-Ok.qid) c.in-Ok.is c.in_ok-walked.ensures.answer (node_fid c.requires c.args.node n.0 n.1)))
-      c.enter.ensures.unfinished
+    (λ e. e ∙ lookup_tree c.requires (g.met.N.Nine.good c.args.nine.now) c.args.node c.args.name.now n.0 n.1 room c.in_default.ensures (qid_of c.in-Ok.qid) (g.N.Nine.state c.walk_one.new.nine) (g.N.Nine.faults c.args.nine.now) (g.N.Nine.faults c.walk_one.new.nine)
+    (walked_at (g.N.Nine.state c.args.nine.now) (g.N.Nine.state c.walk_one.new.nine) c.args.node c.args.self.now.next n.0.ino (g.N.Nine.faults c.args.nine.now) (g.N.Nine.faults c.walk_one.new.nine) c.args.name.now c.in_ok-walked.walked (Ok c.in-Ok.qid) c.in-Ok.is c.in_ok-walked.ensures.answer (node_fid c.requires c.args.node n.0 n.1)))
+    c.enter.ensures.unfinished
