@@ -117,10 +117,10 @@ module _ (s : ServerState) (g : IsGoodServer s) (fid newfid : ℕ) (name : List 
   walk_left : (m : Message) (s1 : ServerState) (f0 f1 : ℕ) → m ≡ t_walk fid newfid (name ∷ []) → IsUnfinished s m s1 f0 f1 → s1.tree ≡ s.tree
   walk_left m s1 f0 f1 is u =
       ⊎_elim (λ e. ap (λ (x : ServerState). x.tree) e)
-        (λ o. ⊎_elim
-          (λ e. ap (λ (x : ServerState). x.tree) (snd (pair o.0 s1) (pair (walk_reply (walk_one_told s f.ino newfid name).0) (walk_one_told s f.ino newfid name).1) (e ∙ ap (answer s) is ∙ walk_answer)) ∙ same_tree (find s.settings.casefold s.tree f.ino name))
-          (λ h. ap (λ (x : ServerState). x.tree) h.2)
-          o.1) u
+      (λ o. ⊎_elim
+      (λ e. ap (λ (x : ServerState). x.tree) (snd (pair o.0 s1) (pair (walk_reply (walk_one_told s f.ino newfid name).0) (walk_one_told s f.ino newfid name).1) (e ∙ ap (answer s) is ∙ walk_answer)) ∙ same_tree (find s.settings.casefold s.tree f.ino name))
+      (λ h. ap (λ (x : ServerState). x.tree) h.2)
+      o.1) u
 
 -- ---- attributes
 
@@ -144,8 +144,8 @@ module _ (s : ServerState) (g : IsGoodServer s) (fid : ℕ) (f : Fid) (known : m
   shown_asked : (mask : ℕ) (r : Reply) (s1 : ServerState) (f0 f1 : ℕ) → Outcome s (t_getattr fid mask) r s1 f0 f1 → ShownAsked (shown_told_at s (stat_of s.tree f.ino)) s s1 f0 f1 r
   shown_asked mask r s1 f0 f1 o =
       ⊎_elim
-        (λ e. shown_served s s1 s f0 f1 (stat_of s.tree f.ino) r (e ∙ getattr_answer mask))
-        (λ h. subst (ShownAsked (shown_told_at s (stat_of s.tree f.ino)) s s1 f0 f1) (sym h.1) (inr (h.0, refl, h.2))) o
+      (λ e. shown_served s s1 s f0 f1 (stat_of s.tree f.ino) r (e ∙ getattr_answer mask))
+      (λ h. subst (ShownAsked (shown_told_at s (stat_of s.tree f.ino)) s s1 f0 f1) (sym h.1) (inr (h.0, refl, h.2))) o
 
   pub shown_read : (mask : ℕ) (x : Rmessage) (r : Reply) (s1 : ServerState) (f0 f1 : ℕ) → reply_of x ≡ r → Outcome s (t_getattr fid mask) (reply_of x) s1 f0 f1 → ShownAsked (shown_told_at s (stat_of s.tree f.ino)) s s1 f0 f1 r
   shown_read mask x r s1 f0 f1 rd o = shown_asked mask r s1 f0 f1 (subst (λ r. Outcome s (t_getattr fid mask) r s1 f0 f1) rd o)
@@ -153,10 +153,10 @@ module _ (s : ServerState) (g : IsGoodServer s) (fid : ℕ) (f : Fid) (known : m
   getattr_left : (mask : ℕ) (s1 : ServerState) (f0 f1 : ℕ) → IsUnfinished s (t_getattr fid mask) s1 f0 f1 → s1.tree ≡ s.tree
   getattr_left mask s1 f0 f1 u =
       ⊎_elim (λ e. ap (λ (x : ServerState). x.tree) e)
-        (λ o. ⊎_elim
-          (λ e. ap (λ (x : ServerState). x.tree) (snd (pair o.0 s1) (pair (got s.settings (stat_of s.tree f.ino)) s) (e ∙ getattr_answer mask)))
-          (λ h. ap (λ (x : ServerState). x.tree) h.2)
-          o.1) u
+      (λ o. ⊎_elim
+      (λ e. ap (λ (x : ServerState). x.tree) (snd (pair o.0 s1) (pair (got s.settings (stat_of s.tree f.ino)) s) (e ∙ getattr_answer mask)))
+      (λ h. ap (λ (x : ServerState). x.tree) h.2)
+      o.1) u
 
   -- ---- a clunk
 

@@ -71,7 +71,7 @@ module _ (s : ServerState) (g : IsGoodServer s) (fid : ℕ) (none : s.fids ≡ m
   attach_asked : (afid : ℕ) (uname aname : List ℕ) (n : ℕ) (r : Reply) (s1 : ServerState) (f0 f1 : ℕ) → Outcome s (t_attach fid afid uname aname n) r s1 f0 f1 → AttachAsked (attach_told s fid) s s1 f0 f1 r
   attach_asked afid uname aname n r s1 f0 f1 o =
       ⊎_elim (λ e. served (attach_told s fid) s s1 f0 f1 r (e ∙ attach_answer afid uname aname n))
-             (λ h. subst (AttachAsked (attach_told s fid) s s1 f0 f1) (sym h.1) (inr (h.0, refl, h.2))) o
+      (λ h. subst (AttachAsked (attach_told s fid) s s1 f0 f1) (sym h.1) (inr (h.0, refl, h.2))) o
 
   pub attach_read : (afid : ℕ) (uname aname : List ℕ) (n : ℕ) (m : Message) (x : Rmessage) (r : Reply) (s1 : ServerState) (f0 f1 : ℕ) → m ≡ t_attach fid afid uname aname n → reply_of x ≡ r → Outcome s m (reply_of x) s1 f0 f1 → AttachAsked (attach_told s fid) s s1 f0 f1 r
   attach_read afid uname aname n m x r s1 f0 f1 is rd o = attach_asked afid uname aname n r s1 f0 f1 (subst (λ r. Outcome s (t_attach fid afid uname aname n) r s1 f0 f1) rd (subst (λ m. Outcome s m (reply_of x) s1 f0 f1) is o))
@@ -87,7 +87,7 @@ module _ (s : ServerState) (g : IsGoodServer s) (fid : ℕ) (none : s.fids ≡ m
   pub attach_unfinished : (afid : ℕ) (uname aname : List ℕ) (n : ℕ) (m : Message) (s1 : ServerState) (f0 f1 : ℕ) → m ≡ t_attach fid afid uname aname n → IsUnfinished s m s1 f0 f1 → s1.tree ≡ s.tree
   attach_unfinished afid uname aname n m s1 f0 f1 is u =
       ⊎_elim (λ e. ap (λ (x : ServerState). x.tree) e)
-        (λ o. ⊎_elim
-          (λ e. ap (λ (x : ServerState). x.tree) (snd (pair o.0 s1) (pair (attach_reply (attach_told s fid).0) (attach_told s fid).1) (e ∙ ap (answer s) is ∙ attach_answer afid uname aname n)) ∙ told_tree (nat_le s.settings.limit 0))
-          (λ h. ap (λ (x : ServerState). x.tree) h.2)
-          o.1) u
+      (λ o. ⊎_elim
+      (λ e. ap (λ (x : ServerState). x.tree) (snd (pair o.0 s1) (pair (attach_reply (attach_told s fid).0) (attach_told s fid).1) (e ∙ ap (answer s) is ∙ attach_answer afid uname aname n)) ∙ told_tree (nat_le s.settings.limit 0))
+      (λ h. ap (λ (x : ServerState). x.tree) h.2)
+      o.1) u

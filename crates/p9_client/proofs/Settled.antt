@@ -18,5 +18,5 @@ more a b w e h = grind (arith, nat_tests)
 pub settled_new : (s : ServerState) (n : ℕ) (f : Fid) → IsGoodServer s → get s.fids n ≡ None → settled (record s { fids = insert s.fids n f }) ≡ record s { fids = insert s.fids n f }
 settled_new s n f g none =
     settled_kept (record s { fids = insert s.fids n f })
-      (λ q had. either (is_linked s.tree.records q) (is_held s.fids q) (is_held (insert s.fids n f) q)
-        (more (fid_count s.fids q) (fid_count (insert s.fids n f) q) (fid_weight q f) (fid_count-new s.fids n f none q)) (g.kept q had))
+    (λ q had. either (is_linked s.tree.records q) (is_held s.fids q) (is_held (insert s.fids n f) q)
+    (more (fid_count s.fids q) (fid_count (insert s.fids n f) q) (fid_weight q f) (fid_count-new s.fids n f none q)) (g.kept q had))

@@ -42,7 +42,11 @@ fn walk_message(alloc: Global, fid: u32, newfid: u32, name: &[u8]) -> Result<Tme
 {
     let text = text_of(alloc, name)?;
     match vec![in alloc; text] {
-        Ok(wnames) => Ok(Tmessage::Walk(Twalk { fid, newfid, wnames })),
+        Ok(wnames) => Ok(Tmessage::Walk(Twalk {
+            fid,
+            newfid,
+            wnames,
+        })),
         Err(_) => Err(NoMemory),
     }
 }

@@ -57,10 +57,11 @@ module _ (s : Settings) (t : Tree) (root : ℕ) where
           positive = subst (λ k. 1 ≤ k) (sym one.0) (omega arith);
           drawn = subst (λ k. k < 2) (sym one.0) (omega arith);
           counted = subst (λ (n : Node). 1 ≤ n.count) one.1 (omega arith);
-          stored = subst (λ (n : Node). IsSome (get t.records n.ino)) one.1 had };
+          stored = subst (λ (n : Node). IsSome (get t.records n.ino)) one.1 had;
+        };
         handles = λ q h at. absurd (let none : None ≡ Some h = sym (no_handle q) ∙ at in cc);
         apart = λ q n at. no_handle q;
         once = λ a b p q at_a at_b same. (one_node a p at_a).0 ∙ sym (one_node b q at_b).0;
         next = omega arith;
-        within = subst (λ k. k ≤ s.limit) (sym one_long) room
+        within = subst (λ k. k ≤ s.limit) (sym one_long) room;
       }

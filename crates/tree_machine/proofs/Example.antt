@@ -49,14 +49,13 @@ tree = with_file (record { sec = 1600000000; nsec = 0 })
 abbrev settings : Settings
 settings = record { root = []; uid_map = empty; gid_map = empty; casefold = false; limit = 1024 }
 
-
 abbrev init_frame : List ℕ
 init_frame = (104 ∷ 0 ∷ 0 ∷ 0 ∷ 26 ∷ 0 ∷ 0 ∷ 0 ∷ 1 ∷ []) ++ (replicate 31 0 ++ ((7 ∷ 0 ∷ 0 ∷ 0 ∷ 31 ∷ 0 ∷ 0 ∷ 0 ∷ 0 ∷ 0 ∷ 2 ∷ 0 ∷ []) ++ replicate 52 0))
 
 abbrev init_reply : List ℕ
 init_reply =
     (80 ∷ 0 ∷ 0 ∷ 0 ∷ 0 ∷ 0 ∷ 0 ∷ 0 ∷ 1 ∷ 0 ∷ 0 ∷ 0 ∷ 0 ∷ 0 ∷ 0 ∷ 0 ∷ 7 ∷ 0 ∷ 0 ∷ 0 ∷ 31 ∷ 0 ∷ 0 ∷ 0 ∷ 0 ∷ 0 ∷ 2 ∷ 0 ∷ 0 ∷ 0 ∷ 0 ∷ 0 ∷
-     12 ∷ 0 ∷ 9 ∷ 0 ∷ 0 ∷ 0 ∷ 1 ∷ 0 ∷ 1 ∷ 0 ∷ 0 ∷ 0 ∷ []) ++ replicate 36 0
+    12 ∷ 0 ∷ 9 ∷ 0 ∷ 0 ∷ 0 ∷ 1 ∷ 0 ∷ 1 ∷ 0 ∷ 0 ∷ 0 ∷ []) ++ replicate 36 0
 
 -- INIT of minor 31 is granted
 pub init_answered : (step settings (begun tree 1) init_frame).0 ≡ init_reply
@@ -106,7 +105,6 @@ found = ap (λ (o : Option Record). ino_among false (codes "hello") (option_and_
 
 unfoldable shown : Attr
 shown = record { ino = 2; kind = kind.File; mode = 33188; uid = 1000; gid = 1000; links = 1; size = 6; atime = record { sec = 1600000000; nsec = 0 }; mtime = record { sec = 1600000000; nsec = 0 }; ctime = record { sec = 1600000000; nsec = 0 } }
-
 
 shown_is : shown_told settings (attr_or_missing 2 (get tree.records 2)) ≡ Ok shown
 unfolding shown

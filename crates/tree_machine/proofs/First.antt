@@ -15,17 +15,19 @@ module _ {X : Type 0} (p : ℕ × X → Bool) where
       (λ (b : Bool) (is : p f ≡ b). (elim b as (λ b. p f ≡ b → (map.find nat_cmp e.0 (f ∷ es) ≡ Some e.1) × (p e ≡ true)) [
         | true ↦ λ is.
             let one : Some f ≡ Some e = rw is at at in
-            let same : f ≡ e = cc in
-            (subst (λ k. cond (eq_by_cmp nat_cmp k f.0) (Some f.1) (map.find nat_cmp k es) ≡ Some e.1) (ap (λ (g : ℕ × X). g.0) same) (ap (λ b. cond b (Some f.1) (map.find nat_cmp f.0 es)) (at_itself f.0) ∙ ap (λ (g : ℕ × X). Some g.1) same),
-             subst (λ g. p g ≡ true) same is)
+            let same : f ≡ e = cc in (
+              subst (λ k. cond (eq_by_cmp nat_cmp k f.0) (Some f.1) (map.find nat_cmp k es) ≡ Some e.1) (ap (λ (g : ℕ × X). g.0) same) (ap (λ b. cond b (Some f.1) (map.find nat_cmp f.0 es)) (at_itself f.0) ∙ ap (λ (g : ℕ × X). Some g.1) same),
+              subst (λ g. p g ≡ true) same is,
+            )
         | false ↦ λ is.
             let rest : find p es ≡ Some e = rw is at at in
-            let there = in_list es e (second _ _ h) rest in
-            (⊎_elim
-               (λ eq. absurd (let none : map.find nat_cmp e.0 es ≡ None = subst (λ k. map.find nat_cmp k es ≡ None) (sym eq) (find_below f.0 es (first _ _ h)) in let some = there.0 in cc))
-               (λ ne. ap (λ b. cond b (Some f.1) (map.find nat_cmp e.0 es)) (apart e.0 f.0 ne) ∙ there.0)
-               (cases_eq e.0 f.0),
-             there.1)
+            let there = in_list es e (second _ _ h) rest in (
+              ⊎_elim
+                  (λ eq. absurd (let none : map.find nat_cmp e.0 es ≡ None = subst (λ k. map.find nat_cmp k es ≡ None) (sym eq) (find_below f.0 es (first _ _ h)) in let some = there.0 in cc))
+                  (λ ne. ap (λ b. cond b (Some f.1) (map.find nat_cmp e.0 es)) (apart e.0 f.0 ne) ∙ there.0)
+                  (cases_eq e.0 f.0),
+              there.1,
+            )
       ]) is) (p f) refl
 
   pub first_entry : (m : FinMap nat_cmp X) (e : ℕ × X) → find p (entries m) ≡ Some e → (map.get m e.0 ≡ Some e.1) × (p e ≡ true)
@@ -39,13 +41,13 @@ module _ {X : Type 0} (p : ℕ × X → Bool) where
         | false ↦ λ is.
             let rest : find p es ≡ None = rw is at none in
             ⊎_elim
-              (λ eq.
-                let here : Some f.1 ≡ Some x = sym (ap (λ b. cond b (Some f.1) (map.find nat_cmp k es)) (ap (λ j. eq_by_cmp nat_cmp k j) (sym eq) ∙ at_itself k)) ∙ at in
-                let value : f.1 ≡ x = cc in
-                let pair : f ≡ (k, x) = λ t. (sym eq t, value t) in
-                ap p (sym pair) ∙ is)
-              (λ ne. none_in_list es k x rest (sym (ap (λ b. cond b (Some f.1) (map.find nat_cmp k es)) (apart k f.0 ne)) ∙ at))
-              (cases_eq k f.0)
+            (λ eq.
+            let here : Some f.1 ≡ Some x = sym (ap (λ b. cond b (Some f.1) (map.find nat_cmp k es)) (ap (λ j. eq_by_cmp nat_cmp k j) (sym eq) ∙ at_itself k)) ∙ at in
+            let value : f.1 ≡ x = cc in
+            let pair : f ≡ (k, x) = λ t. (sym eq t, value t) in
+            ap p (sym pair) ∙ is)
+            (λ ne. none_in_list es k x rest (sym (ap (λ b. cond b (Some f.1) (map.find nat_cmp k es)) (apart k f.0 ne)) ∙ at))
+            (cases_eq k f.0)
       ]) is) (p f) refl
 
   pub none_passes : (m : FinMap nat_cmp X) (k : ℕ) (x : X) → find p (entries m) ≡ None → map.get m k ≡ Some x → p (k, x) ≡ false

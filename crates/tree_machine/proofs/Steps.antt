@@ -71,12 +71,21 @@ module _ (s : Settings) where
         tree = keep_good m.tree g.tree held;
         root = g.root;
         nodes = λ id n at. let old = g.nodes id n at in record {
-          positive = old.positive; drawn = old.drawn; counted = old.counted;
-          stored = subst IsSome (sym (kept_at m.tree held n.ino (node_is_named m.nodes m.handles id n at))) old.stored };
+          positive = old.positive;
+          drawn = old.drawn;
+          counted = old.counted;
+          stored = subst IsSome (sym (kept_at m.tree held n.ino (node_is_named m.nodes m.handles id n at))) old.stored;
+        };
         handles = λ id h at. let old = g.handles id h at in record {
-          positive = old.positive; drawn = old.drawn; access = old.access;
-          openable = subst (λ b. IsOpenable b h) (sym (kept_body m.tree held h.ino (handle_is_named m.nodes m.handles id h at))) old.openable };
-        apart = g.apart; once = g.once; next = g.next; within = g.within
+          positive = old.positive;
+          drawn = old.drawn;
+          access = old.access;
+          openable = subst (λ b. IsOpenable b h) (sym (kept_body m.tree held h.ino (handle_is_named m.nodes m.handles id h at))) old.openable;
+        };
+        apart = g.apart;
+        once = g.once;
+        next = g.next;
+        within = g.within;
       }
 
   abbrev pub Gives : Reply × MachineState → Type 0
@@ -89,10 +98,14 @@ module _ (s : Settings) where
   module _ (m : MachineState) (g : IsGoodMachine s m) where
     pub begins : IsGoodMachine s (record m { phase = Started })
     begins = record {
-      tree = g.tree; root = g.root;
+      tree = g.tree;
+      root = g.root;
       nodes = λ id n at. let old = g.nodes id n at in record { positive = old.positive; drawn = old.drawn; counted = old.counted; stored = old.stored };
       handles = λ id h at. let old = g.handles id h at in record { positive = old.positive; drawn = old.drawn; access = old.access; openable = old.openable };
-      apart = g.apart; once = g.once; next = g.next; within = g.within
+      apart = g.apart;
+      once = g.once;
+      next = g.next;
+      within = g.within;
     }
 
     -- the nodes with one more, or with another count of one
@@ -114,23 +127,32 @@ module _ (s : Settings) where
           → m.next ≤ next → next ≤ NUMBER_LIMIT → len (insert m.nodes id v) + len m.handles ≤ s.limit
           → IsGoodMachine s (record m { nodes = insert m.nodes id v; next = next })
       put low lt count stored free differ le end room = record {
-        tree = g.tree; root = still_root;
+        tree = g.tree;
+        root = still_root;
         nodes = λ q n at. ⊎_elim
-          (λ is. record {
-            positive = subst (λ k. 1 ≤ k) (sym is.0) low; drawn = subst (λ k. k < next) (sym is.0) lt;
-            counted = subst (λ (n : Node). 1 ≤ n.count) is.1 count; stored = subst (λ (n : Node). IsSome (get m.tree.records n.ino)) is.1 stored })
-          (λ old. let good = g.nodes q n old.1 in record {
-            positive = good.positive; drawn = (let d = good.drawn in omega arith); counted = good.counted; stored = good.stored })
-          (put_at q n at);
+            (λ is. record {
+              positive = subst (λ k. 1 ≤ k) (sym is.0) low;
+              drawn = subst (λ k. k < next) (sym is.0) lt;
+              counted = subst (λ (n : Node). 1 ≤ n.count) is.1 count;
+              stored = subst (λ (n : Node). IsSome (get m.tree.records n.ino)) is.1 stored;
+            })
+            (λ old. let good = g.nodes q n old.1 in record {
+              positive = good.positive;
+              drawn = (let d = good.drawn in omega arith);
+              counted = good.counted;
+              stored = good.stored;
+            })
+            (put_at q n at);
         handles = λ q h at. let good = g.handles q h at in record { positive = good.positive; drawn = (let d = good.drawn in omega arith); access = good.access; openable = good.openable };
         apart = λ q n at. ⊎_elim (λ is. subst (λ k. get m.handles k ≡ None) (sym is.0) free) (λ old. g.apart q n old.1) (put_at q n at);
         once = λ a b p q at_a at_b same. ⊎_elim
-          (λ is_a. ⊎_elim (λ is_b. is_a.0 ∙ sym is_b.0)
-                          (λ old_b. absurd (differ b q old_b.0 old_b.1 (sym same ∙ ap (λ (n : Node). n.ino) (sym is_a.1)))) (put_at b q at_b))
-          (λ old_a. ⊎_elim (λ is_b. absurd (differ a p old_a.0 old_a.1 (same ∙ ap (λ (n : Node). n.ino) (sym is_b.1))))
-                           (λ old_b. g.once a b p q old_a.1 old_b.1 same) (put_at b q at_b))
-          (put_at a p at_a);
-        next = end; within = room
+            (λ is_a. ⊎_elim (λ is_b. is_a.0 ∙ sym is_b.0)
+            (λ old_b. absurd (differ b q old_b.0 old_b.1 (sym same ∙ ap (λ (n : Node). n.ino) (sym is_a.1)))) (put_at b q at_b))
+            (λ old_a. ⊎_elim (λ is_b. absurd (differ a p old_a.0 old_a.1 (same ∙ ap (λ (n : Node). n.ino) (sym is_b.1))))
+            (λ old_b. g.once a b p q old_a.1 old_b.1 same) (put_at b q at_b))
+            (put_at a p at_a);
+        next = end;
+        within = room;
       }
 
     len_known : (id : ℕ) (n v : Node) → get m.nodes id ≡ Some n → len (insert m.nodes id v) ≡ len m.nodes
@@ -144,8 +166,8 @@ module _ (s : Settings) where
     recounted id n v at same count =
         let old = g.nodes id n at in
         put id v m.next old.positive old.drawn count (subst (λ i. IsSome (get m.tree.records i)) (sym same) old.stored) (g.apart id n at)
-          (λ q x ne there equal. ne (g.once q id x n there at (equal ∙ same)))
-          (omega arith) g.next (subst (λ k. k + len m.handles ≤ s.limit) (sym (len_known id n v at)) g.within)
+        (λ q x ne there equal. ne (g.once q id x n there at (equal ∙ same)))
+        (omega arith) g.next (subst (λ k. k + len m.handles ≤ s.limit) (sym (len_known id n v at)) g.within)
 
     fresh : (o : Option Node) → get m.nodes m.next ≡ o → get m.nodes m.next ≡ None
     fresh None at = at
@@ -163,18 +185,19 @@ module _ (s : Settings) where
 
     -- the next number becomes the node of an inode that has none
     drawn_new : (ino : ℕ) → IsSome (get m.tree.records ino) → node_of m ino ≡ None → is_at_limit s m ≡ false
-              → IsGoodMachine s (record m { nodes = insert m.nodes m.next (record { ino = ino; count = 1 }); next = m.next + 1 })
+        → IsGoodMachine s (record m { nodes = insert m.nodes m.next (record { ino = ino; count = 1 }); next = m.next + 1 })
     drawn_new ino had none open_limit =
         let v : Node = record { ino = ino; count = 1 } in
         let low = root_below in
         let room : (len m.nodes + len m.handles < s.limit) × (m.next < NUMBER_LIMIT) = below_limit in
         let longer = len_new m.next v (fresh (get m.nodes m.next) refl) in
         put m.next v (m.next + 1) (omega arith) (omega arith) (omega arith) had (fresh_handle (get m.handles m.next) refl)
-          (λ q n ne there same. false≢true (sym (none_passes (λ (e : ℕ × Node). e.1.ino == ino) m.nodes q n none there) ∙ eq_test n.ino ino same))
-          (omega arith) (omega (arith, room.1)) (omega (arith, room.0, longer))
+        (λ q n ne there same. false≢true (sym (none_passes (λ (e : ℕ × Node). e.1.ino == ino) m.nodes q n none there) ∙ eq_test n.ino ino same))
+        (omega arith) (omega (arith, room.1)) (omega (arith, room.0, longer))
       where
         below_limit : (len m.nodes + len m.handles < s.limit) × (m.next < NUMBER_LIMIT)
         below_limit = grind (arith, nat_tests)
+
         eq_test : (a b : ℕ) → a ≡ b → (a == b) ≡ true
         eq_test a b h = grind (arith, nat_tests)
 
@@ -188,7 +211,7 @@ module _ (s : Settings) where
     looked_up_good dir name (Err e) open_limit at = settles m g
     looked_up_good dir name (Ok ino) open_limit at =
         settles (node_given m ino (node_of m ino)).1
-          (given_good ino (named_is_stored m.tree g.tree ino (found_is_named s.casefold m.tree dir name ino at)) open_limit (node_of m ino) refl)
+        (given_good ino (named_is_stored m.tree g.tree ino (found_is_named s.casefold m.tree dir name ino at)) open_limit (node_of m ino) refl)
 
     limited_good : (b : Bool) → is_at_limit s m ≡ b → (n : Node) (name : List ℕ) → Gives (cond b (Refused ENFILE, m) (looked_up s m (find s.casefold m.tree n.ino name)))
     limited_good true is n name = settles m g

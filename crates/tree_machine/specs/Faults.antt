@@ -22,4 +22,4 @@ abbrev pub Hurt : Settings → MachineState → List (List ℕ) → ℕ → List
 Hurt s m [] n replies last = (n ≡ 0) × (replies ≡ []) × (last ≡ m)
 Hurt s m (f ∷ fs) n replies last =
     ((rest : List ℕ) × (replies ≡ (step s m f).0 ++ rest) × Hurt s (step s m f).1 fs n rest last)
-  ⊎ ((bytes : List ℕ) × (rest : List ℕ) × (after : MachineState) × (k : ℕ) × IsHurtStep s m f bytes after × (replies ≡ bytes ++ rest) × (n ≡ suc k) × Hurt s after fs k rest last)
+    ⊎ ((bytes : List ℕ) × (rest : List ℕ) × (after : MachineState) × (k : ℕ) × IsHurtStep s m f bytes after × (replies ≡ bytes ++ rest) × (n ≡ suc k) × Hurt s after fs k rest last)

@@ -64,6 +64,9 @@ is_at_limit s m = nat_le s.limit (map.len m.nodes + map.len m.handles) || nat_le
 -- the state in which a session begins, with the root of the share as node 1
 abbrev pub begun : Tree → ℕ → MachineState
 begun t root = record {
-  phase = New; tree = t; nodes = map.insert map.empty ROOT_NODE (record { ino = root; count = 1 });
-  handles = map.empty; next = 2
+  phase = New;
+  tree = t;
+  nodes = map.insert map.empty ROOT_NODE (record { ino = root; count = 1 });
+  handles = map.empty;
+  next = 2;
 }

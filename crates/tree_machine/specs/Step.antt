@@ -35,10 +35,22 @@ BLOCK_SIZE = 4096
 -- attributes as fuse.h lays them out; those of the argument are as they are shown
 abbrev pub fuse_attributes : Attr → FileAttr
 fuse_attributes a = record {
-  ino = a.ino; size = a.size; blocks = blocks_of a.size;
-  atime = a.atime.sec; mtime = a.mtime.sec; ctime = a.ctime.sec;
-  atimensec = a.atime.nsec; mtimensec = a.mtime.nsec; ctimensec = a.ctime.nsec;
-  mode = a.mode; nlink = a.links; uid = a.uid; gid = a.gid; rdev = 0; blksize = BLOCK_SIZE; flags = 0
+  ino = a.ino;
+  size = a.size;
+  blocks = blocks_of a.size;
+  atime = a.atime.sec;
+  mtime = a.mtime.sec;
+  ctime = a.ctime.sec;
+  atimensec = a.atime.nsec;
+  mtimensec = a.mtime.nsec;
+  ctimensec = a.ctime.nsec;
+  mode = a.mode;
+  nlink = a.links;
+  uid = a.uid;
+  gid = a.gid;
+  rdev = 0;
+  blksize = BLOCK_SIZE;
+  flags = 0;
 }
 
 abbrev pub reply_bytes : ℕ → Reply → List ℕ

@@ -11,14 +11,14 @@ exchange-requires g c = subst (IsAskable (g.N.Nine.state c.args.nine.now)) (sym 
 pub returns-in-Some-clause-answer : goal.returns-in-Some-clause-answer
 returns-in-Some-clause-answer g c f known =
     walk_qid (g.N.Nine.state c.args.nine.now) (g.met.N.Nine.good c.args.nine.now) c.args.fid c.args.newfid c.args.name.now f known c.requires.fresh c.requires.below c.requires.named
-      _ c.in_ok-reply.field-0 c.in-Walk.reply c.deref.result.now c.in-Some.qid.now _ _ _ c.in_ok-message.ensures c.in-Walk.is c.deref.ensures.value c.in-Some.ensures.value c.in_ok-reply.ensures.outcome
+    _ c.in_ok-reply.field-0 c.in-Walk.reply c.deref.result.now c.in-Some.qid.now _ _ _ c.in_ok-message.ensures c.in-Walk.is c.deref.ensures.value c.in-Some.ensures.value c.in_ok-reply.ensures.outcome
 
 pub returns-in-Lerror-clause-answer : goal.returns-in-Lerror-clause-answer
 returns-in-Lerror-clause-answer g c f known =
     walk_errno (g.N.Nine.state c.args.nine.now) (g.met.N.Nine.good c.args.nine.now) c.args.fid c.args.newfid c.args.name.now f known c.requires.fresh c.requires.below c.requires.named
-      _ c.in_ok-reply.field-0 c.in-Lerror.reply _ _ _ c.in_ok-message.ensures c.in-Lerror.is c.in_ok-reply.ensures.outcome
+    _ c.in_ok-reply.field-0 c.in-Lerror.reply _ _ _ c.in_ok-message.ensures c.in-Lerror.is c.in_ok-reply.ensures.outcome
 
 pub returns-in_err-reply-clause-unfinished : goal.returns-in_err-reply-clause-unfinished
 returns-in_err-reply-clause-unfinished g c =
     on_err c.from_residual-in_err-reply.result _ (walk_unfinished (g.N.Nine.state c.args.nine.now) (g.met.N.Nine.good c.args.nine.now) c.args.fid c.args.newfid c.args.name.now _ refl c.requires.known c.requires.fresh c.requires.below c.requires.named
-      _ (g.N.Nine.state c.exchange.new.nine) _ _ c.in_ok-message.ensures c.in_err-reply.ensures.err)
+    _ (g.N.Nine.state c.exchange.new.nine) _ _ c.in_ok-message.ensures c.in_err-reply.ensures.err)
