@@ -1,12 +1,12 @@
 //! A 9P2000.L server of a host's tree.
 #![tactic(auto)]
 
-pub mod config;
+mod config;
 mod fid_state;
 mod naming;
-pub mod qids;
+mod qids;
 mod replies;
-pub mod server;
+mod server;
 mod share;
 mod walking;
 
@@ -15,3 +15,6 @@ pub use fid_model::Nine;
 pub use qids::qid_of;
 pub use server::Server;
 pub use share::{ServerGidMap, ServerIdMap, ServerUidMap};
+
+#[cfg(test)]
+mod tests;

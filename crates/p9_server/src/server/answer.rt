@@ -30,7 +30,10 @@ impl<H: Host> Server<H> {
     }
 
     // Answers what the body of a frame says; a malformed one is EINVAL.
-    pub fn answer(&mut self, body: Result<Tmessage, WireError>) -> Result<Rmessage, WireError>
+    pub(super) fn answer(
+        &mut self,
+        body: Result<Tmessage, WireError>,
+    ) -> Result<Rmessage, WireError>
         ensures answered { Answered (result_view message_of body) (server_state (H.tree self.old.host) self.old.fids self.old.msize self.old.share) (server_state (H.tree self.new.host) self.new.fids self.new.msize self.new.share) (H.steady self.old.host) (H.faults self.old.host) (H.faults self.new.host) result }
         ensures steady { H.steady self.new.host ≡ H.steady self.old.host }
         ensures asked { self.new.asked ≡ self.old.asked }

@@ -30,7 +30,7 @@ impl<H: Host> Server<H> {
     }
 
     // Names the root of the share by a new fid.
-    pub fn attach(&mut self, fid: u32) -> Result<Qid, HostError>
+    pub(super) fn attach(&mut self, fid: u32) -> Result<Qid, HostError>
         ensures step { Steps (attach fid 0 [] [] 0) (λ q. attached (qid_of q)) (server_state (H.tree self.old.host) self.old.fids self.old.msize self.old.share) (server_state (H.tree self.new.host) self.new.fids self.new.msize self.new.share) (H.steady self.old.host) (H.faults self.old.host) (H.faults self.new.host) result }
         ensures steady { H.steady self.new.host ≡ H.steady self.old.host }
         ensures fixed { (self.new.msize ≡ self.old.msize) × (self.new.share ≡ self.old.share) }

@@ -53,7 +53,12 @@ impl<H: Host> Server<H> {
     }
 
     // Names what the names lead to by the new fid, or tells the qids so far.
-    pub fn walk(&mut self, fid: u32, newfid: u32, names: &[P9String]) -> Result<Vec<Qid>, HostError>
+    pub(super) fn walk(
+        &mut self,
+        fid: u32,
+        newfid: u32,
+        names: &[P9String],
+    ) -> Result<Vec<Qid>, HostError>
         ensures step { Steps (walk fid newfid names.now) (λ qids. walked (map qid_of qids.items)) (server_state (H.tree self.old.host) self.old.fids self.old.msize self.old.share) (server_state (H.tree self.new.host) self.new.fids self.new.msize self.new.share) (H.steady self.old.host) (H.faults self.old.host) (H.faults self.new.host) result }
         ensures few { IfOk result (λ qids. length qids.items ≤ 16) }
         ensures spells { IfOk result (λ qids. AllByRecursion QidSpells (map qid_of qids.items)) }

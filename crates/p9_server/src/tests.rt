@@ -1,0 +1,163 @@
+//! A server of a small tree, by the bytes that it reads and writes.
+ghost use Rattle.std.specs.Prelude.{◌≡◌, IfOk};
+ghost use Rattle.std.specs.FinMap as map;
+ghost use Rattle.tree_host.specs.TreeHosts.{holds};
+
+use crate::{Config, ConfigError, Nine, Refused, Server};
+use port_base::memory::{MemSink, SliceSource};
+use std::alloc::Global;
+use std::test::Fail;
+use tree_host::TreeHost;
+use tree_model::{Limits, Stamp};
+
+fn small_host(alloc: Global) -> Result<TreeHost, Fail>
+    ensures { IfOk result (λ host. holds host ≡ map.empty) }
+{
+    let limits = Limits {
+        file: 1048576,
+        entries: 65536,
+        links: 65000,
+    };
+    let born = Stamp {
+        sec: 1600000000,
+        nsec: 0,
+    };
+    let moment = Stamp {
+        sec: 1700000000,
+        nsec: 5,
+    };
+    let Ok(host) = TreeHost::new(alloc, limits, moment, born, 0o755, 0, 0) else {
+        return Err(Fail::from("no memory"));
+    };
+    Ok(host)
+}
+
+// The reply to a frame.
+fn reply_to(alloc: Global, server: &mut Server<TreeHost>, frame: &[u8]) -> Result<MemSink, Fail> {
+    let mut reply = MemSink::new(alloc);
+    let mut source = SliceSource::new(frame);
+    server.handle_message(&mut source, &mut reply)?;
+    Ok(reply)
+}
+
+#[test]
+fn a_server_answers_frames(rt: HostRuntime) -> Result<(), Fail> {
+    let alloc = rt.alloc();
+    let host = small_host(alloc)?;
+    let Ok(config) = Config::standard(alloc) else {
+        return Err(Fail::from("no memory"));
+    };
+    let Ok(mut server) = Server::with_config(alloc, host, config) else {
+        return Err(Fail::from("no server"));
+    };
+    assert_eq!(rt; server.msize(), 65560);
+    assert_eq!(rt; server.fid_limit(), 4294967295);
+    let exchanges: [(&[u8], &[u8]); 7] = [
+        // a clunk with a byte too many
+        (
+            b"\x0c\0\0\0\x78\x05\0\x01\0\0\0\xaa",
+            b"\x0b\0\0\0\x07\x05\0\x16\0\0\0",
+        ),
+        // an attach of fid 1, and another
+        (
+            b"\x17\0\0\0\x68\0\0\x01\0\0\0\xff\xff\xff\xff\0\0\0\0\0\0\0\0",
+            b"\x14\0\0\0\x69\0\0\x80\0\x10\x5e\x5f\x01\0\0\0\0\0\0\0",
+        ),
+        (
+            b"\x17\0\0\0\x68\0\0\x01\0\0\0\xff\xff\xff\xff\0\0\0\0\0\0\0\0",
+            b"\x0b\0\0\0\x07\0\0\x09\0\0\0",
+        ),
+        // a walk to `nope`
+        (
+            b"\x17\0\0\0\x6e\x01\0\x01\0\0\0\x02\0\0\0\x01\0\x04\0nope",
+            b"\x0b\0\0\0\x07\x01\0\x02\0\0\0",
+        ),
+        // a walk of no names, to fid 2
+        (
+            b"\x11\0\0\0\x6e\x01\0\x01\0\0\0\x02\0\0\0\0\0",
+            b"\x09\0\0\0\x6f\x01\0\0\0",
+        ),
+        // a walk to two dots
+        (
+            b"\x15\0\0\0\x6e\x01\0\x01\0\0\0\x03\0\0\0\x01\0\x02\0..",
+            b"\x0b\0\0\0\x07\x01\0\x16\0\0\0",
+        ),
+        // a clunk of fid 1
+        (b"\x0b\0\0\0\x78\x02\0\x01\0\0\0", b"\x07\0\0\0\x79\x02\0"),
+    ];
+    for (frame, want) in exchanges {
+        let reply = reply_to(alloc, &mut server, frame)?;
+        assert_eq!(rt; reply.as_bytes(), want);
+    }
+    assert_eq!(rt; server.fid_count(), 1);
+    server.clear_fids();
+    assert_eq!(rt; server.fid_count(), 0);
+    let _host = server.into_host();
+    Ok(())
+}
+
+#[test]
+fn attributes_are_told(rt: HostRuntime) -> Result<(), Fail> {
+    let alloc = rt.alloc();
+    let host = small_host(alloc)?;
+    let Ok(config) = Config::standard(alloc) else {
+        return Err(Fail::from("no memory"));
+    };
+    let Ok(mut server) = Server::with_config(alloc, host, config) else {
+        return Err(Fail::from("no server"));
+    };
+    let _attached = reply_to(
+        alloc,
+        &mut server,
+        b"\x17\0\0\0\x68\0\0\x01\0\0\0\xff\xff\xff\xff\0\0\0\0\0\0\0\0",
+    )?;
+    let reply = reply_to(
+        alloc,
+        &mut server,
+        b"\x13\0\0\0\x18\x03\0\x01\0\0\0\xff\x07\0\0\0\0\0\0",
+    )?;
+    let head: &[u8] =
+        b"\xa0\0\0\0\x19\x03\0\xff\x07\0\0\0\0\0\0\x80\0\x10\x5e\x5f\x01\0\0\0\0\0\0\0\xed\x41\0\0\0\0\0\0\0\0\0\0\x02\0\0\0\0\0\0\0";
+    assert!(rt; reply.as_bytes().starts_with(head));
+    assert_eq!(rt; reply.as_bytes().len(), 160);
+    Ok(())
+}
+
+#[test]
+fn a_configuration_is_refused(rt: HostRuntime) -> Result<(), Fail> {
+    let alloc = rt.alloc();
+    let cases: [(&[u8], u32, Option<ConfigError>); 6] = [
+        (b"/", 256, None),
+        (b"/", 255, Some(ConfigError::MsizeTooSmall)),
+        (b"", 255, Some(ConfigError::MsizeTooSmall)),
+        (b"sub", 256, Some(ConfigError::BadRoot)),
+        (b"/a/../b", 65560, Some(ConfigError::BadRoot)),
+        (b"/a/b", 65560, None),
+    ];
+    for (root, msize, want) in cases {
+        let host = small_host(alloc)?;
+        let Ok(standard) = Config::standard(alloc) else {
+            return Err(Fail::from("no memory"));
+        };
+        let Config {
+            root: _root,
+            msize: _,
+            uid_map,
+            gid_map,
+            fid_limit,
+        } = standard;
+        let config = Config {
+            root: Vec::from_slice(alloc, root)?,
+            msize,
+            uid_map,
+            gid_map,
+            fid_limit,
+        };
+        let cause = match Server::with_config(alloc, host, config) {
+            Ok(_server) => None,
+            Err(Refused { host: _host, cause }) => Some(cause),
+        };
+        assert_eq!(rt; cause, want);
+    }
+    Ok(())
+}
