@@ -51,7 +51,7 @@ impl TreeHost {
     ghost use Rattle.tree_model.specs.Good.{IsGoodLimits, IsGoodStamp};
     ghost use Rattle.tree_model.specs.Making.{new_tree, add_file_of};
     ghost use Rattle.tree_host.specs.Host.{Leaves};
-    ghost use Rattle.tree_host.specs.TreeHosts.{tree, holds, IsGoodItem, new_file, add_of};
+    ghost use Rattle.tree_host.specs.TreeHosts.{tree, holds, birth, faults, is_steady, IsGoodItem, new_file, add_of};
 
     /// A tree of the top directory alone, inode 1, whose times are `born`. What is added is born then too,
     /// and what changes is stamped with `moment`.
@@ -70,9 +70,9 @@ impl TreeHost {
         requires mode { mode < 4096 }
         ensures tree { IfOk result (λ host. tree host ≡ new_tree limits moment born mode uid gid) }
         ensures holds { IfOk result (λ host. holds host ≡ map.empty) }
-        ensures born { IfOk result (λ host. host.born ≡ born) }
-        ensures faults { IfOk result (λ host. host.faults ≡ 0) }
-        ensures steady { IfOk result (λ host. host.steady ≡ true) }
+        ensures born { IfOk result (λ host. birth host ≡ born) }
+        ensures faults { IfOk result (λ host. faults host ≡ 0) }
+        ensures steady { IfOk result (λ host. is_steady host ≡ true) }
     {
         let mut nodes = Table::new(alloc);
         match nodes.insert(TOP, Node::top(alloc, mode, uid, gid, born)) {
@@ -100,12 +100,12 @@ impl TreeHost {
         requires stored { IsSome (map.get (tree self.old).records dir) }
         requires named { name_fault name.now ≡ None }
         requires item { IsGoodItem item }
-        ensures leaves { Leaves (add_of self.old.born (tree self.old) dir name.now item.entry) (tree self.old) (tree self.new) result }
+        ensures leaves { Leaves (add_of (birth self.old) (tree self.old) dir name.now item.entry) (tree self.old) (tree self.new) result }
         ensures holds { holds self.new ≡ holds self.old }
         ensures fault { result ≢ Err HostError.Fault }
-        ensures faults { self.new.faults ≡ self.old.faults }
-        ensures steady { self.new.steady ≡ self.old.steady }
-        ensures born { self.new.born ≡ self.old.born }
+        ensures faults { faults self.new ≡ faults self.old }
+        ensures steady { is_steady self.new ≡ is_steady self.old }
+        ensures born { birth self.new ≡ birth self.old }
     {
         match item {
             NewItem::File {
@@ -128,12 +128,12 @@ impl TreeHost {
     ) -> Result<u64, HostError>
         requires named { name_fault name.now ≡ None }
         requires mode { mode < 4096 }
-        ensures leaves { Leaves (add_file_of self.old.born (tree self.old) dir name.now (new_file mode uid gid bytes.now)) (tree self.old) (tree self.new) result }
+        ensures leaves { Leaves (add_file_of (birth self.old) (tree self.old) dir name.now (new_file mode uid gid bytes.now)) (tree self.old) (tree self.new) result }
         ensures holds { holds self.new ≡ holds self.old }
         ensures fault { result ≢ Err HostError.Fault }
-        ensures faults { self.new.faults ≡ self.old.faults }
-        ensures steady { self.new.steady ≡ self.old.steady }
-        ensures born { self.new.born ≡ self.old.born }
+        ensures faults { faults self.new ≡ faults self.old }
+        ensures steady { is_steady self.new ≡ is_steady self.old }
+        ensures born { birth self.new ≡ birth self.old }
     {
         if let Some(errno) = refusal(&self.nodes, dir, name, self.next, self.limits.entries) {
             return Err(HostError::Errno(errno));
