@@ -5,6 +5,7 @@ pub mod FileLines
 pub mod Gathering
 pub mod HexRows
 pub mod LineLemmas
+pub mod NoLinks
 pub mod Rising
 pub mod Sequences
 pub mod Taking
