@@ -24,7 +24,7 @@ pub root_is_directory : (t : Tree) (names : List (List ℕ)) (at : Result ℕ �
 root_is_directory t [] at root h = ends_at_directory t at root h
 root_is_directory t (name ∷ names) at root h = root_is_directory t names (walk_step t name at) root h
 
-stored_by : (o : Option Record) → is_directory_at (option_map (λ (r : Record). r.body) o) ≡ true → IsSome o
+pub stored_by : (o : Option Record) → is_directory_at (option_map (λ (r : Record). r.body) o) ≡ true → IsSome o
 stored_by None h = h
 stored_by (Some r) h = refl
 

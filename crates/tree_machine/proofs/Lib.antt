@@ -1,5 +1,5 @@
-mod Steps
+pub mod Steps
 pub mod Hurting
-mod Begun
-mod First
+pub mod Begun
+pub mod First
 mod Example

@@ -79,7 +79,7 @@ module _ (s : Settings) where
         apart = g.apart; once = g.once; next = g.next; within = g.within
       }
 
-  abbrev Gives : Reply × MachineState → Type 0
+  abbrev pub Gives : Reply × MachineState → Type 0
   Gives x = IsGoodMachine s (settled x.1)
 
   choice : (b : Bool) (x y : Reply × MachineState) → Gives x → Gives y → Gives (cond b x y)
@@ -87,7 +87,7 @@ module _ (s : Settings) where
   choice false x y g h = h
 
   module _ (m : MachineState) (g : IsGoodMachine s m) where
-    begins : IsGoodMachine s (record m { phase = Started })
+    pub begins : IsGoodMachine s (record m { phase = Started })
     begins = record {
       tree = g.tree; root = g.root;
       nodes = λ id n at. let old = g.nodes id n at in record { positive = old.positive; drawn = old.drawn; counted = old.counted; stored = old.stored };
@@ -178,13 +178,13 @@ module _ (s : Settings) where
         eq_test : (a b : ℕ) → a ≡ b → (a == b) ≡ true
         eq_test a b h = grind (arith, nat_tests)
 
-    given_good : (ino : ℕ) → IsSome (get m.tree.records ino) → is_at_limit s m ≡ false → (o : Option (ℕ × Node)) → node_of m ino ≡ o → IsGoodMachine s (node_given m ino o).1
+    pub given_good : (ino : ℕ) → IsSome (get m.tree.records ino) → is_at_limit s m ≡ false → (o : Option (ℕ × Node)) → node_of m ino ≡ o → IsGoodMachine s (node_given m ino o).1
     given_good ino had open_limit None at = drawn_new ino had at open_limit
     given_good ino had open_limit (Some e) at =
         let there = first_entry (λ (e : ℕ × Node). e.1.ino == ino) m.nodes e at in
         recounted e.0 e.1 (record { ino = ino; count = min (e.1.count + 1) COUNT_LIMIT }) there.0 (sym (eqb-true e.1.ino ino there.1)) (omega arith)
 
-    looked_up_good : (dir : ℕ) (name : List ℕ) (r : Result ℕ ℕ) → is_at_limit s m ≡ false → find s.casefold m.tree dir name ≡ r → Gives (looked_up s m r)
+    pub looked_up_good : (dir : ℕ) (name : List ℕ) (r : Result ℕ ℕ) → is_at_limit s m ≡ false → find s.casefold m.tree dir name ≡ r → Gives (looked_up s m r)
     looked_up_good dir name (Err e) open_limit at = settles m g
     looked_up_good dir name (Ok ino) open_limit at =
         settles (node_given m ino (node_of m ino)).1
@@ -198,11 +198,11 @@ module _ (s : Settings) where
     named_good n name (Some e) = settles m g
     named_good n name None = limited_good (is_at_limit s m) refl n name
 
-    lookup_good : (name : List ℕ) (o : Option Node) → Gives (lookup_core s m name o)
+    pub lookup_good : (name : List ℕ) (o : Option Node) → Gives (lookup_core s m name o)
     lookup_good name None = settles m g
     lookup_good name (Some n) = named_good n name (name_fault name)
 
-    core_good : (node : ℕ) (r : Result Request ℕ) → Gives (core s m node r)
+    pub core_good : (node : ℕ) (r : Result Request ℕ) → Gives (core s m node r)
     core_good node (Err e) = settles m g
     core_good node (Ok (init major minor max_readahead flags)) = choice _ _ _ (settles m g) (settles (record m { phase = Started }) begins)
     core_good node (Ok (lookup name)) = lookup_good name (get m.nodes node)

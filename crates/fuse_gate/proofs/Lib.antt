@@ -1,0 +1,12 @@
+pub mod MappedLemmas
+pub mod Held
+pub mod Standings
+pub mod Changing
+pub mod Known
+pub mod Showing
+pub mod Beginning
+pub mod Attributes
+pub mod Entering
+pub mod LookingUp
+pub mod Stepping
+pub mod Attachings

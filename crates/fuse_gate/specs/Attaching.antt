@@ -1,0 +1,53 @@
+-- What a new gate begins with.
+use Rattle.std.specs.Prelude.{◌≡◌, ◌⊎◌, ℕ, ◌≤◌, Result, Ok, Err, nat_le, if◌then◌else◌}
+use Rattle.std.specs.FinMap as map
+use Rattle.port_base.specs.Faults.{Rose}
+use Rattle.port_base.specs.declared.errno.TheConstants.{EIO, ENFILE}
+use Rattle.tree_model.specs.Tree.{linked}
+use Rattle.tree_model.specs.Finding.{root_of}
+use Rattle.tree_machine.specs.State.{begun, ROOT_NODE}
+use Rattle.fid_model.specs.Fids.{ServerState}
+use Rattle.fuse_gate.specs.Standing.{IsInStep, machine_of}
+use Rattle.fuse_gate.specs.Steps.{Counted}
+use Rattle.fuse_gate.specs.declared.gate.Gate.{Gate}
+use Rattle.fuse_gate.specs.declared.gate.Phase.TheVariants.{New}
+use Rattle.fuse_gate.specs.declared.gate.attach.AttachError.{AttachError}
+use Rattle.fuse_gate.specs.declared.gate.attach.AttachError.TheVariants.{Errno, NoMemory}
+
+-- the root of the share in the linked tree; ENFILE where there may be no fid
+abbrev pub root_told : ServerState → Result ℕ ℕ
+root_told s = if nat_le s.settings.limit 0 then Err ENFILE else root_of (linked s.tree) s.settings.root
+
+-- a gate at the beginning of a session, over the root of the share
+pub record Begins (g : Gate) (s0 s1 : ServerState) : Type 0 where
+  pub stands : IsInStep g s1
+  pub root : ℕ
+  pub limit : 1 ≤ s0.settings.limit
+  pub found : root_of (linked s0.tree) s0.settings.root ≡ Ok root
+  pub state : machine_of g s1 ≡ begun (linked s0.tree) root
+  pub frames : g.nine_frames ≡ 1
+
+-- a new gate's tables: the root as node 1, and nothing else
+pub record IsGateAt (ino kind : ℕ) (g : Gate) : Type 0 where
+  pub phase : g.phase ≡ New
+  pub nodes : g.nodes ≡ map.insert map.empty ROOT_NODE (record { ino = ino; count = 1; kind = kind })
+  pub handles : g.handles ≡ map.empty
+  pub ids : g.ids ≡ map.insert map.empty ino ROOT_NODE
+  pub next : g.next ≡ 2
+  pub used : g.used ≡ 1
+  pub frames : g.nine_frames ≡ 1
+
+-- the server without a fid, and its linked tree
+pub record IsCleared (s0 s1 : ServerState) : Type 0 where
+  pub fids : s1.fids ≡ map.empty
+  pub tree : s1.tree ≡ linked s0.tree
+
+-- by the answer: the beginning; the refusal that is told, or EIO where the count of faults rose; want of memory
+abbrev pub AttachedBy : ServerState → ServerState → ℕ → ℕ → ℕ → ℕ → Result Gate AttachError → Type 0
+AttachedBy s0 s1 f0 f1 a0 a1 (Ok g) = Begins g s0 s1 × Counted a0 1 a1
+AttachedBy s0 s1 f0 f1 a0 a1 (Err (Errno e)) = IsCleared s0 s1 × ((root_told s0 ≡ Err e) ⊎ (Rose f0 f1 × (e ≡ EIO))) × Counted a0 1 a1
+AttachedBy s0 s1 f0 f1 a0 a1 (Err NoMemory) = s1.tree ≡ linked s0.tree
+
+pub record Attaches (s0 s1 : ServerState) (f0 f1 a0 a1 : ℕ) (result : Result Gate AttachError) : Type 0 where
+  pub fixed : s1.settings ≡ s0.settings
+  pub answer : AttachedBy s0 s1 f0 f1 a0 a1 result

@@ -1,0 +1,6 @@
+pub mod Mapped
+pub mod Standing
+pub mod Steps
+pub mod Replies
+pub mod Attaching
+pub mod Changes

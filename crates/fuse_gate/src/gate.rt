@@ -1,0 +1,130 @@
+//! A session's node ids and handles, each a fid of the server under its own number.
+ghost use Rattle.std.specs.Prelude.{◌≡◌, ◌+◌, ◌-◌, ◌<◌, ◌≤◌, ◌^◌, ◌||◌, ℕ, min, nat_le, OnOk};
+ghost use Rattle.tree_machine.specs.State.{NUMBER_LIMIT};
+ghost use Rattle.fuse_gate.specs.Changes.{one_sent, counted_up, with_node};
+
+mod attach;
+mod getattr;
+mod init;
+mod lookup;
+pub mod reply;
+mod serve;
+mod show;
+mod step;
+
+pub use attach::AttachError;
+use port_base::sink::NoMemory;
+use port_base::table::Table;
+use std::alloc::Global;
+
+/// The node id of the root, `FUSE_ROOT_ID` of `fuse.h`.
+pub const FUSE_ROOT_ID: u32 = 1;
+
+/// The least `msize` that a gate works with: a frame with the longest name or target fits.
+pub const LEAST_MSIZE: u32 = 4352;
+
+// No number from here on is drawn.
+const NUMBER_END: u32 = u32::MAX;
+
+/// Where a session is: before its INIT, in it, or after its DESTROY.
+#[derive(Clone, Copy, Debug, PartialEq, Eq)]
+pub enum Phase {
+    New,
+    Started,
+    Over,
+}
+
+/// What a node id names: an inode, how often a look-up gave it, and its qid's type.
+#[derive(Clone, Copy, Debug, PartialEq, Eq)]
+pub struct Node {
+    ino: u64,
+    count: u64,
+    kind: u8,
+}
+
+/// What a handle names: an inode, how it is open, and its qid's type.
+#[derive(Clone, Copy, Debug, PartialEq, Eq)]
+pub struct Handle {
+    ino: u64,
+    access: u32,
+    append: bool,
+    kind: u8,
+}
+
+/// A gate between FUSE and a 9P server.
+#[derive(Drop)]
+pub struct Gate {
+    alloc: Global,
+    phase: Phase,
+    nodes: Table<Node>,
+    handles: Table<Handle>,
+    // The node of each inode that one names.
+    ids: Table<u64>,
+    // The next number that is drawn.
+    next: u32,
+    // How many node ids and handles there are.
+    used: u64,
+    nine_frames: u64,
+}
+
+impl Gate {
+    /// How many messages were sent to the server, up to 2^64 - 1.
+    pub fn nine_frames(&self) -> u64
+        ensures { result ≡ self.now.nine_frames }
+    {
+        self.nine_frames
+    }
+
+    // Whether no further number can be drawn.
+    fn is_full(&self, limit: u32) -> bool
+        ensures { result ≡ (nat_le limit self.now.used || nat_le NUMBER_LIMIT self.now.next) }
+    {
+        self.used >= limit as u64 || self.next >= NUMBER_END
+    }
+
+    // One more message was sent.
+    fn count_message(&mut self)
+        ensures { self.new ≡ one_sent self.old }
+    {
+        self.nine_frames = self.nine_frames.saturating_add(1);
+    }
+
+    // A node counts one more.
+    fn count_up(&mut self, id: u64)
+        ensures { self.new ≡ counted_up self.old id }
+    {
+        if let Some(node) = self.nodes.get(id).copied() {
+            self.nodes.replace(
+                id,
+                Node {
+                    ino: node.ino,
+                    count: node.count.saturating_add(1),
+                    kind: node.kind,
+                },
+            );
+        }
+    }
+
+    // The next number becomes the node of an inode.
+    fn add_node(&mut self, ino: u64, kind: u8) -> Result<(), NoMemory>
+        requires next { self.old.next < NUMBER_END }
+        requires used { self.old.used < 2 ^ 64 - 1 }
+        ensures { OnOk result (self.new ≡ with_node self.old ino kind) }
+    {
+        let id = self.next as u64;
+        let node = Node {
+            ino,
+            count: 1,
+            kind,
+        };
+        if self.nodes.insert(id, node).is_err() {
+            return Err(NoMemory);
+        }
+        if self.ids.insert(ino, id).is_err() {
+            return Err(NoMemory);
+        }
+        self.next += 1;
+        self.used += 1;
+        Ok(())
+    }
+}

@@ -1,0 +1,4 @@
+//! The gate: FUSE requests, answered by asking a 9P server.
+#![tactic(auto)]
+
+pub mod gate;
