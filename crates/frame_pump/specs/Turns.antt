@@ -10,7 +10,7 @@ use Rattle.fuse_wire.specs.Cuts.{IsFrame, AreFrames, Front, Cut, cut, End}
 use Rattle.fuse_wire.specs.Cuts.Front.{nothing, part, odd_length}
 use Rattle.fuse_wire.specs.Cuts.End.{done, turns_spent, torn, bad_length}
 use Rattle.fuse_wire.specs.Taking.{Stands, IsPart, TookPart}
-use Rattle.frame_pump.specs.Sessions.{Session, Answers, Answered, LeavesPart}
+use Rattle.frame_pump.specs.Sessions.{Session, Stays, Answers, Answered, LeavesPart}
 use Rattle.frame_pump.specs.declared.outcome.Cause.{Cause}
 use Rattle.frame_pump.specs.declared.outcome.Cause.TheVariants as cause
 use Rattle.frame_pump.specs.declared.outcome.Halt.{Halt}
@@ -157,5 +157,7 @@ abbrev pub RunsBy : Session → Session → Type 0 → Streams → Streams → �
 RunsBy s0 s1 stands p0 p1 turns (Ok told) = (told.nine_frames ≡ s1.sent) × Completes s0 s1 stands p0 p1 turns told.handled
 RunsBy s0 s1 stands p0 p1 turns (Err told) = (told.nine_frames ≡ s1.sent) × StopsBy s0 s1 stands p0 p1 turns told.handled told.cause
 
+-- a run: what always holds, and the answer
 pub record Runs (s0 s1 : Session) (stands : Type 0) (p0 p1 : Streams) (turns : ℕ) (result : Result Pumped Stopped) : Type 0 where
+  pub stays : Stays s0 s1
   pub outcome : RunsBy s0 s1 stands p0 p1 turns result

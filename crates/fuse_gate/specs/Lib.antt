@@ -4,3 +4,4 @@ pub mod Steps
 pub mod Replies
 pub mod Attaching
 pub mod Changes
+pub mod Pump

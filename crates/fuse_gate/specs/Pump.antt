@@ -1,0 +1,78 @@
+-- A whole run over a server: the attach, the frames, and the fids taken away.
+use Rattle.std.specs.Prelude.{◌≡◌, ◌⊎◌, ℕ, ◌≤◌, Bool, IsTrue, Result, Ok, Err}
+use Rattle.std.specs.FinMap as map
+use Rattle.port_base.specs.Faults.{Rose}
+use Rattle.port_base.specs.declared.errno.TheConstants.{EIO}
+use Rattle.tree_model.specs.Tree.{linked}
+use Rattle.tree_model.specs.Finding.{root_of}
+use Rattle.tree_machine.specs.State.{begun}
+use Rattle.fid_model.specs.Fids.{ServerState, cleared}
+use Rattle.frame_pump.specs.Sessions.{Session, Counted}
+use Rattle.frame_pump.specs.Turns.{Streams, Completes, StopsBy}
+use Rattle.frame_pump.specs.declared.outcome.Pumped.{Pumped}
+use Rattle.frame_pump.specs.declared.outcome.Stopped.{Stopped}
+use Rattle.frame_pump.specs.declared.outcome.PumpError.{PumpError}
+use Rattle.frame_pump.specs.declared.outcome.PumpError.TheVariants as error
+use Rattle.fuse_gate.specs.Standing.{machine_of}
+use Rattle.fuse_gate.specs.declared.gate.Gate.{Gate}
+use Rattle.fuse_gate.specs.Attaching.{root_told, IsCleared}
+
+-- what a server shows
+pub record Served : Type 0 where
+  pub state : ServerState
+  pub faults : ℕ
+  pub steady : Bool
+  pub asked : ℕ
+
+-- the session of a gate over a server
+abbrev pub session_of : Gate → Served → Session
+session_of g n = record { state = machine_of g n.state; settings = n.state.settings; faults = n.faults; steady = n.steady; sent = g.nine_frames; asked = n.asked }
+
+-- the session that a gate begins over a server: the machine begins with the linked tree, after one message
+pub record Begins (n0 : Served) (s0 : Session) : Type 0 where
+  pub root : ℕ
+  pub limit : 1 ≤ n0.state.settings.limit
+  pub found : root_of (linked n0.state.tree) n0.state.settings.root ≡ Ok root
+  pub state : s0.state ≡ begun (linked n0.state.tree) root
+  pub settings : s0.settings ≡ n0.state.settings
+  pub rises : n0.faults ≤ s0.faults
+  pub steady : s0.steady ≡ n0.steady
+  pub steadily : IsTrue n0.steady → s0.faults ≡ n0.faults
+  pub sent : s0.sent ≡ 1
+  pub asked : Counted n0.asked 1 s0.asked
+
+-- the server behind a session: no fid is left, and of the tree the linked records
+pub record Closes (s1 : Session) (n1 : Served) : Type 0 where
+  pub fids : n1.state.fids ≡ map.empty
+  pub tree : n1.state.tree ≡ linked s1.state.tree
+  pub settings : n1.state.settings ≡ s1.settings
+  pub faults : n1.faults ≡ s1.faults
+  pub steady : n1.steady ≡ s1.steady
+  pub asked : n1.asked ≡ s1.asked
+
+-- nothing was read or written
+abbrev pub Untouched : Streams → Streams → Type 0
+Untouched p0 p1 = p1 ≡ p0
+
+-- a session from its beginning to its end
+abbrev pub Between : Served → Served → (Session → Session → Type 0) → Type 0
+Between n0 n1 P = (s0 : Session) × (s1 : Session) × Begins n0 s0 × Closes s1 n1 × P s0 s1
+
+-- the share couldn't be attached to, by the error number
+abbrev pub AttachRefused : Served → Served → ℕ → Type 0
+AttachRefused n0 n1 errno = IsCleared n0.state n1.state × ((root_told n0.state ≡ Err errno) ⊎ (Rose n0.faults n1.faults × (errno ≡ EIO))) × Counted n0.asked 1 n1.asked
+
+-- a run, by its answer
+abbrev pub PumpsBy : Served → Served → Streams → Streams → ℕ → Result Pumped Stopped → Type 0
+PumpsBy n0 n1 p0 p1 turns (Ok told) = Between n0 n1 (λ s0 s1. (told.nine_frames ≡ s1.sent) × Completes s0 s1 (Unit {0}) p0 p1 turns told.handled)
+PumpsBy n0 n1 p0 p1 turns (Err told) =
+    Between n0 n1 (λ s0 s1. (told.nine_frames ≡ s1.sent) × StopsBy s0 s1 (Unit {0}) p0 p1 turns told.handled told.cause)
+    ⊎ ((told.handled ≡ 0) × Untouched p0 p1 × ((errno : ℕ) × (told.cause ≡ error.Attach errno) × (told.nine_frames ≡ 1) × AttachRefused n0 n1 errno))
+    ⊎ ((told.handled ≡ 0) × Untouched p0 p1 × (told.cause ≡ error.NoMemory) × (n1.state.tree ≡ linked n0.state.tree))
+
+pub record Pumps (n0 n1 : Served) (p0 p1 : Streams) (turns : ℕ) (result : Result Pumped Stopped) : Type 0 where
+  pub settings : n1.state.settings ≡ n0.state.settings
+  pub rises : n0.faults ≤ n1.faults
+  pub steady : n1.steady ≡ n0.steady
+  pub steadily : IsTrue n0.steady → n1.faults ≡ n0.faults
+  pub outcome : PumpsBy n0 n1 p0 p1 turns result
