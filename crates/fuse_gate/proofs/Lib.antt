@@ -10,3 +10,4 @@ pub mod Entering
 pub mod LookingUp
 pub mod Stepping
 pub mod Attachings
+pub mod Roots
