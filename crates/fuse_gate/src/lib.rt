@@ -3,3 +3,4 @@
 
 pub mod gate;
 pub mod pump;
+pub mod laws;
