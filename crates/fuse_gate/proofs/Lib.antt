@@ -12,3 +12,4 @@ pub mod Stepping
 pub mod Attachings
 pub mod Running
 pub mod Roots
+pub mod Played

@@ -1,0 +1,41 @@
+-- The definitions at examples.
+use Rattle.std.proofs.Common.{◌≡◌, [], ◌∷◌, Some, Err, refl}
+use Rattle.std.specs.Prelude.{codes}
+use Rattle.std.specs.Fmt.{digits}
+use Rattle.port_base.specs.Escapes.{escaped}
+use Rattle.tree_model.specs.declared.attributes.Kind.{Kind}
+use Rattle.tree_model.specs.declared.attributes.Stamp.{Stamp}
+use Rattle.mount9_run.specs.ReportLines.{entry_line, directory_line, stamp_text, mode_text}
+use Rattle.mount9_run.specs.Texts.{split_once}
+use Rattle.mount9_run.specs.Paths.{is_path}
+use Rattle.mount9_run.specs.Header.{header, text_of, text_from, header_of, start_at}
+use Rattle.mount9_run.specs.HeaderLines.{stamp_at}
+use Rattle.mount9_run.specs.Numbers.{number_field}
+use Rattle.mount9_run.specs.Reading.{lines_of, keyword_at, after_word, field_at}
+use Rattle.mount9_run.specs.Command.{with_word, with_words, command}
+
+pub command_example : command (codes "serve" ∷ codes "target=/mnt" ∷ codes "root=/" ∷ []) ≡ Some (record { target = codes "/mnt"; root = codes "/" })
+unfolding command with_words with_word split_once is_path
+command_example = refl
+
+pub header_example : header (codes "mount9 1\nmoment 1700000000\nend\n") ≡ Err 2
+unfolding header text_of text_from header_of lines_of start_at stamp_at keyword_at after_word field_at split_once number_field
+header_example = refl
+
+pub endless_example : header (codes "mount9 1\nending\nend") ≡ Err 0
+unfolding header text_of text_from
+endless_example = refl
+
+pub entry_example : entry_line 1 1 2 (codes "my file") ≡ codes "in 1 1 2 my\\040file\n"
+unfolding entry_line escaped digits
+entry_example = refl
+
+pub stamp_example : stamp_text (record { sec = 1600000000; nsec = 5 }) ≡ codes "1600000000.000000005"
+unfolding stamp_text digits
+stamp_example = refl
+
+pub directory_example : (kind : Kind) (born : Stamp) → stamp_text born ≡ codes "1600000000.000000005"
+    → directory_line (record { ino = 1; kind = kind; mode = 493; uid = 0; gid = 0; links = 2; size = 0; atime = born; mtime = born; ctime = born }) 1 2
+    ≡ codes "dir 1 0755 0 0 2 1600000000.000000005 1600000000.000000005 1600000000.000000005 1 2\n"
+unfolding directory_line mode_text digits
+directory_example kind born h = rw h refl

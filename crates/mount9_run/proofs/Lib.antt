@@ -1,0 +1,16 @@
+pub mod Alone
+pub mod Digits
+pub mod ByComputing
+pub mod FileLines
+pub mod Gathering
+pub mod HexRows
+pub mod LineLemmas
+pub mod NoLinks
+pub mod Rising
+pub mod Sequences
+pub mod Taking
+pub mod WalkLemmas
+pub mod WordOrder
+pub mod WordSteps
+pub mod FinalTree
+pub mod Reporting

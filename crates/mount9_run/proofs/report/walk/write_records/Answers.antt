@@ -1,0 +1,24 @@
+-- Each record's lines are written, up to the last.
+use Rattle.std.proofs.Common.{refl}
+use Rattle.tree_host.specs.TreeHosts.{tree}
+use Rattle.mount9_run.proofs.Sequences.{Writing-start, Writing-more, Writing-stop, Writing-end, Writing-at}
+use Rattle.mount9_run.proofs.WalkLemmas.{records-start, records-step, records-fewer, records-end, next_is_stored}
+use Rattle.mount9_run.proofs.report.walk.write_records.Goals as goal
+
+pub records-init : goal.records-init
+records-init g c = Writing-at (records-start (tree c.args.host.now) c.args.host.now.good) (Writing-start _ _ _ _ _ refl refl)
+
+pub write_linked-requires-clause-stored : goal.write_linked-requires-clause-stored
+write_linked-requires-clause-stored g c = next_is_stored (tree c.args.host.now) c.args.host.now.good c.records.at c.in-Some.attr c.in-Some.ensures
+
+pub returns-in-Err : goal.returns-in-Err
+returns-in-Err g c = Writing-stop _ _ _ _ _ _ _ _ _ (Writing-at (records-step (tree c.args.host.now) c.args.host.now.good c.records.at c.in-Some.attr c.in-Some.ensures) c.records.invariant) c.in-Err.e c.in-Err.ensures
+
+pub records-smaller : goal.records-smaller
+records-smaller g c = records-fewer (tree c.args.host.now) c.args.host.now.good c.records.at c.in-Some.attr c.in-Some.ensures
+
+pub records-preserved : goal.records-preserved
+records-preserved g c = Writing-more _ _ _ _ _ _ _ _ _ (Writing-at (records-step (tree c.args.host.now) c.args.host.now.good c.records.at c.in-Some.attr c.in-Some.ensures) c.records.invariant) c.in-Ok.ensures
+
+pub returns : goal.returns
+returns g c = Writing-end _ _ _ _ _ (Writing-at (records-end (tree c.args.host.now) c.args.host.now.good c.records.at c.in_default.ensures) c.records.invariant)

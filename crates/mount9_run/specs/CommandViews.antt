@@ -1,0 +1,28 @@
+-- Drafts and commands, without where they lie in memory.
+use Rattle.std.specs.Prelude.{◌≡◌, ℕ, List, Option, Some, None, Result, Ok, Err, Vec, option_map}
+use Rattle.std.specs.Global.{Global}
+use Rattle.mount9_run.specs.Command.{Draft, Serve}
+use Rattle.mount9_run.specs.declared.command.DraftWords.{DraftWords}
+use Rattle.mount9_run.specs.declared.command.Command.{Command}
+use Rattle.mount9_run.specs.declared.command.Command.TheVariants as command
+use Rattle.mount9_run.specs.declared.command.WordsError.{WordsError}
+use Rattle.mount9_run.specs.declared.command.WordsError.TheVariants.{Words, NoMemory}
+
+abbrev pub slot_view : Option (Vec ℕ Global) → Option (List ℕ)
+slot_view slot = option_map (λ (v : Vec ℕ Global). v.items) slot
+
+abbrev pub draft_view : DraftWords → Draft
+draft_view d = record { target = slot_view d.target; root = slot_view d.root }
+
+abbrev pub serve_view : Command → Serve
+serve_view (command.Serve target root) = record { target = target.items; root = root.items }
+
+-- the words are refused where the definition refuses them; memory may be wanted at any time
+abbrev pub Refuses : {A : Type 0} → WordsError → Option A → Type 0
+Refuses Words read = read ≡ None
+Refuses NoMemory read = Unit {0}
+
+-- what a function returned, seen by view, is what the definition gives
+abbrev pub GivesWords : {X Y : Type 0} → (X → Y) → Result X WordsError → Option Y → Type 0
+GivesWords view (Ok x) read = read ≡ Some (view x)
+GivesWords view (Err e) read = Refuses e read

@@ -1,0 +1,14 @@
+pub mod Command
+pub mod CommandViews
+pub mod Header
+pub mod HeaderLines
+pub mod HeaderViews
+pub mod Numbers
+pub mod Paths
+pub mod Reading
+pub mod Report
+pub mod ReportLines
+pub mod Texts
+pub mod Walking
+pub mod Wrote
+pub mod Serving

@@ -1,0 +1,49 @@
+-- Numbers and modes as text.
+use Rattle.std.specs.Prelude.{◌≡◌, ℕ, ◌+◌, ◌-◌, ◌*◌, ◌<◌, ◌^◌, List, length, Option, Some, None, Result, Ok, ◌==◌, ◌&&◌, ◌||◌, not, nat_lt, slice_index, nat_le, if◌then◌else◌, Bool}
+use Rattle.std.specs.List.{list_all}
+use Rattle.std.specs.Char.{is_ascii_digit}
+use Rattle.std.specs.Str.Parse.{digits_value}
+use Rattle.mount9_run.specs.Reading.{◌>>=◌, or_refused, field_at}
+
+-- digits, the first of them 0 only alone
+abbrev pub is_number : List ℕ → Bool
+is_number text = nat_lt 0 (length text) && (list_all is_ascii_digit text && ((length text == 1) || not (slice_index text 0 == 48)))
+
+-- the number that is written so
+unfoldable pub number_of : List ℕ → Option ℕ
+number_of text = if is_number text then Some (digits_value 10 text) else None
+
+abbrev pub in_range : ℕ → ℕ → Option ℕ → Option ℕ
+in_range low high None = None
+in_range low high (Some n) = if nat_le low n && nat_le n high then Some n else None
+
+-- a number from low to high
+unfoldable pub number_at : ℕ → ℕ → ℕ → List ℕ → Result ℕ ℕ
+number_at low high n text = or_refused n (in_range low high (number_of text))
+
+-- the same as a field
+unfoldable pub number_field : ℕ → ℕ → ℕ → List ℕ → Result (ℕ × List ℕ) ℕ
+number_field low high n line = do
+  f ← field_at n line
+  v ← number_at low high n f.0
+  Ok (v, f.1)
+
+abbrev pub is_octal : ℕ → Bool
+is_octal b = nat_le 48 b && nat_le b 55
+
+-- four octal digits
+unfoldable pub mode_of : List ℕ → Option ℕ
+mode_of text =
+    if (length text == 4) && list_all is_octal text
+    then Some (512 * (slice_index text 0 - 48) + 64 * (slice_index text 1 - 48) + 8 * (slice_index text 2 - 48) + (slice_index text 3 - 48)) else None
+
+unfoldable pub mode_field : ℕ → List ℕ → Result (ℕ × List ℕ) ℕ
+mode_field n line = do
+  f ← field_at n line
+  v ← or_refused n (mode_of f.0)
+  Ok (v, f.1)
+
+-- the number, where there is one below 2^64
+abbrev pub CountsTo : Option ℕ → Option ℕ → Type 0
+CountsTo (Some n) read = read ≡ Some n
+CountsTo None read = (n : ℕ) → n < 2 ^ 64 → read ≡ Some n → ⊥

@@ -1,0 +1,43 @@
+//! The definitions of this crate at examples. Each function makes no call: its contract is the example.
+ghost use Rattle.std.specs.Prelude.{◌≡◌, [], ◌∷◌, codes, Some, Err};
+ghost use Rattle.tree_model.specs.declared.attributes.Kind.{Kind};
+ghost use Rattle.tree_model.specs.declared.attributes.Stamp.{Stamp};
+ghost use Rattle.mount9_run.specs.Command.{command};
+ghost use Rattle.mount9_run.specs.Header.{header};
+ghost use Rattle.mount9_run.specs.ReportLines.{entry_line, directory_line, stamp_text};
+
+/// A share of the whole tree at `/mnt`.
+#[tactic(auto, using(crate::proofs::ByComputing::command_example))]
+pub fn a_share_at_mnt()
+    ensures { command (codes "serve" ∷ codes "target=/mnt" ∷ codes "root=/" ∷ []) ≡ Some (record { target = codes "/mnt"; root = codes "/" }) }
+{}
+
+/// A header whose second line tells no nanoseconds is refused at that line.
+#[tactic(auto, using(crate::proofs::ByComputing::header_example))]
+pub fn a_header_without_nanoseconds()
+    ensures { header (codes "mount9 1\nmoment 1700000000\nend\n") ≡ Err 2 }
+{}
+
+/// Text without a line `end` is no header.
+#[tactic(auto, using(crate::proofs::ByComputing::endless_example))]
+pub fn a_header_without_end()
+    ensures { header (codes "mount9 1\nending\nend") ≡ Err 0 }
+{}
+
+/// The line of a directory's entry, with the blank in its name escaped.
+#[tactic(auto, using(crate::proofs::ByComputing::entry_example))]
+pub fn an_entry_with_a_blank()
+    ensures { entry_line 1 1 2 (codes "my file") ≡ codes "in 1 1 2 my\\040file\n" }
+{}
+
+/// The line of a directory.
+#[tactic(auto, using(crate::proofs::ByComputing::directory_example))]
+pub fn a_directory_of_one_entry()
+    ensures { (kind : Kind) (born : Stamp) → stamp_text born ≡ codes "1600000000.000000005" → directory_line (record { ino = 1; kind = kind; mode = 493; uid = 0; gid = 0; links = 2; size = 0; atime = born; mtime = born; ctime = born }) 1 2 ≡ codes "dir 1 0755 0 0 2 1600000000.000000005 1600000000.000000005 1600000000.000000005 1 2\n" }
+{}
+
+/// Nanoseconds have nine digits.
+#[tactic(auto, using(crate::proofs::ByComputing::stamp_example))]
+pub fn a_moment_of_five_nanoseconds()
+    ensures { stamp_text (record { sec = 1600000000; nsec = 5 }) ≡ codes "1600000000.000000005" }
+{}

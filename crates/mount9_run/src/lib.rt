@@ -1,0 +1,11 @@
+//! The program: the words of its command line, the header of its input, and its report.
+#![tactic(auto)]
+
+pub mod command;
+pub mod examples;
+pub mod header;
+pub mod laws;
+pub mod path;
+pub mod report;
+pub mod run;
+pub mod text;
