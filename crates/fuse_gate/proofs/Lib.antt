@@ -11,3 +11,4 @@ pub mod LookingUp
 pub mod Stepping
 pub mod Attachings
 pub mod Running
+pub mod Played

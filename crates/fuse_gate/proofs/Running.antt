@@ -1,21 +1,21 @@
 -- A whole run, from the attach, the frames, and the fids taken away.
-use Rattle.std.proofs.Common.{◌≡◌, ℕ, ◌≤◌, Result, Ok, Err, IsTrue, inl, inr, refl, sym, ap, ◌∙◌, subst, arith}
+use Rattle.std.proofs.Common.{◌≡◌, ℕ, ◌≤◌, Result, Ok, Err, IsTrue, inl, sym, ap, ◌∙◌, subst, arith}
 use Rattle.fid_model.specs.Fids.{ServerState, cleared}
 use Rattle.fid_model.specs.Handling.{Steadily}
 use Rattle.frame_pump.specs.Sessions.{Session}
-use Rattle.frame_pump.specs.Turns.{Streams, Completes, StopsBy, HaltsBy, Runs}
+use Rattle.frame_pump.specs.Turns.{Streams, StopsBy, Runs}
 use Rattle.frame_pump.specs.declared.outcome.Pumped.{Pumped}
 use Rattle.frame_pump.specs.declared.outcome.Stopped.{Stopped}
 use Rattle.frame_pump.specs.declared.outcome.PumpError.{PumpError}
 use Rattle.frame_pump.specs.declared.outcome.PumpError.TheVariants as error
 use Rattle.fuse_gate.specs.Attaching.{Attaches}
-use Rattle.fuse_gate.specs.Pump.{Served, session_of, Begins, Closes, Between, PumpsBy, Pumps}
+use Rattle.fuse_gate.specs.Pump.{Served, session_of, Opens, Closes, PumpsBy, Pumps}
 use Rattle.fuse_gate.specs.declared.gate.Gate.{Gate}
 use Rattle.fuse_gate.proofs.Attachings.{keep_none}
 
 module _ (n0 nm nr n1 : Served) (g gr : Gate) (stands : Type 0) (p0 p1 : Streams) (turns : ℕ) (result : Result Pumped Stopped) where
-  begins : Attaches n0.state nm.state n0.faults nm.faults n0.asked nm.asked (Ok g) → n0.faults ≤ nm.faults → nm.steady ≡ n0.steady → Steadily n0.steady n0.faults nm.faults → Begins n0 (session_of g nm)
-  begins a rises steady steadily =
+  opens : Attaches n0.state nm.state n0.faults nm.faults n0.asked nm.asked (Ok g) → n0.faults ≤ nm.faults → nm.steady ≡ n0.steady → Steadily n0.steady n0.faults nm.faults → Opens n0 (session_of g nm)
+  opens a rises steady steadily =
       let b = a.answer.0 in
       record { root = b.root; limit = b.limit; found = b.found; state = b.state; settings = a.fixed; rises = rises; steady = steady; steadily = steadily; sent = b.frames; asked = a.answer.1 }
 
@@ -38,7 +38,7 @@ unstood s0 s1 stands p0 p1 turns handled error.NoMemory h = h
 unstood s0 s1 stands p0 p1 turns handled (error.Attach errno) h = h
 
 run_by : (n0 nr n1 : Served) (s0 : Session) (gr : Gate) (stands : Type 0) (p0 p1 : Streams) (turns : ℕ) (result : Result Pumped Stopped)
-    → Begins n0 s0 → Closes (session_of gr nr) n1 → Runs s0 (session_of gr nr) stands p0 p1 turns result → PumpsBy n0 n1 p0 p1 turns result
+    → Opens n0 s0 → Closes (session_of gr nr) n1 → Runs s0 (session_of gr nr) stands p0 p1 turns result → PumpsBy n0 n1 p0 p1 turns result
 run_by n0 nr n1 s0 gr stands p0 p1 turns (Ok told) b e r = (s0, session_of gr nr, b, e, (r.outcome.0, (r.outcome.1.0, tt, r.outcome.1.2, r.outcome.1.3)))
 run_by n0 nr n1 s0 gr stands p0 p1 turns (Err told) b e r =
     inl (s0, session_of gr nr, b, e, (r.outcome.0, unstood s0 (session_of gr nr) stands p0 p1 turns told.handled told.cause r.outcome.1))
@@ -48,7 +48,7 @@ pub Pumps-run : (n0 nm nr n1 : Served) (g gr : Gate) (stands : Type 0) (p0 p1 : 
     → Runs (session_of g nm) (session_of gr nr) stands p0 p1 turns result
     → n1.state ≡ cleared nr.state → n1.faults ≡ nr.faults → n1.asked ≡ nr.asked → n1.steady ≡ nr.steady → Pumps n0 n1 p0 p1 turns result
 Pumps-run n0 nm nr n1 g gr stands p0 p1 turns result a rises steady steadily r state faults asked same =
-    let b = begins n0 nm nr n1 g gr stands p0 p1 turns result a rises steady steadily in
+    let b = opens n0 nm nr n1 g gr stands p0 p1 turns result a rises steady steadily in
     let e = closes n0 nm nr n1 g gr stands p0 p1 turns result state faults asked same in
     record {
       settings = e.settings ∙ r.stays.settings ∙ a.fixed;

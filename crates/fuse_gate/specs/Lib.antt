@@ -5,3 +5,4 @@ pub mod Replies
 pub mod Attaching
 pub mod Changes
 pub mod Pump
+pub mod Playing

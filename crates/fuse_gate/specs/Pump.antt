@@ -6,12 +6,11 @@ use Rattle.port_base.specs.declared.errno.TheConstants.{EIO}
 use Rattle.tree_model.specs.Tree.{linked}
 use Rattle.tree_model.specs.Finding.{root_of}
 use Rattle.tree_machine.specs.State.{begun}
-use Rattle.fid_model.specs.Fids.{ServerState, cleared}
+use Rattle.fid_model.specs.Fids.{ServerState}
 use Rattle.frame_pump.specs.Sessions.{Session, Counted}
 use Rattle.frame_pump.specs.Turns.{Streams, Completes, StopsBy}
 use Rattle.frame_pump.specs.declared.outcome.Pumped.{Pumped}
 use Rattle.frame_pump.specs.declared.outcome.Stopped.{Stopped}
-use Rattle.frame_pump.specs.declared.outcome.PumpError.{PumpError}
 use Rattle.frame_pump.specs.declared.outcome.PumpError.TheVariants as error
 use Rattle.fuse_gate.specs.Standing.{machine_of}
 use Rattle.fuse_gate.specs.declared.gate.Gate.{Gate}
@@ -29,7 +28,7 @@ abbrev pub session_of : Gate → Served → Session
 session_of g n = record { state = machine_of g n.state; settings = n.state.settings; faults = n.faults; steady = n.steady; sent = g.nine_frames; asked = n.asked }
 
 -- the session that a gate begins over a server: the machine begins with the linked tree, after one message
-pub record Begins (n0 : Served) (s0 : Session) : Type 0 where
+pub record Opens (n0 : Served) (s0 : Session) : Type 0 where
   pub root : ℕ
   pub limit : 1 ≤ n0.state.settings.limit
   pub found : root_of (linked n0.state.tree) n0.state.settings.root ≡ Ok root
@@ -56,7 +55,7 @@ Untouched p0 p1 = p1 ≡ p0
 
 -- a session from its beginning to its end
 abbrev pub Between : Served → Served → (Session → Session → Type 0) → Type 0
-Between n0 n1 P = (s0 : Session) × (s1 : Session) × Begins n0 s0 × Closes s1 n1 × P s0 s1
+Between n0 n1 P = (s0 : Session) × (s1 : Session) × Opens n0 s0 × Closes s1 n1 × P s0 s1
 
 -- the share couldn't be attached to, by the error number
 abbrev pub AttachRefused : Served → Served → ℕ → Type 0

@@ -2,6 +2,7 @@
 ghost use Rattle.std.specs.Prelude.{◌≡◌, ◌≤◌};
 ghost use Rattle.fuse_gate.specs.Standing.{IsInStep, machine_of};
 ghost use Rattle.fuse_gate.specs.Pump.{Served, Pumps};
+ghost use Rattle.fuse_gate.specs.Playing.{PlaysWhole};
 ghost use Rattle.frame_pump.specs.Turns.{Streams};
 
 use crate::gate::{AttachError, Gate, LEAST_MSIZE};
@@ -32,7 +33,9 @@ impl<N: Nine> Answerer<N> for Gate {
 }
 
 /// Attaches to the root of a server's share, answers the frames of the input, at most so many, and takes the
-/// server's fids away.
+/// server's fids away. `Ok`: the input ended at a frame's end. `Attach`: as `Gate::new` refuses, with nothing
+/// read or written. `NoMemory`: no part of the unfinished reply was written. `Read`, `Write`: that stream
+/// failed. `Torn`: the input doesn't end at a frame's end, or not after so many frames.
 pub fn pump<N: Nine, S: Source, K: Sink>(
     alloc: Global,
     nine: &mut N,
@@ -42,6 +45,11 @@ pub fn pump<N: Nine, S: Source, K: Sink>(
 ) -> Result<Pumped, Stopped>
     requires { LEAST_MSIZE ≤ (N.state nine.old).msize }
     ensures pumps { Pumps
+        (record { state = N.state nine.old; faults = N.faults nine.old; steady = N.steady nine.old; asked = N.asked nine.old })
+        (record { state = N.state nine.new; faults = N.faults nine.new; steady = N.steady nine.new; asked = N.asked nine.new })
+        (record { left = S.left input.old; sent = K.sent out.old; read_faults = S.faults input.old; write_faults = K.faults out.old })
+        (record { left = S.left input.new; sent = K.sent out.new; read_faults = S.faults input.new; write_faults = K.faults out.new }) turns result }
+    ensures played { PlaysWhole
         (record { state = N.state nine.old; faults = N.faults nine.old; steady = N.steady nine.old; asked = N.asked nine.old })
         (record { state = N.state nine.new; faults = N.faults nine.new; steady = N.steady nine.new; asked = N.asked nine.new })
         (record { left = S.left input.old; sent = K.sent out.old; read_faults = S.faults input.old; write_faults = K.faults out.old })

@@ -1,5 +1,6 @@
 -- The attach, the frames, and the fids taken away.
 use Rattle.fuse_gate.proofs.Running.{Pumps-run}
+use Rattle.fuse_gate.proofs.Played.{PlaysWhole-from}
 use Rattle.fuse_gate.specs.Pump.{Served}
 use Rattle.fuse_gate.proofs.pump.pump.Goals as goal
 
@@ -10,3 +11,6 @@ returns-in-Ok-clause-pumps g c =
     let e = c.in-Ok.ensures in
     Pumps-run _ after end _ c.in-Ok.gate c.run_frames-told.new.answerer _ _ _ _ _ e.attached e.rises e.steady e.steadily c.run_frames-told.ensures.runs
     c.clear_fids.ensures.state c.clear_fids.ensures.faults c.clear_fids.ensures.asked c.clear_fids.ensures.steady
+
+pub returns-in-Ok-clause-played : goal.returns-in-Ok-clause-played
+returns-in-Ok-clause-played g c = PlaysWhole-from _ _ _ _ _ _ (returns-in-Ok-clause-pumps g c)
