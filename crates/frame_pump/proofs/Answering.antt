@@ -1,14 +1,13 @@
 -- Frames answered one after another: none, one more, and none that met a fault.
-use Rattle.std.proofs.Common.{◌≡◌, ◌⊎◌, ℕ, ◌+◌, ◌-◌, ◌≤◌, ◌<◌, ◌^◌, min, Bool, IsTrue, List, [], ◌∷◌, ◌++◌, refl, sym, ap, ◌∙◌, subst, arith, append-nil, inl, inr}
-use Rattle.port_base.specs.Faults.{Rose}
+use Rattle.std.proofs.Common.{◌≡◌, ℕ, ◌+◌, ◌-◌, ◌≤◌, ◌<◌, ◌^◌, IsTrue, List, [], ◌∷◌, ◌++◌, refl, sym, ap, ◌∙◌, subst, arith, append-nil, inl, inr}
 use Rattle.tree_model.specs.Settings.{Settings}
 use Rattle.tree_machine.specs.State.{MachineState}
 use Rattle.tree_machine.specs.Step.{step}
 use Rattle.tree_machine.specs.Play.{play_from}
 use Rattle.tree_machine.specs.Messages.{messages, messages_from}
-use Rattle.tree_machine.specs.Faults.{Hurt, IsHurtStep}
+use Rattle.tree_machine.specs.Faults.{Hurt}
 use Rattle.tree_machine.proofs.Hurting.{Hurt-append, Hurt-zero, messages_from-append}
-use Rattle.frame_pump.specs.Sessions.{Session, Counted, Met, Stays, StepOutcome, Answers, Answered, LeavesPart}
+use Rattle.frame_pump.specs.Sessions.{Session, Counted, Met, Stays, StepOutcome, Answers, Answered}
 
 pub Stays-refl : (s : Session) → Stays s s
 Stays-refl s = record { settings = refl; steady = refl; steadily = λ _. refl; rises = omega arith }

@@ -1,5 +1,5 @@
 -- What the loop keeps from turn to turn, and each of its answers.
-use Rattle.std.proofs.Common.{◌≡◌, ℕ, zero, suc, ◌+◌, ◌-◌, ◌≤◌, ◌<◌, true, false, List, [], ◌∷◌, ◌++◌, length, take, IfSome, Some, None, Result, Ok, Err, refl, sym, ap, ◌∙◌, subst, arith, length-append, append_assoc, append-nil, inl, inr}
+use Rattle.std.proofs.Common.{◌≡◌, ℕ, ◌+◌, ◌-◌, ◌≤◌, ◌<◌, true, false, List, [], ◌∷◌, ◌++◌, length, take, IfSome, Some, None, Ok, Err, refl, sym, ap, ◌∙◌, subst, arith, length-append, append_assoc, append-nil, inl, inr}
 use Rattle.std.proofs.Math.Seq.{take-append_seam}
 use Rattle.std.specs.declared.option.Option.{Option}
 use Rattle.std.specs.List.{concat}
@@ -7,14 +7,14 @@ use Rattle.std.specs.Io.KnownBytes.{Consumes, IsAtEnd, Appends, Keeps}
 use Rattle.std.proofs.KnownBytes.{Consumes-trans, Consumes-nil, Appends-trans, Appends-kept, Appends-nil, Consumes-whole, Keeps-refl}
 use Rattle.port_base.specs.Faults.{Faulted}
 use Rattle.fuse_wire.specs.Cuts.{IsFrame, AreFrames, front, Cut, cut, End, ends}
-use Rattle.fuse_wire.specs.Cuts.Front.{nothing, part, odd_length}
+use Rattle.fuse_wire.specs.Cuts.Front.{nothing}
 use Rattle.fuse_wire.specs.Cuts.End.{done, turns_spent, torn, bad_length}
-use Rattle.fuse_wire.specs.Taking.{Stands, IsPart, TookPart}
+use Rattle.fuse_wire.specs.Taking.{IsPart}
 use Rattle.fuse_wire.proofs.Fronts.{front-nil}
 use Rattle.fuse_wire.proofs.Cutting.{with_frames, cut-frames, cut-spent, cut-nothing, cut-part, cut-odd_length}
 use Rattle.fuse_wire.proofs.Takings.{Consumes-if}
-use Rattle.frame_pump.specs.Sessions.{Session, Answers, Answered, LeavesPart}
-use Rattle.frame_pump.specs.Turns.{Streams, Quiet, Turn, Takes, Idle, AreFirst, Fronts, Ended, ReadStopped, WriteStopped, MemoryStopped, HaltsBy, Completes}
+use Rattle.frame_pump.specs.Sessions.{Session, Answered}
+use Rattle.frame_pump.specs.Turns.{Streams, Quiet, Turn, AreFirst, Fronts, Ended, ReadStopped, HaltsBy, Completes}
 use Rattle.frame_pump.specs.declared.outcome.Cause.{Cause}
 use Rattle.frame_pump.specs.declared.outcome.Cause.TheVariants as cause
 use Rattle.frame_pump.proofs.Answering.{Answered-none, Answered-more}

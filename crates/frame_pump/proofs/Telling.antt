@@ -1,16 +1,12 @@
 -- What a run tells outside, from the answer of its loop.
-use Rattle.std.proofs.Common.{◌≡◌, ◌≢◌, ℕ, Result, Ok, Err, inl, inr, subst, sym}
-use Rattle.fuse_wire.specs.Cuts.{End}
-use Rattle.fuse_wire.specs.Cuts.End.{done, turns_spent, torn, bad_length}
+use Rattle.std.proofs.Common.{◌≡◌, ℕ, Ok, Err, inl, inr, subst, sym}
+use Rattle.fuse_wire.specs.Cuts.End.{turns_spent, torn, bad_length}
 use Rattle.frame_pump.specs.Sessions.{Session, Stays}
 use Rattle.frame_pump.specs.Ends.{pump_error}
-use Rattle.frame_pump.specs.Turns.{Streams, Ended, WriteStopped, MemoryStopped, HaltsBy, StopsBy, Completes, Loops, Runs}
+use Rattle.frame_pump.specs.Turns.{Streams, WriteStopped, MemoryStopped, HaltsBy, StopsBy, Completes, Runs}
 use Rattle.frame_pump.specs.declared.outcome.Cause.{Cause}
 use Rattle.frame_pump.specs.declared.outcome.Cause.TheVariants as cause
-use Rattle.frame_pump.specs.declared.outcome.Halt.{Halt}
 use Rattle.frame_pump.specs.declared.outcome.PumpError.{PumpError}
-use Rattle.frame_pump.specs.declared.outcome.Pumped.{Pumped}
-use Rattle.frame_pump.specs.declared.outcome.Stopped.{Stopped}
 use Rattle.frame_pump.proofs.Answering.{Stays-trans}
 
 module _ (s0 s1 : Session) (stands : Type 0) (p0 p1 : Streams) (turns handled : ℕ) where

@@ -1,12 +1,12 @@
 -- What a turn and a whole run leave, by their answers.
-use Rattle.std.specs.Prelude.{◌≡◌, ◌≢◌, ◌⊎◌, ℕ, ◌<◌, Bool, true, false, List, [], ◌∷◌, ◌++◌, length, take, Option, IfSome, Result, Ok, Err}
+use Rattle.std.specs.Prelude.{◌≡◌, ◌≢◌, ◌⊎◌, ℕ, Bool, true, false, List, [], ◌∷◌, ◌++◌, length, take, Option, IfSome, Result, Ok, Err}
 use Rattle.std.specs.Io.KnownBytes.{Appends, Consumes, Keeps, IsAtEnd}
 use Rattle.std.specs.List.{concat}
 use Rattle.port_base.specs.Faults.{Faulted}
 use Rattle.port_base.specs.Streams.{SentFront}
 use Rattle.port_base.specs.declared.sink.SinkFault.{SinkFault}
 use Rattle.port_base.specs.declared.sink.SinkFault.TheVariants as sink
-use Rattle.fuse_wire.specs.Cuts.{IsFrame, AreFrames, Front, Cut, cut, End}
+use Rattle.fuse_wire.specs.Cuts.{IsFrame, AreFrames, cut, End}
 use Rattle.fuse_wire.specs.Cuts.Front.{nothing, part, odd_length}
 use Rattle.fuse_wire.specs.Cuts.End.{done, turns_spent, torn, bad_length}
 use Rattle.fuse_wire.specs.Taking.{Stands, IsPart, TookPart}

@@ -1,5 +1,5 @@
 -- The first turn, one more, and each answer of the loop.
-use Rattle.std.proofs.Common.{◌≡◌, ◌∙◌, refl, sym, arith}
+use Rattle.std.proofs.Common.{◌∙◌, refl, sym, arith}
 use Rattle.frame_pump.proofs.Pumping.{Pumping-none, Pumping-more, Completes-turn, HaltsBy-turn, Completes-last, HaltsBy-spent, HaltsBy-read}
 use Rattle.frame_pump.proofs.run.handle_frames.Goals as goal
 
