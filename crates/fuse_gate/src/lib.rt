@@ -2,5 +2,5 @@
 #![tactic(auto)]
 
 pub mod gate;
-pub mod pump;
 pub mod laws;
+pub mod pump;
