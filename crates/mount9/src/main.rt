@@ -2,32 +2,64 @@
 #![tactic(auto)]
 
 use mount9_run::run::{Status, run};
+use port_base::sink::{NoMemory, SinkFault, write_all};
 use port_base::std_io::{StdSink, StdSource};
 use port_base::words::Words;
 use std::env;
 use std::io::{self, BufReader};
 use std::process::ExitCode;
 
-const HELP: &str =
-    "usage: mount9 serve target=PATH root=/\nReads a header and FUSE request frames from standard input, and writes a report.\n";
+const HELP: &str = "usage: mount9 serve target=PATH root=/\nReads a header and FUSE request frames from standard input, and writes a report.\n";
 
 const VERSION: &str = "mount9 0.1.0\n";
 
+// The words of the command line. Where one isn't UTF-8 there are none, and `run` refuses these.
+fn command_line(rt: &HostRuntime) -> Result<Words, NoMemory> {
+    let mut words = Words::new(rt.alloc());
+    match env::args(rt) {
+        Ok(args) => {
+            for arg in args.skip(1) {
+                words.push(arg.as_bytes())?;
+            }
+            Ok(words)
+        }
+        Err(fault) if fault.kind() == io::ErrorKind::OutOfMemory => Err(NoMemory),
+        Err(_) => Ok(words),
+    }
+}
+
+// The text that a single word asks for.
+fn about(words: &Words) -> Option<&'static str> {
+    if words.len() != 1 {
+        return None;
+    }
+    let word = words.get(0)?;
+    if word == b"--help".as_slice() {
+        Some(HELP)
+    } else if word == b"--version".as_slice() {
+        Some(VERSION)
+    } else {
+        None
+    }
+}
+
 fn main(rt: HostRuntime) -> ExitCode {
     let alloc = rt.alloc();
-    let mut words = Words::new(alloc);
-    let Ok(args) = env::args(&rt) else {
-        return ExitCode::from(2);
+    let Ok(words) = command_line(&rt) else {
+        return ExitCode::from(Status::Memory as u8);
     };
-    for arg in args.skip(1) {
-        if words.push(arg.as_bytes()).is_err() {
-            return ExitCode::from(4);
-        }
+    let mut output = StdSink::new(rt.stdout());
+    if let Some(text) = about(&words) {
+        let status = match write_all(&mut output, text.as_bytes()) {
+            Ok(()) => Status::Served,
+            Err(SinkFault::Failed) => Status::Output,
+            Err(SinkFault::NoMemory) => Status::Memory,
+        };
+        return ExitCode::from(status as u8);
     }
     let Ok(reader) = BufReader::new(alloc, rt.stdin()) else {
-        return ExitCode::from(4);
+        return ExitCode::from(Status::Memory as u8);
     };
     let mut input = StdSource::new(reader);
-    let mut output = StdSink::new(rt.stdout());
     ExitCode::from(run(alloc, &words, &mut input, &mut output) as u8)
 }

@@ -14,3 +14,4 @@ pub mod WordOrder
 pub mod WordSteps
 pub mod FinalTree
 pub mod Reporting
+pub mod Ran

@@ -1,56 +1,171 @@
--- After a run the tree can be reported, where a report follows.
-use Rattle.std.proofs.Common.{◌≡◌, ◌⊎◌, ⊎_elim, ℕ, List, refl, sym, ap, ◌∙◌, subst, Result, Ok, Err}
-use Rattle.tree_model.specs.Tree.{Tree, linked}
-use Rattle.port_base.specs.Faults.{Faulted}
-use Rattle.tree_machine.specs.State.{MachineState}
+-- What a share tells and leaves, from what the run over its server does.
+use Rattle.std.proofs.Common.{◌≡◌, ◌≢◌, ◌⊎◌, ⊎_elim, ℕ, ◌+◌, ◌-◌, ◌^◌, ◌<◌, ◌≤◌, min, List, [], ◌++◌, length, Bool, true, false, cond, ◌||◌, IsSome, IsTrue, IfSome, Option, Some, None, Result, Ok, Err, refl, sym, ap, ◌∙◌, subst, arith, if◌then◌else◌, nat_le}
+use Rattle.std.proofs.lemmas.Option.{same_Some}
+use Rattle.std.specs.FinMap.{get, retain_keys, empty}
+use Rattle.tree_model.specs.Tree.{Tree, Record, Records, linked, is_linked}
+use Rattle.tree_model.specs.Finding.{root_of}
+use Rattle.tree_model.specs.Settings.{Settings}
+use Rattle.tree_model.proofs.Maps.{retained, same_gets}
+use Rattle.tree_host.specs.Holds.{Holds, is_held}
+use Rattle.tree_host.specs.Host.{IsHeldIn}
+use Rattle.tree_host.proofs.Held.{hold_count-empty}
+use Rattle.std.specs.Prelude.{nat_lt}
+use Rattle.port_base.specs.Faults.{Faulted, Rose}
+use Rattle.port_base.specs.declared.errno.TheConstants.{EIO, ENFILE}
+use Rattle.fuse_wire.specs.Cuts.{Cut, cut, End}
+use Rattle.fuse_wire.specs.Cuts.End.{done, turns_spent, torn, bad_length}
+use Rattle.tree_machine.specs.State.{MachineState, begun}
+use Rattle.tree_machine.specs.Play.{play, play_from}
+use Rattle.tree_machine.specs.Messages.{total, messages_from}
 use Rattle.frame_pump.specs.Sessions.{Session, Answered}
-use Rattle.frame_pump.specs.Turns.{Streams, StopsBy}
+use Rattle.frame_pump.specs.Turns.{Streams, StopsBy, Ended}
+use Rattle.frame_pump.proofs.Answering.{Answered-exact}
 use Rattle.frame_pump.specs.declared.outcome.Pumped.{Pumped}
 use Rattle.frame_pump.specs.declared.outcome.Stopped.{Stopped}
 use Rattle.frame_pump.specs.declared.outcome.PumpError.{PumpError}
 use Rattle.frame_pump.specs.declared.outcome.PumpError.TheVariants as error
-use Rattle.fuse_gate.specs.Pump.{Served, Opens, Closes, Pumps}
+use Rattle.fid_model.specs.Fids.{ServerState}
+use Rattle.fuse_gate.specs.Attaching.{root_told}
+use Rattle.fuse_gate.specs.Pump.{Served, Opens, Closes, Pumps, PumpsBy, AttachRefused}
 use Rattle.mount9_run.specs.Walking.{HasNoLinks}
-use Rattle.mount9_run.specs.Serving.{IsReportable, IsReportableAfter}
+use Rattle.mount9_run.specs.Report.{report}
+use Rattle.mount9_run.specs.Outcome.{Outcome, served, attached, told, share_settings, status_of, verdict_of, mount_table}
+use Rattle.mount9_run.specs.Serving.{IsReportable, IsReportableAfter, LeadsTo, StoppedBy, SharesBy, Shares}
+use Rattle.mount9_run.specs.declared.run.TheConstants.{TURNS}
+use Rattle.mount9_run.specs.declared.run.Status.TheVariants as status
+use Rattle.mount9_run.specs.declared.report.verdict.Cause.TheVariants.{Attach}
+use Rattle.mount9_run.specs.declared.report.verdict.Verdict.TheVariants as verdict
 use Rattle.mount9_run.proofs.FinalTree.{linked_files, hurt_files}
 
--- no fault is counted in a sink of memory
-nothing_failed : (a b : ℕ) → Faulted a b → a ≡ 0 → b ≡ 0 → ⊥
-nothing_failed a b f z n = absurd (cc)
+-- ---- a host that holds nothing stores linked records alone
 
-module _ (n0 n1 : Served) (s0 s1 : Session) (b : Opens n0 s0) (e : Closes s1 n1) (h : HasNoLinks n0.state.tree) where
-  answered_files : (frames : List (List ℕ)) (replies : List ℕ) → Answered s0 s1 frames replies → HasNoLinks n1.state.tree
-  answered_files frames replies a =
-      let begins : HasNoLinks s0.state.tree = subst (λ (m : MachineState). HasNoLinks m.tree) (sym b.state) (linked_files n0.state.tree h) in
-      subst HasNoLinks (sym e.tree) (linked_files s1.state.tree (hurt_files s0.settings s0.state frames a.hurt replies s1.state begins a.run))
+passes : (b : Bool) (o : Option Record) → (IsSome o → b ≡ true) → cond b o None ≡ o
+passes true o h = refl
+passes false None h = refl
+passes false (Some r) h = absurd cc
 
-  stopped_files : (p0 p1 : Streams) (turns handled : ℕ) (cause : PumpError) → p0.write_faults ≡ 0 → p1.write_faults ≡ 0 → StopsBy s0 s1 (Unit {0}) p0 p1 turns handled cause → IsReportableAfter cause n1.state.tree
-  stopped_files p0 p1 turns handled error.Torn z n k = answered_files k.2.2.frames k.2.2.replies k.2.2.answered
-  stopped_files p0 p1 turns handled error.Read z n k = tt
-  stopped_files p0 p1 turns handled error.Write z n k = nothing_failed p0.write_faults p1.write_faults k.0.1 z n
-  stopped_files p0 p1 turns handled error.NoMemory z n k = tt
-  stopped_files p0 p1 turns handled (error.Attach errno) z n k = k
+or_none : (b c : Bool) → c ≡ false → (b || c) ≡ true → b ≡ true
+or_none true c n h = refl
+or_none false c n h = absurd cc
 
-pub reportable : (n0 n1 : Served) (p0 p1 : Streams) (turns : ℕ) (result : Result Pumped Stopped) → Pumps n0 n1 p0 p1 turns result → p0.write_faults ≡ 0 → p1.write_faults ≡ 0 → HasNoLinks n0.state.tree → IsReportable result n1.state.tree
-reportable n0 n1 p0 p1 turns (Ok told) r z n h =
-    let b = r.outcome in
-    answered_files n0 n1 b.0 b.1 b.2 b.3 h b.4.1.3.frames b.4.1.3.replies b.4.1.3.answered
-reportable n0 n1 p0 p1 turns (Err told) r z n h = ⊎_elim
-    (λ b. stopped_files n0 n1 b.0 b.1 b.2 b.3 h p0 p1 turns told.handled told.cause z n b.4.1)
-    (λ refused. ⊎_elim
-    (λ a. subst (λ (c : PumpError). IsReportableAfter c n1.state.tree) (sym a.2.1) (subst HasNoLinks (sym a.2.3.0.tree) (linked_files n0.state.tree h)))
-    (λ m. subst (λ (c : PumpError). IsReportableAfter c n1.state.tree) (sym m.2.0) tt)
-    refused)
-    r.outcome
+not_held : (q : ℕ) → is_held empty q ≡ false
+not_held q = ap (nat_lt 0) (hold_count-empty q)
 
--- the linked tree can be reported as the whole
-pub linked_after : (cause : PumpError) (t : Tree) → IsReportableAfter cause t → IsReportableAfter cause (linked t)
-linked_after error.Torn t h = linked_files t h
-linked_after (error.Attach errno) t h = linked_files t h
-linked_after error.NoMemory t h = tt
-linked_after error.Read t h = tt
-linked_after error.Write t h = h
+pub linked_whole : (t : Tree) (h : Holds) → h ≡ empty → IsHeldIn t h → linked t ≡ t
+linked_whole t h none stored = ap (λ (rs : Records). let u : Tree = record t { records = rs } in u) (same_gets _ _ (λ q.
+    retained t.records (is_linked t.records) q
+    ∙ passes (is_linked t.records q) (get t.records q) (λ some. or_none (is_linked t.records q) (is_held h q) (ap (λ (m : Holds). is_held m q) none ∙ not_held q) (stored.kept q some))))
 
-pub linked_reportable : (result : Result Pumped Stopped) (t : Tree) → IsReportable result t → IsReportable result (linked t)
-linked_reportable (Ok told) t h = linked_files t h
-linked_reportable (Err told) t h = linked_after told.cause t h
+-- ---- counts of faults that stand at 0
+
+not_failed : Faulted 0 0 → ⊥
+not_failed f = absurd (cc)
+
+not_risen : (a b : ℕ) → a ≡ 0 → b ≡ a → Rose a b → ⊥
+not_risen a b z n f = absurd (cc)
+
+-- ---- a share of a tree by a server that has never failed, with what it was sent in memory
+
+module _ (n0 n1 : Served) (settings : n0.state.settings ≡ share_settings) (zero : n0.faults ≡ 0) (same : n1.faults ≡ n0.faults) (left0 left1 : Option (List ℕ)) (r0 r1 : List ℕ) (in0 in1 : ℕ) (start : r0 ≡ []) (last : Tree) (ended : last ≡ linked n1.state.tree) where
+  p0 : Streams
+  p0 = record { left = left0; sent = Some r0; read_faults = in0; write_faults = 0 }
+
+  p1 : Streams
+  p1 = record { left = left1; sent = Some r1; read_faults = in1; write_faults = 0 }
+
+  module _ (s0 s1 : Session) (b : Opens n0 s0) (e : Closes s1 n1) where
+    answered_files : (frames : List (List ℕ)) (replies : List ℕ) → HasNoLinks n0.state.tree → Answered s0 s1 frames replies → HasNoLinks last
+    answered_files frames replies h a =
+        let begins : HasNoLinks s0.state.tree = subst (λ (m : MachineState). HasNoLinks m.tree) (sym b.state) (linked_files n0.state.tree h) in
+        let left : HasNoLinks n1.state.tree = subst HasNoLinks (sym e.tree) (linked_files s1.state.tree (hurt_files s0.settings s0.state frames a.hurt replies s1.state begins a.run)) in
+        subst HasNoLinks (sym ended) (linked_files n1.state.tree left)
+
+    stopped_files : (handled : ℕ) (cause : PumpError) → HasNoLinks n0.state.tree → StopsBy s0 s1 (Unit {0}) p0 p1 TURNS handled cause → IsReportableAfter cause last
+    stopped_files handled error.Torn h k = answered_files k.2.2.frames k.2.2.replies h k.2.2.answered
+    stopped_files handled error.Read h k = tt
+    stopped_files handled error.Write h k = not_failed k.0.1
+    stopped_files handled error.NoMemory h k = tt
+    stopped_files handled (error.Attach errno) h k = absurd k
+
+    module _ (handled nine : ℕ) (sent : nine ≡ s1.sent) (end : End) (h : Ended s0 s1 p0 p1 TURNS handled end) where
+      t : Tree
+      t = linked n0.state.tree
+
+      leads : (bytes : List ℕ) → cut TURNS bytes ≡ record { frames = h.frames; end = end } → served t (cut TURNS bytes) ≡ (status_of end, report r1 (verdict_of end handled) last mount_table (min nine (2 ^ 64 - 1)))
+      leads bytes is =
+          let still : s1.faults ≡ s0.faults = omega (arith, same, e.faults, b.rises, h.answered.stays.rises) in
+          let below : s0.faults < 2 ^ 64 - 1 = omega (arith, same, zero, e.faults, b.rises, h.answered.stays.rises) in
+          let exact = Answered-exact s0 s1 h.frames h.replies h.answered still below in
+          let found : root_of t share_settings.root ≡ Ok b.root = subst (λ (s : Settings). root_of t s.root ≡ Ok b.root) settings b.found in
+          let set : s0.settings ≡ share_settings = b.settings ∙ settings in
+          let played : play_from s0.settings s0.state h.frames ≡ play_from share_settings (begun t b.root) h.frames = (λ j. play_from (set j) (b.state j) h.frames) in
+          let number : messages_from s0.settings s0.state h.frames ≡ messages_from share_settings (begun t b.root) h.frames = (λ j. messages_from (set j) (b.state j) h.frames) in
+          let replies : (play share_settings t b.root h.frames).0 ≡ r1 = sym (h.sent ∙ ap (λ r. r ++ h.replies) start ∙ exact.0 ∙ ap (λ (r : List ℕ × MachineState). r.0) played) in
+          let final : linked (play share_settings t b.root h.frames).1 ≡ last = sym (ended ∙ ap linked (e.tree ∙ ap (λ (m : MachineState). linked m.tree) (exact.1 ∙ ap (λ (r : List ℕ × MachineState). r.1) played))) in
+          let messages : min (total share_settings t b.root h.frames) (2 ^ 64 - 1) ≡ min nine (2 ^ 64 - 1) = omega (arith, exact.2, number, sent, b.sent, h.answered.sent) in
+          ap (λ (c : Cut). served t c) is
+          ∙ ap (λ (r : Result ℕ ℕ). attached t r (record { frames = h.frames; end = end })) found
+          ∙ (λ j. (status_of end, report (replies j) (verdict_of end (h.number j)) (final j) mount_table (messages j)))
+
+      leads_known : (left : Option (List ℕ)) → IfSome left (λ bytes. cut TURNS bytes ≡ record { frames = h.frames; end = end }) → IfSome left (λ bytes. served t (cut TURNS bytes) ≡ (status_of end, report r1 (verdict_of end handled) last mount_table (min nine (2 ^ 64 - 1))))
+      leads_known None is = tt
+      leads_known (Some bytes) is = leads bytes is
+
+    torn_by : (handled nine : ℕ) → nine ≡ s1.sent → in1 ≡ in0 → (end : End) → end ≢ done → Ended s0 s1 p0 p1 TURNS handled end → StoppedBy n0.state.tree left0 in0 in1 r1 last handled nine error.Torn
+    torn_by handled nine sent quiet done other h = absurd (other refl)
+    torn_by handled nine sent quiet turns_spent other h = (quiet, leads_known handled nine sent turns_spent h left0 h.cut)
+    torn_by handled nine sent quiet torn other h = (quiet, leads_known handled nine sent torn h left0 h.cut)
+    torn_by handled nine sent quiet bad_length other h = (quiet, leads_known handled nine sent bad_length h left0 h.cut)
+
+    stopped_by : (handled nine : ℕ) → nine ≡ s1.sent → (cause : PumpError) → StopsBy s0 s1 (Unit {0}) p0 p1 TURNS handled cause → StoppedBy n0.state.tree left0 in0 in1 r1 last handled nine cause
+    stopped_by handled nine sent error.Torn k = torn_by handled nine sent k.0.0 k.2.0 k.2.1 k.2.2
+    stopped_by handled nine sent error.Read k = k.0.0
+    stopped_by handled nine sent error.Write k = not_failed k.0.1
+    stopped_by handled nine sent error.NoMemory k = k.0.0
+    stopped_by handled nine sent (error.Attach errno) k = absurd k
+
+  -- the attach was refused
+  module _ (handled nine errno : ℕ) (none : handled ≡ 0) (one : nine ≡ 1) (still : p1 ≡ p0) (refused : AttachRefused n0 n1 errno) where
+    found : root_of (linked n0.state.tree) share_settings.root ≡ Err errno
+    found = ⊎_elim
+        (λ is. subst (λ (s : Settings). (if nat_le s.limit 0 then Err ENFILE else root_of (linked n0.state.tree) s.root) ≡ Err errno) settings is)
+        (λ rose. absurd (not_risen n0.faults n1.faults zero same rose.0))
+        refused.1
+
+    final : linked (linked n0.state.tree) ≡ last
+    final = sym (ended ∙ ap linked refused.0.tree)
+
+    refused_leads : (bytes : List ℕ) → served (linked n0.state.tree) (cut TURNS bytes) ≡ (status.Stopped, report r1 (verdict.Stopped (Attach errno) handled) last mount_table (min nine (2 ^ 64 - 1)))
+    refused_leads bytes =
+        let replies : [] ≡ r1 = sym (same_Some _ _ (ap (λ (p : Streams). p.sent) still) ∙ start) in
+        let messages : 1 ≡ min nine (2 ^ 64 - 1) = omega (arith, one) in
+        ap (λ (r : Result ℕ ℕ). attached (linked n0.state.tree) r (cut TURNS bytes)) found
+        ∙ (λ j. (status.Stopped, report (replies j) (verdict.Stopped (Attach errno) (none (~ j))) (final j) mount_table (messages j)))
+
+  over : {P : List ℕ → Type 0} (left : Option (List ℕ)) → ((bytes : List ℕ) → P bytes) → IfSome left P
+  over None h = tt
+  over (Some bytes) h = h bytes
+
+  shares_by : (result : Result Pumped Stopped) → PumpsBy n0 n1 p0 p1 TURNS result → SharesBy n0.state.tree left0 in0 in1 r1 last result
+  shares_by (Ok r) (s0, s1, b, e, sent, k) = (k.0.0, leads_known s0 s1 b e r.handled r.nine_frames sent done k.3 left0 k.3.cut)
+  shares_by (Err r) h = ⊎_elim
+      (λ b. stopped_by b.0 b.1 b.2 b.3 r.handled r.nine_frames b.4.0 r.cause b.4.1)
+      (λ other. ⊎_elim
+          (λ a. subst (λ (c : PumpError). StoppedBy n0.state.tree left0 in0 in1 r1 last r.handled r.nine_frames c) (sym a.2.1)
+              (ap (λ (p : Streams). p.read_faults) a.1, over left0 (refused_leads r.handled r.nine_frames a.2.0 a.0 a.2.2 a.1 a.2.3)))
+          (λ m. subst (λ (c : PumpError). StoppedBy n0.state.tree left0 in0 in1 r1 last r.handled r.nine_frames c) (sym m.2.0) (ap (λ (p : Streams). p.read_faults) m.1))
+          other)
+      h
+
+  files : (result : Result Pumped Stopped) → HasNoLinks n0.state.tree → PumpsBy n0 n1 p0 p1 TURNS result → IsReportable result last
+  files (Ok r) none (s0, s1, b, e, sent, k) = answered_files s0 s1 b e k.3.frames k.3.replies none k.3.answered
+  files (Err r) none h = ⊎_elim
+      (λ b. stopped_files b.0 b.1 b.2 b.3 r.handled r.cause none b.4.1)
+      (λ other. ⊎_elim
+          (λ a. subst (λ (c : PumpError). IsReportableAfter c last) (sym a.2.1) (subst HasNoLinks (sym ended) (linked_files n1.state.tree (subst HasNoLinks (sym a.2.3.0.tree) (linked_files n0.state.tree none)))))
+          (λ m. subst (λ (c : PumpError). IsReportableAfter c last) (sym m.2.0) tt)
+          other)
+      h
+
+  pub Shares-from : (result : Result Pumped Stopped) → HasNoLinks n0.state.tree → linked last ≡ last → PumpsBy n0 n1 p0 p1 TURNS result → Shares n0.state.tree left0 in0 in1 r1 last result
+  Shares-from result none whole h = record { answer = shares_by result h; whole = whole; files = files result none h }

@@ -12,3 +12,5 @@ pub mod Texts
 pub mod Walking
 pub mod Wrote
 pub mod Serving
+pub mod Outcome
+pub mod Running

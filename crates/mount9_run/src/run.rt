@@ -1,10 +1,19 @@
 //! The top call: words and a stream in, a report out.
-ghost use Rattle.std.specs.Prelude.{◌≡◌, IfOk, None};
+ghost use Rattle.std.specs.Prelude.{◌≡◌, ◌<◌, ◌^◌, IfOk, None, [], codes};
+ghost use Rattle.std.specs.FinMap as map;
+ghost use Rattle.tree_model.specs.Tree.{linked};
 ghost use Rattle.tree_host.specs.TreeHosts.{tree};
 ghost use Rattle.p9_server.specs.Configs.{config_refused, settings_of};
-ghost use Rattle.mount9_run.specs.HeaderViews.{IsFresh};
+ghost use Rattle.fuse_wire.specs.Cuts.{cut};
+ghost use Rattle.mount9_run.specs.HeaderViews.{IsFresh, header_view};
 ghost use Rattle.mount9_run.specs.Walking.{HasNoLinks};
-ghost use Rattle.mount9_run.specs.Serving.{IsReportable, share_settings};
+ghost use Rattle.mount9_run.specs.Wrote.{Wrote};
+ghost use Rattle.mount9_run.specs.ReportLines.{number_line};
+ghost use Rattle.mount9_run.specs.Report.{report};
+ghost use Rattle.mount9_run.specs.Outcome.{share_settings, mount_table, is_present, mount_refused, served, run_of, outcome};
+ghost use Rattle.mount9_run.specs.Running.{Ran, Tells, after_text};
+ghost use Rattle.mount9_run.specs.Serving.{Shares};
+ghost use Rattle.mount9_run.specs.declared.run.Status.TheVariants as status;
 
 use crate::command::{Command, WordsError, read_words};
 use crate::header::error::HeaderError;
@@ -34,9 +43,6 @@ pub const TURNS: u32 = 4096;
 /// The flags of the mount: `MS_NOSUID` and `MS_NODEV`.
 pub const MOUNT_FLAGS: u64 = 6;
 
-/// The table of mounts as it is printed, after `/proc/PID/mountinfo` of proc(5): the root file system alone.
-pub const MOUNT_TABLE: &[u8] = b"1 1 0:1 / / rw - rootfs rootfs rw\n";
-
 /// How a run went, by the number that is the program's exit status.
 #[derive(Clone, Copy, Debug, PartialEq, Eq)]
 pub enum Status {
@@ -56,8 +62,10 @@ pub enum Status {
     Output,
 }
 
-// The status after the text that belongs to it.
-fn after_text(status: Status, written: Result<(), SinkFault>) -> Status {
+// The answer after the text that goes with it.
+fn after_text(status: Status, written: Result<(), SinkFault>) -> Status
+    ensures { result ≡ after_text status written }
+{
     match written {
         Ok(()) => status,
         Err(SinkFault::Failed) => Status::Output,
@@ -65,34 +73,25 @@ fn after_text(status: Status, written: Result<(), SinkFault>) -> Status {
     }
 }
 
-// Whether mounts may stand on a path: the top, or a path that the header names.
-fn is_present(present: &Words, path: &[u8]) -> bool {
-    if same_path(path, b"/") {
-        return true;
-    }
-    for i in 0..present.len() {
-        if let Some(named) = present.get(i)
-            && same_path(path, named)
-        {
-            return true;
-        }
-    }
-    false
+// A text, and the answer that goes with it.
+fn tell<K: Sink>(out: &mut K, status: Status, text: &[u8]) -> Status
+    ensures { Tells (K.sent out.old) (K.sent out.new) (K.faults out.old) (K.faults out.new) status text.now result }
+{
+    let written = write_text(out, text);
+    after_text(status, written)
 }
 
-// The first refusal of the mount.
-fn mount_refused(header: &Header, target: &[u8]) -> Option<u32> {
-    if !is_present(&header.present, target) {
-        return Some(ENOENT);
-    }
-    if !header.permitted {
-        return Some(EPERM);
-    }
-    None
+// The line that tells the first refused line of a header.
+fn tell_line<K: Sink>(alloc: Global, out: &mut K, line: u64) -> Status
+    ensures { Tells (K.sent out.old) (K.sent out.new) (K.faults out.old) (K.faults out.new) status.Header (number_line (codes "header") line) result }
+{
+    let written = write_number_line(alloc, out, b"header", line);
+    after_text(Status::Header, written)
 }
 
-// A whole report: the replies, and the lines after them.
-fn report<K: Sink>(
+// A whole report.
+#[tactic(auto, unfolding(crate::specs::Report::report))]
+fn write_whole<K: Sink>(
     alloc: Global,
     out: &mut K,
     replies: &[u8],
@@ -101,12 +100,63 @@ fn report<K: Sink>(
     nine: u64,
 ) -> Result<(), SinkFault>
     requires { HasNoLinks (tree host.now) }
+    ensures { Wrote (K.sent out.old) (K.sent out.new) (K.faults out.old) (K.faults out.new) (report replies.now verdict (linked (tree host.now)) mount_table nine) result }
 {
     match write_replies(alloc, out, replies) {
         Ok(()) => {}
         Err(fault) => return Err(fault),
     }
-    write_report(alloc, out, verdict, host, MOUNT_TABLE, nine)
+    let table = b"1 1 0:1 / / rw - rootfs rootfs rw\n";
+    write_report(alloc, out, verdict, host, table, nine)
+}
+
+// A whole report, and the answer that goes with it.
+fn tell_report<K: Sink>(
+    alloc: Global,
+    out: &mut K,
+    status: Status,
+    replies: &[u8],
+    verdict: Verdict,
+    host: &TreeHost,
+    nine: u64,
+) -> Status
+    requires { HasNoLinks (tree host.now) }
+    ensures told { Tells (K.sent out.old) (K.sent out.new) (K.faults out.old) (K.faults out.new) status (report replies.now verdict (linked (tree host.now)) mount_table nine) result }
+    ensures range { nine < 2 ^ 64 }
+{
+    let written = write_whole(alloc, out, replies, verdict, host, nine);
+    after_text(status, written)
+}
+
+// Whether mounts may stand on a path: the top, or a path that the header names.
+fn is_present(target: &[u8], present: &Words) -> bool
+    ensures { result ≡ is_present target.now present.now }
+{
+    if same_path(target, b"/") {
+        return true;
+    }
+    'paths: for i in 0..present.len() {
+        let Some(path) = present.get(i) else {
+            unreachable!()
+        };
+        if same_path(target, path) {
+            return true;
+        }
+    }
+    false
+}
+
+// Why the target is not mounted on.
+fn mount_refused(target: &[u8], header: &Header) -> Option<u32>
+    ensures { result ≡ mount_refused target.now (header_view header.now) }
+{
+    if !is_present(target, &header.present) {
+        return Some(ENOENT);
+    }
+    if !header.permitted {
+        return Some(EPERM);
+    }
+    None
 }
 
 // How a share is set up.
@@ -122,94 +172,89 @@ fn share_config(alloc: Global) -> Result<Config, NoMemory>
     })
 }
 
-// A server of the tree, its requests from the input, and the tree in the end.
-fn share<S: Source>(
-    alloc: Global,
-    config: Config,
+// What a share leaves.
+#[derive(Drop)]
+struct Shared {
+    told: Result<Pumped, Stopped>,
     host: TreeHost,
-    input: &mut S,
-    replies: &mut MemSink,
-) -> (Result<Pumped, Stopped>, TreeHost)
+    replies: MemSink,
+}
+
+// A tree is served to the requests of the input.
+fn share<S: Source>(alloc: Global, config: Config, host: TreeHost, input: &mut S) -> Shared
     requires fresh { IsFresh host }
     requires files { HasNoLinks (tree host) }
+    requires settings { settings_of config ≡ share_settings }
     requires msize { config.msize ≡ 65560 }
     requires allowed { config_refused config.msize config.root.items ≡ None }
-    ensures files { IsReportable result.0 (tree result.1) }
+    ensures { Shares (tree host) (S.left input.old) (S.faults input.old) (S.faults input.new) result.replies.bytes.items (tree result.host) result.told }
 {
-    match Server::with_config(alloc, host, config) {
-        Ok(mut server) => {
-            let pumped = pump(alloc, &mut server, input, replies, TURNS);
-            (pumped, server.into_host())
-        }
-        Err(_) => unreachable!(),
+    let Ok(mut server) = Server::with_config(alloc, host, config) else {
+        unreachable!()
+    };
+    let mut replies = MemSink::new(alloc);
+    let told = pump(alloc, &mut server, input, &mut replies, TURNS);
+    let host = server.into_host();
+    Shared {
+        told,
+        host,
+        replies,
     }
 }
 
-// Serves a tree, and reports it.
-fn serve<S: Source, K: Sink>(alloc: Global, host: TreeHost, input: &mut S, out: &mut K) -> Status
+// A tree is served, and reported.
+fn serve<S: Source, K: Sink>(
+    alloc: Global,
+    host: TreeHost,
+    input: &mut S,
+    out: &mut K,
+) -> Status
     requires fresh { IsFresh host }
     requires files { HasNoLinks (tree host) }
+    ensures { Ran (λ bytes. served (linked (tree host)) (cut TURNS bytes)) (S.left input.old) (K.sent out.old) (K.sent out.new) (S.faults input.old) (S.faults input.new) (K.faults out.old) (K.faults out.new) result }
 {
     let Ok(config) = share_config(alloc) else {
         return Status::Memory;
     };
-    let mut replies = MemSink::new(alloc);
-    let (pumped, host) = share(alloc, config, host, input, &mut replies);
-    match pumped {
-        Ok(told) => {
+    let Shared {
+        told,
+        host,
+        replies,
+    } = share(alloc, config, host, input);
+    match told {
+        Ok(pumped) => {
             let verdict = Verdict::Served {
                 flags: MOUNT_FLAGS,
-                handled: told.handled,
+                handled: pumped.handled,
             };
-            let written = report(
-                alloc,
-                out,
-                replies.as_bytes(),
-                verdict,
-                &host,
-                told.nine_frames,
-            );
-            after_text(Status::Served, written)
+            let replies = replies.as_bytes();
+            tell_report(alloc, out, Status::Served, replies, verdict, &host, pumped.nine_frames)
         }
-        Err(told) => match told.cause {
+        Err(stopped) => match stopped.cause {
             PumpError::NoMemory => Status::Memory,
             PumpError::Read => Status::Input,
             PumpError::Write => unreachable!(),
             PumpError::Attach(errno) => {
                 let verdict = Verdict::Stopped {
                     cause: Cause::Attach(errno),
-                    handled: told.handled,
+                    handled: stopped.handled,
                 };
-                let written = report(
-                    alloc,
-                    out,
-                    replies.as_bytes(),
-                    verdict,
-                    &host,
-                    told.nine_frames,
-                );
-                after_text(Status::Stopped, written)
+                let replies = replies.as_bytes();
+                tell_report(alloc, out, Status::Stopped, replies, verdict, &host, stopped.nine_frames)
             }
             PumpError::Torn => {
                 let verdict = Verdict::Stopped {
                     cause: Cause::Torn,
-                    handled: told.handled,
+                    handled: stopped.handled,
                 };
-                let written = report(
-                    alloc,
-                    out,
-                    replies.as_bytes(),
-                    verdict,
-                    &host,
-                    told.nine_frames,
-                );
-                after_text(Status::Stopped, written)
+                let replies = replies.as_bytes();
+                tell_report(alloc, out, Status::Stopped, replies, verdict, &host, stopped.nine_frames)
             }
         },
     }
 }
 
-// Mounts the share, if the header allows it, and serves it.
+// A tree is served and reported, or the refused mount of it.
 fn mount<S: Source, K: Sink>(
     alloc: Global,
     target: &[u8],
@@ -219,41 +264,39 @@ fn mount<S: Source, K: Sink>(
 ) -> Status
     requires fresh { IsFresh header.host }
     requires files { HasNoLinks (tree header.host) }
+    ensures { Ran (run_of target.now (header_view header)) (S.left input.old) (K.sent out.old) (K.sent out.new) (S.faults input.old) (S.faults input.new) (K.faults out.old) (K.faults out.new) result }
 {
-    if let Some(errno) = mount_refused(&header, target) {
+    if let Some(errno) = mount_refused(target, &header) {
         let verdict = Verdict::Stopped {
             cause: Cause::Mount(errno),
             handled: 0,
         };
-        let written = report(alloc, out, &[], verdict, &header.host, 0);
-        return after_text(Status::Stopped, written);
+        return tell_report(alloc, out, Status::Stopped, &[], verdict, &header.host, 0);
     }
     serve(alloc, header.host, input, out)
 }
 
 /// Runs the program: `words` is the command line, `input` a header and the request frames behind it. The
-/// number is the exit status: that of `Status`. What is written is the report, or `words` or `header N` where
+/// number of the answer is the exit status. What is written is the report, or `words` or `header N` where
 /// these are refused; after want of memory or a failed stream a front of it.
-pub fn run<S: Source, K: Sink>(alloc: Global, words: &Words, input: &mut S, out: &mut K) -> Status {
+pub fn run<S: Source, K: Sink>(alloc: Global, words: &Words, input: &mut S, out: &mut K) -> Status
+    ensures ran { Ran (outcome words.now) (S.left input.old) (K.sent out.old) (K.sent out.new) (S.faults input.old) (S.faults input.new) (K.faults out.old) (K.faults out.new) result }
+{
     let Command::Serve { target, .. } = match read_words(alloc, words) {
         Ok(command) => command,
-        Err(WordsError::Words) => return after_text(Status::Words, write_text(out, b"words\n")),
+        Err(WordsError::Words) => return tell(out, Status::Words, b"words\n"),
         Err(WordsError::NoMemory) => return Status::Memory,
     };
     let mut text = Vec::new(alloc);
     match take_text(input, &mut text) {
         Ok(()) => {}
-        Err(TextError::NoEnd) => {
-            return after_text(Status::Header, write_number_line(alloc, out, b"header", 0));
-        }
+        Err(TextError::NoEnd) => return tell_line(alloc, out, 0),
         Err(TextError::Read) => return Status::Input,
         Err(TextError::NoMemory) => return Status::Memory,
     }
     match read_text(alloc, &text) {
         Ok(header) => mount(alloc, &target, header, input, out),
-        Err(HeaderError::Line(n)) => {
-            after_text(Status::Header, write_number_line(alloc, out, b"header", n))
-        }
+        Err(HeaderError::Line(line)) => tell_line(alloc, out, line),
         Err(HeaderError::NoMemory) => Status::Memory,
     }
 }

@@ -20,5 +20,5 @@ pub returns-in-Ok-clause-served : goal.returns-in-Ok-clause-served
 returns-in-Ok-clause-served g c =
     ok_map c.serve.result _ _
     (λ r served. served_body c.requires.stands (g.met.N.Nine.good c.args.nine.now) c.args.frame.now c.in-Ok.request.head.nodeid (plain c.in-Ok.request.body) c.serve.new.self (g.N.Nine.state c.serve.new.nine) (g.N.Nine.faults c.args.nine.now) (g.N.Nine.faults c.serve.new.nine) (g.N.Nine.asked c.args.nine.now) (g.N.Nine.asked c.serve.new.nine) _
-    (turn_of c.args.self.now.phase c.read-opcode.result c.args.frame.now true c.read-opcode.ensures c.if-not-is_in_turn.ensures) c.in-Ok.ensures.1 (ap (λ (h : Head). h.nodeid) c.in-Ok.ensures.0) served)
+    (turn_of c.args.self.now.phase c.read-opcode.result c.args.frame.now true c.read-opcode.ensures c.if-not-is_in_turn.ensures) c.in-Ok.ensures.asks (ap (λ (h : Head). h.nodeid) c.in-Ok.ensures.head) served)
     c.serve.ensures.served
