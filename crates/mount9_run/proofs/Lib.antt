@@ -15,3 +15,4 @@ pub mod WordSteps
 pub mod FinalTree
 pub mod Reporting
 pub mod Ran
+pub mod Presence

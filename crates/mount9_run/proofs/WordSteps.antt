@@ -8,7 +8,7 @@ use Rattle.mount9_run.specs.declared.command.WordsError.{WordsError}
 use Rattle.mount9_run.specs.declared.command.WordsError.TheVariants.{Words, NoMemory}
 use Rattle.mount9_run.specs.Command.{Draft, with_word, with_words}
 
-drop-get : {A : Type 0} (xs : List A) (i : ℕ) (x : A) → slice_get xs i ≡ Some x → drop i xs ≡ x ∷ drop (suc i) xs
+pub drop-get : {A : Type 0} (xs : List A) (i : ℕ) (x : A) → slice_get xs i ≡ Some x → drop i xs ≡ x ∷ drop (suc i) xs
 drop-get [] i x h = cc
 drop-get (y ∷ ys) zero x h = cc
 drop-get (y ∷ ys) (suc i) x h = drop-get ys i x h

@@ -1,0 +1,91 @@
+-- What a run answers and writes, where memory suffices and neither stream fails.
+use Rattle.std.specs.Prelude.{ℕ, ◌-◌, ◌^◌, min, List, [], length, Bool, false, not, ◌||◌, Option, Some, None, Result, Ok, Err, if◌then◌else◌, codes}
+use Rattle.std.specs.List.{list_any}
+use Rattle.std.specs.FinMap as map
+use Rattle.port_base.specs.Paths.{same_path}
+use Rattle.port_base.specs.declared.errno.TheConstants.{ENOENT, EPERM}
+use Rattle.tree_model.specs.Tree.{Tree, linked}
+use Rattle.tree_model.specs.Finding.{root_of}
+use Rattle.tree_model.specs.Settings.{Settings}
+use Rattle.fuse_wire.specs.Cuts.{Cut, cut, End}
+use Rattle.fuse_wire.specs.Cuts.End.{done, turns_spent, torn, bad_length}
+use Rattle.tree_machine.specs.Play.{play}
+use Rattle.tree_machine.specs.Messages.{total}
+use Rattle.mount9_run.specs.Command.{Serve, command}
+use Rattle.mount9_run.specs.Header.{HeaderRead, header}
+use Rattle.mount9_run.specs.ReportLines.{number_line}
+use Rattle.mount9_run.specs.Report.{report}
+use Rattle.mount9_run.specs.declared.report.verdict.Cause.{Cause}
+use Rattle.mount9_run.specs.declared.report.verdict.Cause.TheVariants.{Torn, Mount, Attach}
+use Rattle.mount9_run.specs.declared.report.verdict.Verdict.{Verdict}
+use Rattle.mount9_run.specs.declared.report.verdict.Verdict.TheVariants as verdict
+use Rattle.mount9_run.specs.declared.run.TheConstants.{TURNS, MOUNT_FLAGS}
+use Rattle.mount9_run.specs.declared.run.Status.{Status}
+use Rattle.mount9_run.specs.declared.run.Status.TheVariants as status
+
+-- the answer, and the text that is written
+abbrev pub Outcome : Type 0
+Outcome = Status × List ℕ
+
+-- the whole tree is shared, its owners as they are, with exact names, and up to 1024 fids
+abbrev pub share_settings : Settings
+share_settings = record { root = []; uid_map = map.empty; gid_map = map.empty; casefold = false; limit = 1024 }
+
+-- the table of mounts: the root file system alone
+abbrev pub mount_table : List ℕ
+mount_table = codes "1 1 0:1 / / rw - rootfs rootfs rw\n"
+
+-- the target is the root, or the header names it
+abbrev pub is_present : List ℕ → List (List ℕ) → Bool
+is_present target present = same_path target (codes "/") || list_any (λ path. same_path target path) present
+
+-- why the target is not mounted on
+abbrev pub mount_refused : List ℕ → HeaderRead → Option ℕ
+mount_refused target h = if not (is_present target h.present) then Some ENOENT else if not h.permitted then Some EPERM else None
+
+-- a report of the linked records of a tree
+abbrev pub told : List ℕ → Verdict → Tree → ℕ → List ℕ
+told replies verdict t nine = report replies verdict (linked t) mount_table nine
+
+abbrev pub status_of : End → Status
+status_of done = status.Served
+status_of turns_spent = status.Stopped
+status_of torn = status.Stopped
+status_of bad_length = status.Stopped
+
+-- every end but that of the input is told as torn
+abbrev pub verdict_of : End → ℕ → Verdict
+verdict_of done handled = verdict.Served MOUNT_FLAGS handled
+verdict_of turns_spent handled = verdict.Stopped Torn handled
+verdict_of torn handled = verdict.Stopped Torn handled
+verdict_of bad_length handled = verdict.Stopped Torn handled
+
+-- the replies of the machine, the tree that it leaves, and the messages that it takes, counted up to 2^64 - 1
+abbrev pub played : Tree → ℕ → Cut → Outcome
+played t root c =
+    (status_of c.end, told (play share_settings t root c.frames).0 (verdict_of c.end (length c.frames)) (play share_settings t root c.frames).1 (min (total share_settings t root c.frames) (2 ^ 64 - 1)))
+
+-- the share is attached to, if its root is a directory
+abbrev pub attached : Tree → Result ℕ ℕ → Cut → Outcome
+attached t (Err errno) c = (status.Stopped, told [] (verdict.Stopped (Attach errno) 0) t 1)
+attached t (Ok root) c = played t root c
+
+abbrev pub served : Tree → Cut → Outcome
+served t c = attached t (root_of t share_settings.root) c
+
+abbrev pub mounted : Tree → List ℕ → Option ℕ → Outcome
+mounted t rest (Some errno) = (status.Stopped, told [] (verdict.Stopped (Mount errno) 0) t 0)
+mounted t rest None = served (linked t) (cut TURNS rest)
+
+-- the run of what a header describes, on the bytes that follow it
+abbrev pub run_of : List ℕ → HeaderRead → List ℕ → Outcome
+run_of target h rest = mounted h.tree rest (mount_refused target h)
+
+abbrev pub outcome_by : Option Serve → Result (HeaderRead × List ℕ) ℕ → Outcome
+outcome_by None h = (status.Words, codes "words\n")
+outcome_by (Some s) (Err n) = (status.Header, number_line (codes "header") n)
+outcome_by (Some s) (Ok p) = run_of s.target p.0 p.1
+
+-- what these words do with these bytes of input
+abbrev pub outcome : List (List ℕ) → List ℕ → Outcome
+outcome words bytes = outcome_by (command words) (header bytes)
