@@ -16,3 +16,5 @@ pub mod FinalTree
 pub mod Reporting
 pub mod Ran
 pub mod Presence
+pub mod Told
+pub mod Mounting

@@ -1,5 +1,6 @@
 -- What a share tells and leaves, from what the run over its server does.
 use Rattle.std.proofs.Common.{◌≡◌, ◌≢◌, ◌⊎◌, ⊎_elim, ℕ, ◌+◌, ◌-◌, ◌^◌, ◌<◌, ◌≤◌, min, List, [], ◌++◌, length, Bool, true, false, cond, ◌||◌, IsSome, IsTrue, IfSome, Option, Some, None, Result, Ok, Err, refl, sym, ap, ◌∙◌, subst, arith, if◌then◌else◌, nat_le}
+use Rattle.std.proofs.lemmas.Bool.{false≢true}
 use Rattle.std.proofs.lemmas.Option.{same_Some}
 use Rattle.std.specs.FinMap.{get, retain_keys, empty}
 use Rattle.tree_model.specs.Tree.{Tree, Record, Records, linked, is_linked}
@@ -42,11 +43,11 @@ use Rattle.mount9_run.proofs.FinalTree.{linked_files, hurt_files}
 passes : (b : Bool) (o : Option Record) → (IsSome o → b ≡ true) → cond b o None ≡ o
 passes true o h = refl
 passes false None h = refl
-passes false (Some r) h = absurd cc
+passes false (Some r) h = absurd (false≢true (h refl))
 
 or_none : (b c : Bool) → c ≡ false → (b || c) ≡ true → b ≡ true
 or_none true c n h = refl
-or_none false c n h = absurd cc
+or_none false c n h = absurd (false≢true (sym n ∙ h))
 
 not_held : (q : ℕ) → is_held empty q ≡ false
 not_held q = ap (nat_lt 0) (hold_count-empty q)
@@ -59,18 +60,18 @@ linked_whole t h none stored = ap (λ (rs : Records). let u : Tree = record t { 
 -- ---- counts of faults that stand at 0
 
 not_failed : Faulted 0 0 → ⊥
-not_failed f = absurd (cc)
+not_failed f = absurd (omega (arith, f.1))
 
 not_risen : (a b : ℕ) → a ≡ 0 → b ≡ a → Rose a b → ⊥
-not_risen a b z n f = absurd (cc)
+not_risen a b z n f = absurd (omega (arith, z, n, f))
 
 -- ---- a share of a tree by a server that has never failed, with what it was sent in memory
 
 module _ (n0 n1 : Served) (settings : n0.state.settings ≡ share_settings) (zero : n0.faults ≡ 0) (same : n1.faults ≡ n0.faults) (left0 left1 : Option (List ℕ)) (r0 r1 : List ℕ) (in0 in1 : ℕ) (start : r0 ≡ []) (last : Tree) (ended : last ≡ linked n1.state.tree) where
-  p0 : Streams
+  abbrev p0 : Streams
   p0 = record { left = left0; sent = Some r0; read_faults = in0; write_faults = 0 }
 
-  p1 : Streams
+  abbrev p1 : Streams
   p1 = record { left = left1; sent = Some r1; read_faults = in1; write_faults = 0 }
 
   module _ (s0 s1 : Session) (b : Opens n0 s0) (e : Closes s1 n1) where
@@ -88,7 +89,7 @@ module _ (n0 n1 : Served) (settings : n0.state.settings ≡ share_settings) (zer
     stopped_files handled (error.Attach errno) h k = absurd k
 
     module _ (handled nine : ℕ) (sent : nine ≡ s1.sent) (end : End) (h : Ended s0 s1 p0 p1 TURNS handled end) where
-      t : Tree
+      abbrev t : Tree
       t = linked n0.state.tree
 
       leads : (bytes : List ℕ) → cut TURNS bytes ≡ record { frames = h.frames; end = end } → served t (cut TURNS bytes) ≡ (status_of end, report r1 (verdict_of end handled) last mount_table (min nine (2 ^ 64 - 1)))
@@ -140,14 +141,14 @@ module _ (n0 n1 : Served) (settings : n0.state.settings ≡ share_settings) (zer
         let replies : [] ≡ r1 = sym (same_Some _ _ (ap (λ (p : Streams). p.sent) still) ∙ start) in
         let messages : 1 ≡ min nine (2 ^ 64 - 1) = omega (arith, one) in
         ap (λ (r : Result ℕ ℕ). attached (linked n0.state.tree) r (cut TURNS bytes)) found
-        ∙ (λ j. (status.Stopped, report (replies j) (verdict.Stopped (Attach errno) (none (~ j))) (final j) mount_table (messages j)))
+        ∙ (λ j. (status.Stopped, report (replies j) (verdict.Stopped (Attach errno) (sym none j)) (final j) mount_table (messages j)))
 
   over : {P : List ℕ → Type 0} (left : Option (List ℕ)) → ((bytes : List ℕ) → P bytes) → IfSome left P
   over None h = tt
   over (Some bytes) h = h bytes
 
   shares_by : (result : Result Pumped Stopped) → PumpsBy n0 n1 p0 p1 TURNS result → SharesBy n0.state.tree left0 in0 in1 r1 last result
-  shares_by (Ok r) (s0, s1, b, e, sent, k) = (k.0.0, leads_known s0 s1 b e r.handled r.nine_frames sent done k.3 left0 k.3.cut)
+  shares_by (Ok r) (s0, s1, b, e, k) = (k.1.0.0, leads_known s0 s1 b e r.handled r.nine_frames k.0 done k.1.3 left0 k.1.3.cut)
   shares_by (Err r) h = ⊎_elim
       (λ b. stopped_by b.0 b.1 b.2 b.3 r.handled r.nine_frames b.4.0 r.cause b.4.1)
       (λ other. ⊎_elim
@@ -158,7 +159,7 @@ module _ (n0 n1 : Served) (settings : n0.state.settings ≡ share_settings) (zer
       h
 
   files : (result : Result Pumped Stopped) → HasNoLinks n0.state.tree → PumpsBy n0 n1 p0 p1 TURNS result → IsReportable result last
-  files (Ok r) none (s0, s1, b, e, sent, k) = answered_files s0 s1 b e k.3.frames k.3.replies none k.3.answered
+  files (Ok r) none (s0, s1, b, e, k) = answered_files s0 s1 b e k.1.3.frames k.1.3.replies none k.1.3.answered
   files (Err r) none h = ⊎_elim
       (λ b. stopped_files b.0 b.1 b.2 b.3 r.handled r.cause none b.4.1)
       (λ other. ⊎_elim

@@ -1,0 +1,63 @@
+-- A run on a header that was read, and the ways to end before.
+use Rattle.std.proofs.Common.{◌≡◌, ℕ, List, [], ◌++◌, IfSome, Some, None, Result, Ok, Err, refl, sym, ap, ◌∙◌, subst}
+use Rattle.std.specs.Prelude.{codes}
+use Rattle.std.specs.declared.option.Option.{Option}
+use Rattle.std.specs.Io.KnownBytes.{Consumes}
+use Rattle.tree_model.specs.Tree.{linked}
+use Rattle.fuse_wire.specs.Cuts.{cut}
+use Rattle.mount9_run.specs.Command.{Serve, command}
+use Rattle.mount9_run.specs.Header.{HeaderRead, header, header_by, header_of, with_rest, text_of}
+use Rattle.mount9_run.specs.Reading.{lines_of}
+use Rattle.mount9_run.specs.ReportLines.{number_line}
+use Rattle.mount9_run.specs.Report.{report}
+use Rattle.mount9_run.specs.Outcome.{Outcome, mount_refused, mount_table, mounted, served, run_of, outcome, outcome_by}
+use Rattle.mount9_run.specs.Running.{Ran, Tells}
+use Rattle.mount9_run.specs.declared.report.verdict.Cause.TheVariants.{Mount}
+use Rattle.mount9_run.specs.declared.report.verdict.Verdict.TheVariants as verdict
+use Rattle.mount9_run.specs.declared.run.TheConstants.{TURNS}
+use Rattle.mount9_run.specs.declared.run.Status.{Status}
+use Rattle.mount9_run.specs.declared.run.Status.TheVariants as status
+use Rattle.mount9_run.proofs.Ran.{Ran-told, Ran-later, Ran-alike, always}
+
+-- ---- the mount
+
+module _ (target : List ℕ) (h : HeaderRead) (left s0 s1 : Option (List ℕ)) (in0 in1 out0 out1 : ℕ) (answer : Status) where
+  pub Ran-unmounted : (errno : ℕ) → mount_refused target h ≡ Some errno → in1 ≡ in0 → Tells s0 s1 out0 out1 status.Stopped (report [] (verdict.Stopped (Mount errno) 0) (linked h.tree) mount_table 0) answer → Ran (run_of target h) left s0 s1 in0 in1 out0 out1 answer
+  Ran-unmounted errno is same tells = Ran-told (run_of target h) s0 s1 in0 in1 out0 out1 left status.Stopped (report [] (verdict.Stopped (Mount errno) 0) (linked h.tree) mount_table 0) answer tt same (always left (λ bytes. ap (mounted h.tree bytes) is)) tells
+
+  pub Ran-mounted : mount_refused target h ≡ None → Ran (λ bytes. served (linked h.tree) (cut TURNS bytes)) left s0 s1 in0 in1 out0 out1 answer → Ran (run_of target h) left s0 s1 in0 in1 out0 out1 answer
+  Ran-mounted is ran = Ran-alike (run_of target h) (λ bytes. served (linked h.tree) (cut TURNS bytes)) left s0 s1 in0 in1 out0 out1 answer (λ bytes. sym (ap (mounted h.tree bytes) is)) ran
+
+-- ---- the words
+
+pub Ran-words : (words : List (List ℕ)) (left s0 s1 : Option (List ℕ)) (in0 out0 out1 : ℕ) (answer : Status) → command words ≡ None → Tells s0 s1 out0 out1 status.Words (codes "words\n") answer → Ran (outcome words) left s0 s1 in0 in0 out0 out1 answer
+Ran-words words left s0 s1 in0 out0 out1 answer is tells = Ran-told (outcome words) s0 s1 in0 in0 out0 out1 left status.Words (codes "words\n") answer tt refl (always left (λ bytes. ap (λ o. outcome_by o (header bytes)) is)) tells
+
+-- ---- the header
+
+module _ (words : List (List ℕ)) (s : Serve) (is : command words ≡ Some s) where
+  leads_to : (text rest : List ℕ) (read : Result HeaderRead ℕ) → text_of (text ++ rest) ≡ Some (text, rest) → header_of (lines_of text) ≡ read → outcome words (text ++ rest) ≡ outcome_by (Some s) (with_rest rest read)
+  unfolding header
+  leads_to text rest read whole told = (λ j. outcome_by (is j) (header_by (whole j))) ∙ ap (λ (r : Result HeaderRead ℕ). outcome_by (Some s) (with_rest rest r)) told
+
+  endless : (bytes : List ℕ) → text_of bytes ≡ None → outcome words bytes ≡ (status.Header, number_line (codes "header") 0)
+  unfolding header
+  endless bytes none = (λ j. outcome_by (is j) (header_by (none j)))
+
+  module _ (l0 l1 s0 s1 : Option (List ℕ)) (in0 in1 out0 out1 : ℕ) (answer : Status) where
+    no_end : (left : Option (List ℕ)) → IfSome left (λ bytes. text_of bytes ≡ None) → IfSome left (λ bytes. outcome words bytes ≡ (status.Header, number_line (codes "header") 0))
+    no_end None h = tt
+    no_end (Some bytes) h = endless bytes h
+
+    pub Ran-endless : in1 ≡ in0 → IfSome l0 (λ bytes. text_of bytes ≡ None) → Tells s0 s1 out0 out1 status.Header (number_line (codes "header") 0) answer → Ran (outcome words) l0 s0 s1 in0 in1 out0 out1 answer
+    Ran-endless same none tells = Ran-told (outcome words) s0 s1 in0 in1 out0 out1 l0 status.Header (number_line (codes "header") 0) answer tt same (no_end l0 none) tells
+
+    module _ (text : List ℕ) (taken : Consumes l0 l1 text) (whole : (rest : List ℕ) → text_of (text ++ rest) ≡ Some (text, rest)) where
+      pub Ran-line : (line : ℕ) → header_of (lines_of text) ≡ Err line → in1 ≡ in0 → Tells s0 s1 out0 out1 status.Header (number_line (codes "header") line) answer → Ran (outcome words) l0 s0 s1 in0 in1 out0 out1 answer
+      Ran-line line read same tells =
+          Ran-later (outcome words) (λ rest. (status.Header, number_line (codes "header") line)) text (λ rest. leads_to text rest (Err line) (whole rest) read) l0 l1 s0 s1 in1 in1 out0 out1 taken in0 same answer
+          (Ran-told (λ rest. (status.Header, number_line (codes "header") line)) s0 s1 in1 in1 out0 out1 l1 status.Header (number_line (codes "header") line) answer tt refl (always l1 (λ bytes. refl)) tells)
+
+      pub Ran-header : (h : HeaderRead) (between : ℕ) → header_of (lines_of text) ≡ Ok h → between ≡ in0 → Ran (run_of s.target h) l1 s0 s1 between in1 out0 out1 answer → Ran (outcome words) l0 s0 s1 in0 in1 out0 out1 answer
+      Ran-header h between read same ran =
+          Ran-later (outcome words) (run_of s.target h) text (λ rest. leads_to text rest (Ok h) (whole rest) read) l0 l1 s0 s1 between in1 out0 out1 taken in0 same answer ran
