@@ -3,3 +3,4 @@ mod Answering
 mod Names
 mod Settled
 mod Attaching
+pub mod Only
