@@ -7,6 +7,8 @@ pub mod frame;
 mod framed;
 pub mod kind;
 pub mod message;
+#[cfg(test)]
+mod tests;
 
 pub use dirent::Dirent;
 pub use frame::Rframe;
