@@ -10,7 +10,4 @@ pub mod message;
 
 pub use dirent::Dirent;
 pub use frame::Rframe;
-pub use message::{
-    Rattach, Rauth, Rgetattr, Rgetlock, Rlcreate, Rlerror, Rlock, Rlopen, Rmessage, Rmkdir, Rmknod,
-    Rread, Rreaddir, Rreadlink, Rstatfs, Rsymlink, Rversion, Rwalk, Rwrite, Rxattrwalk,
-};
+pub use message::{Rattach, Rgetattr, Rlerror, Rmessage, Rwalk};

@@ -8,8 +8,4 @@ pub mod kind;
 pub mod message;
 
 pub use frame::Tframe;
-pub use message::{
-    Tattach, Tauth, Tclunk, Tflush, Tfsync, Tgetattr, Tgetlock, Tlcreate, Tlink, Tlock, Tlopen,
-    Tmessage, Tmkdir, Tmknod, Tread, Treaddir, Treadlink, Tremove, Trename, Trenameat, Tsetattr,
-    Tstatfs, Tsymlink, Tunlinkat, Tversion, Twalk, Twrite, Txattrcreate, Txattrwalk,
-};
+pub use message::{Tattach, Tclunk, Tgetattr, Tmessage, Twalk};
