@@ -9,7 +9,8 @@ use std::env;
 use std::io::{self, BufReader};
 use std::process::ExitCode;
 
-const HELP: &str = "usage: mount9 serve target=PATH root=/\nReads a header and FUSE request frames from standard input, and writes a report.\n";
+const HELP: &str =
+    "usage: mount9 serve target=PATH root=/\nReads a header and FUSE request frames from standard input, and writes a report.\n";
 
 const VERSION: &str = "mount9 0.1.0\n";
 

@@ -152,10 +152,10 @@ module _ (n0 n1 : Served) (settings : n0.state.settings ≡ share_settings) (zer
   shares_by (Err r) h = ⊎_elim
       (λ b. stopped_by b.0 b.1 b.2 b.3 r.handled r.nine_frames b.4.0 r.cause b.4.1)
       (λ other. ⊎_elim
-          (λ a. subst (λ (c : PumpError). StoppedBy n0.state.tree left0 in0 in1 r1 last r.handled r.nine_frames c) (sym a.2.1)
-              (ap (λ (p : Streams). p.read_faults) a.1, over left0 (refused_leads r.handled r.nine_frames a.2.0 a.0 a.2.2 a.1 a.2.3)))
-          (λ m. subst (λ (c : PumpError). StoppedBy n0.state.tree left0 in0 in1 r1 last r.handled r.nine_frames c) (sym m.2) (ap (λ (p : Streams). p.read_faults) m.1))
-          other)
+      (λ a. subst (λ (c : PumpError). StoppedBy n0.state.tree left0 in0 in1 r1 last r.handled r.nine_frames c) (sym a.2.1)
+      (ap (λ (p : Streams). p.read_faults) a.1, over left0 (refused_leads r.handled r.nine_frames a.2.0 a.0 a.2.2 a.1 a.2.3)))
+      (λ m. subst (λ (c : PumpError). StoppedBy n0.state.tree left0 in0 in1 r1 last r.handled r.nine_frames c) (sym m.2) (ap (λ (p : Streams). p.read_faults) m.1))
+      other)
       h
 
   files : (result : Result Pumped Stopped) → HasNoLinks n0.state.tree → PumpsBy n0 n1 p0 p1 TURNS result → IsReportable result last
@@ -163,9 +163,9 @@ module _ (n0 n1 : Served) (settings : n0.state.settings ≡ share_settings) (zer
   files (Err r) none h = ⊎_elim
       (λ b. stopped_files b.0 b.1 b.2 b.3 r.handled r.cause none b.4.1)
       (λ other. ⊎_elim
-          (λ a. subst (λ (c : PumpError). IsReportableAfter c last) (sym a.2.1) (subst HasNoLinks (sym ended) (linked_files n1.state.tree (subst HasNoLinks (sym a.2.3.0.tree) (linked_files n0.state.tree none)))))
-          (λ m. subst (λ (c : PumpError). IsReportableAfter c last) (sym m.2) tt)
-          other)
+      (λ a. subst (λ (c : PumpError). IsReportableAfter c last) (sym a.2.1) (subst HasNoLinks (sym ended) (linked_files n1.state.tree (subst HasNoLinks (sym a.2.3.0.tree) (linked_files n0.state.tree none)))))
+      (λ m. subst (λ (c : PumpError). IsReportableAfter c last) (sym m.2) tt)
+      other)
       h
 
   pub Shares-from : (result : Result Pumped Stopped) → HasNoLinks n0.state.tree → linked last ≡ last → PumpsBy n0 n1 p0 p1 TURNS result → Shares n0.state.tree left0 in0 in1 r1 last result

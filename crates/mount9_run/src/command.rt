@@ -92,6 +92,17 @@ fn read_keys(alloc: Global, words: &Words) -> Result<DraftWords, WordsError>
     Ok(draft)
 }
 
+impl Command {
+    /// The path to mount on.
+    pub fn target(&self) -> &[u8]
+        ensures { result.now ≡ (serve_view self.now).target }
+    {
+        match self {
+            Command::Serve { target, .. } => target.as_slice(),
+        }
+    }
+}
+
 fn finish(draft: DraftWords) -> Result<Command, WordsError>
     ensures { GivesWords serve_view result (finished (draft_view draft)) }
 {

@@ -15,7 +15,7 @@ ghost use Rattle.mount9_run.specs.Running.{Ran, Tells, after_text};
 ghost use Rattle.mount9_run.specs.Serving.{Shares};
 ghost use Rattle.mount9_run.specs.declared.run.Status.TheVariants as status;
 
-use crate::command::{Command, WordsError, read_words};
+use crate::command::{WordsError, read_words};
 use crate::header::error::HeaderError;
 use crate::header::text::{TextError, take_text};
 use crate::header::{Header, read_text};
@@ -203,12 +203,7 @@ fn share<S: Source>(alloc: Global, config: Config, host: TreeHost, input: &mut S
 }
 
 // A tree is served, and reported.
-fn serve<S: Source, K: Sink>(
-    alloc: Global,
-    host: TreeHost,
-    input: &mut S,
-    out: &mut K,
-) -> Status
+fn serve<S: Source, K: Sink>(alloc: Global, host: TreeHost, input: &mut S, out: &mut K) -> Status
     requires fresh { IsFresh host }
     requires files { HasNoLinks (tree host) }
     ensures { Ran (λ bytes. served (linked (tree host)) (cut TURNS bytes)) (S.left input.old) (K.sent out.old) (K.sent out.new) (S.faults input.old) (S.faults input.new) (K.faults out.old) (K.faults out.new) result }
@@ -228,7 +223,15 @@ fn serve<S: Source, K: Sink>(
                 handled: pumped.handled,
             };
             let replies = replies.as_bytes();
-            tell_report(alloc, out, Status::Served, replies, verdict, &host, pumped.nine_frames)
+            tell_report(
+                alloc,
+                out,
+                Status::Served,
+                replies,
+                verdict,
+                &host,
+                pumped.nine_frames,
+            )
         }
         Err(stopped) => match stopped.cause {
             PumpError::NoMemory => Status::Memory,
@@ -240,7 +243,15 @@ fn serve<S: Source, K: Sink>(
                     handled: stopped.handled,
                 };
                 let replies = replies.as_bytes();
-                tell_report(alloc, out, Status::Stopped, replies, verdict, &host, stopped.nine_frames)
+                tell_report(
+                    alloc,
+                    out,
+                    Status::Stopped,
+                    replies,
+                    verdict,
+                    &host,
+                    stopped.nine_frames,
+                )
             }
             PumpError::Torn => {
                 let verdict = Verdict::Stopped {
@@ -248,7 +259,15 @@ fn serve<S: Source, K: Sink>(
                     handled: stopped.handled,
                 };
                 let replies = replies.as_bytes();
-                tell_report(alloc, out, Status::Stopped, replies, verdict, &host, stopped.nine_frames)
+                tell_report(
+                    alloc,
+                    out,
+                    Status::Stopped,
+                    replies,
+                    verdict,
+                    &host,
+                    stopped.nine_frames,
+                )
             }
         },
     }
@@ -282,7 +301,7 @@ fn mount<S: Source, K: Sink>(
 pub fn run<S: Source, K: Sink>(alloc: Global, words: &Words, input: &mut S, out: &mut K) -> Status
     ensures ran { Ran (outcome words.now) (S.left input.old) (K.sent out.old) (K.sent out.new) (S.faults input.old) (S.faults input.new) (K.faults out.old) (K.faults out.new) result }
 {
-    let Command::Serve { target, .. } = match read_words(alloc, words) {
+    let command = match read_words(alloc, words) {
         Ok(command) => command,
         Err(WordsError::Words) => return tell(out, Status::Words, b"words\n"),
         Err(WordsError::NoMemory) => return Status::Memory,
@@ -295,7 +314,7 @@ pub fn run<S: Source, K: Sink>(alloc: Global, words: &Words, input: &mut S, out:
         Err(TextError::NoMemory) => return Status::Memory,
     }
     match read_text(alloc, &text) {
-        Ok(header) => mount(alloc, &target, header, input, out),
+        Ok(header) => mount(alloc, command.target(), header, input, out),
         Err(HeaderError::Line(line)) => tell_line(alloc, out, line),
         Err(HeaderError::NoMemory) => Status::Memory,
     }

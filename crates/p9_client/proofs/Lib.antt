@@ -3,4 +3,3 @@ mod Answering
 mod Names
 mod Settled
 mod Attaching
-pub mod Only

@@ -1,5 +1,3 @@
 // The fields of each message, one after another.
 mod attributes;
-mod files;
-mod names;
 mod session;

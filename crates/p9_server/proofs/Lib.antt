@@ -14,4 +14,3 @@ pub mod Releasing
 pub mod Replying
 pub mod RootLaws
 pub mod Emptying
-pub mod Unserved

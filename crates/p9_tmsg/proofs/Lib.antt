@@ -1,2 +1,0 @@
-pub mod CountingFrames
-pub mod Examples

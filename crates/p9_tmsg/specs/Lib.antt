@@ -1,4 +1,3 @@
 pub mod Messages
 pub mod MessageLaws
 pub mod Frames
-pub mod Counting

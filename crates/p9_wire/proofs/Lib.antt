@@ -1,3 +1,2 @@
-pub mod Framing
 pub mod Loops
-pub mod Pieces
+pub mod Framing

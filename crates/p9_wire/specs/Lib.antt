@@ -10,5 +10,3 @@ pub mod FrameLaws
 pub mod Qids
 pub mod Values
 pub mod Kinds
-pub mod Rows
-pub mod Counting
