@@ -1,11 +1,11 @@
 -- The definitions at examples.
-use Rattle.std.proofs.Common.{◌≡◌, [], ◌∷◌, Some, Err, refl}
+use Rattle.std.proofs.Common.{◌≡◌, ℕ, List, [], ◌∷◌, Some, Err, refl}
 use Rattle.std.specs.Prelude.{codes}
 use Rattle.std.specs.Fmt.{digits}
 use Rattle.port_base.specs.Escapes.{escaped}
 use Rattle.tree_model.specs.declared.attributes.Kind.{Kind}
 use Rattle.tree_model.specs.declared.attributes.Stamp.{Stamp}
-use Rattle.mount9_run.specs.ReportLines.{entry_line, directory_line, stamp_text, mode_text}
+use Rattle.mount9_run.specs.ReportLines.{entry_line, directory_line, number_line, stamp_text, mode_text}
 use Rattle.mount9_run.specs.Texts.{split_once}
 use Rattle.mount9_run.specs.Paths.{is_path}
 use Rattle.mount9_run.specs.Header.{header, text_of, text_from, header_of, start_at}
@@ -13,6 +13,8 @@ use Rattle.mount9_run.specs.HeaderLines.{stamp_at}
 use Rattle.mount9_run.specs.Numbers.{number_field}
 use Rattle.mount9_run.specs.Reading.{lines_of, keyword_at, after_word, field_at}
 use Rattle.mount9_run.specs.Command.{with_word, with_words, command}
+use Rattle.mount9_run.specs.Outcome.{outcome}
+use Rattle.mount9_run.specs.declared.run.Status.TheVariants as status
 
 pub command_example : command (codes "serve" ∷ codes "target=/mnt" ∷ codes "root=/" ∷ []) ≡ Some (record { target = codes "/mnt"; root = codes "/" })
 unfolding command with_words with_word split_once is_path
@@ -39,3 +41,11 @@ pub directory_example : (kind : Kind) (born : Stamp) → stamp_text born ≡ cod
     ≡ codes "dir 1 0755 0 0 2 1600000000.000000005 1600000000.000000005 1600000000.000000005 1 2\n"
 unfolding directory_line mode_text digits
 directory_example kind born h = rw h refl
+
+pub words_outcome : (bytes : List ℕ) → outcome (codes "serve" ∷ codes "target=/mnt" ∷ []) bytes ≡ (status.Words, codes "words\n")
+unfolding command with_words with_word split_once is_path
+words_outcome bytes = refl
+
+pub header_outcome : outcome (codes "serve" ∷ codes "target=/mnt" ∷ codes "root=/" ∷ []) (codes "mount9 1\nmoment 1700000000\nend\n") ≡ (status.Header, codes "header 2\n")
+unfolding command with_words with_word split_once is_path header text_of text_from header_of lines_of start_at stamp_at keyword_at after_word field_at number_field number_line digits
+header_outcome = refl

@@ -1,9 +1,11 @@
 //! The definitions of this crate at examples. Each function makes no call: its contract is the example.
-ghost use Rattle.std.specs.Prelude.{◌≡◌, [], ◌∷◌, codes, Some, Err};
+ghost use Rattle.std.specs.Prelude.{◌≡◌, ℕ, List, [], ◌∷◌, codes, Some, Err};
 ghost use Rattle.tree_model.specs.declared.attributes.Kind.{Kind};
 ghost use Rattle.tree_model.specs.declared.attributes.Stamp.{Stamp};
 ghost use Rattle.mount9_run.specs.Command.{command};
 ghost use Rattle.mount9_run.specs.Header.{header};
+ghost use Rattle.mount9_run.specs.Outcome.{outcome};
+ghost use Rattle.mount9_run.specs.declared.run.Status.TheVariants as status;
 ghost use Rattle.mount9_run.specs.ReportLines.{entry_line, directory_line, stamp_text};
 
 /// A share of the whole tree at `/mnt`.
@@ -40,4 +42,16 @@ pub fn a_directory_of_one_entry()
 #[tactic(auto, using(crate::proofs::ByComputing::stamp_example))]
 pub fn a_moment_of_five_nanoseconds()
     ensures { stamp_text (record { sec = 1600000000; nsec = 5 }) ≡ codes "1600000000.000000005" }
+{}
+
+/// Words without a root are refused, whatever the input.
+#[tactic(auto, using(crate::proofs::ByComputing::words_outcome))]
+pub fn words_without_a_root()
+    ensures { (bytes : List ℕ) → outcome (codes "serve" ∷ codes "target=/mnt" ∷ []) bytes ≡ (status.Words, codes "words\n") }
+{}
+
+/// A run on a header that is refused tells the line.
+#[tactic(auto, using(crate::proofs::ByComputing::header_outcome))]
+pub fn a_run_on_a_refused_header()
+    ensures { outcome (codes "serve" ∷ codes "target=/mnt" ∷ codes "root=/" ∷ []) (codes "mount9 1\nmoment 1700000000\nend\n") ≡ (status.Header, codes "header 2\n") }
 {}
