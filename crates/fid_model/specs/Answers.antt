@@ -2,7 +2,7 @@
 use Rattle.std.specs.Prelude.{◌≡◌, ℕ, ◌+◌, ◌<◌, ◌≤◌, Bool, true, false, ◌&&◌, not, List, [], ◌∷◌, length, Option, Some, None, Result, Ok, Err, if◌then◌else◌, ◌==◌, nat_lt, nat_le, is_some}
 use Rattle.std.specs.FinMap as map
 use Rattle.port_base.specs.Names.{name_fault}
-use Rattle.port_base.specs.declared.errno.TheConstants.{ENOENT, EBADF, EINVAL, ENFILE}
+use Rattle.port_base.specs.declared.errno.TheConstants.{ENOENT, EBADF, EINVAL, ENFILE, EOPNOTSUPP}
 use Rattle.tree_model.specs.Tree.{Tree}
 use Rattle.tree_model.specs.Finding.{find, root_of}
 use Rattle.tree_model.specs.Attributes.{Qid, qid_of, stat_of, blocks_of}
@@ -117,13 +117,14 @@ abbrev pub clunk_by : ServerState → ℕ → Option Fid → Reply × ServerStat
 clunk_by s fid None = (r_lerror EBADF, s)
 clunk_by s fid (Some f) = (r_clunk, record s { fids = map.remove s.fids fid })
 
--- ---- all messages
+-- ---- all messages; one that isn't served yet is EOPNOTSUPP
 
 abbrev pub core : ServerState → Message → Reply × ServerState
 core s (t_attach fid afid uname aname n_uname) = attach_core s fid
 core s (t_walk fid newfid wnames) = walk_core s fid newfid wnames
 core s (t_getattr fid request_mask) = (getattr_by s (map.get s.fids fid), s)
 core s (t_clunk fid) = clunk_by s fid (map.get s.fids fid)
+core s _ = (r_lerror EOPNOTSUPP, s)
 
 -- the reply to a message, and the state after it
 abbrev pub answer : ServerState → Message → Reply × ServerState

@@ -5,7 +5,7 @@ use Rattle.port_base.specs.Faults.{Rose}
 use Rattle.port_base.specs.declared.errno.TheConstants.{EIO, ENFILE}
 use Rattle.tree_model.specs.Finding.{find, root_of}
 use Rattle.tree_model.specs.Attributes.{Qid, stat_of}
-use Rattle.tree_model.specs.Settings.{Settings, shown_of}
+use Rattle.tree_model.specs.Settings.{Settings, shown_told}
 use Rattle.tree_model.specs.declared.attributes.Attr.{Attr}
 use Rattle.fid_model.specs.Fids.{ServerState, settled, closed}
 use Rattle.fid_model.specs.Answers.{qid_at}
@@ -26,10 +26,6 @@ walk_one_told s dir newfid name = named s newfid (find s.settings.casefold s.tre
 -- an attach to a server without fids
 abbrev pub attach_told : ServerState → ℕ → Result Qid ℕ × ServerState
 attach_told s fid = if nat_le s.settings.limit 0 then (Err ENFILE, s) else named s fid (root_of s.tree s.settings.root)
-
-abbrev pub shown_told : Settings → Result Attr ℕ → Result Attr ℕ
-shown_told settings (Ok a) = Ok (shown_of settings a)
-shown_told settings (Err e) = Err e
 
 -- what is shown of an inode
 abbrev pub getattr_told : ServerState → ℕ → Result Attr ℕ × ServerState

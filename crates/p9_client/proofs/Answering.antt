@@ -96,7 +96,7 @@ module _ (s : ServerState) (g : IsGoodServer s) (fid newfid : ℕ) (name : List 
   walk_asked r s1 f0 f1 o =
       ⊎_elim (λ e. walk_served (walk_one_told s f.ino newfid name) s s1 f0 f1 r (e ∙ walk_answer)) (λ h. walk_hurt (walk_one_told s f.ino newfid name) s s1 f0 f1 r h.0 h.1 h.2) o
 
-  walk_read : (m : Message) (x : Rmessage) (r : Reply) (s1 : ServerState) (f0 f1 : ℕ) → m ≡ t_walk fid newfid (name ∷ []) → reply_of x ≡ r → Outcome s m (reply_of x) s1 f0 f1 → WalkAsked (walk_one_told s f.ino newfid name) s s1 f0 f1 r
+  pub walk_read : (m : Message) (x : Rmessage) (r : Reply) (s1 : ServerState) (f0 f1 : ℕ) → m ≡ t_walk fid newfid (name ∷ []) → reply_of x ≡ r → Outcome s m (reply_of x) s1 f0 f1 → WalkAsked (walk_one_told s f.ino newfid name) s s1 f0 f1 r
   walk_read m x r s1 f0 f1 is rd o = walk_asked r s1 f0 f1 (subst (λ r. Outcome s (t_walk fid newfid (name ∷ [])) r s1 f0 f1) rd (subst (λ m. Outcome s m (reply_of x) s1 f0 f1) is o))
 
   first_qid : (s1 : ServerState) (f0 f1 : ℕ) (qs : List QidStruct) (q : QidStruct) → slice_get qs 0 ≡ Some q → WalkAsked (walk_one_told s f.ino newfid name) s s1 f0 f1 (r_walk (mapped qid_of qs)) → Asks (walk_one_told s f.ino newfid name) (Ok (qid_of q)) s s1 f0 f1
@@ -182,3 +182,7 @@ getattr_unfinished s g fid mask (Some f) known some s1 f0 f1 u = getattr_left s 
 pub clunk_unfinished : (s : ServerState) → IsGoodServer s → (fid : ℕ) (f : Option Fid) → map.get s.fids fid ≡ f → IsSome f → (s1 : ServerState) (f0 f1 : ℕ) → IsUnfinished s (t_clunk fid) s1 f0 f1 → (s1 ≡ s) ⊎ (s1 ≡ clunked s fid)
 clunk_unfinished s g fid None known some s1 f0 f1 u = absurd (false≢true some)
 clunk_unfinished s g fid (Some f) known some s1 f0 f1 u = ⊎_elim (λ e. inl e) (λ o. inr (clunk_asked s g fid f known o.0 s1 f0 f1 o.1)) u
+
+pub clunk_done : (s : ServerState) → IsGoodServer s → (fid : ℕ) (f : Option Fid) → map.get s.fids fid ≡ f → IsSome f → (r : Reply) (s1 : ServerState) (f0 f1 : ℕ) → Outcome s (t_clunk fid) r s1 f0 f1 → s1 ≡ clunked s fid
+clunk_done s g fid None known some r s1 f0 f1 o = absurd (false≢true some)
+clunk_done s g fid (Some f) known some r s1 f0 f1 o = clunk_asked s g fid f known r s1 f0 f1 o

@@ -1,5 +1,7 @@
+mod Readable
 mod Replies
 mod Answering
 mod Names
 mod Settled
 mod Attaching
+pub mod Only

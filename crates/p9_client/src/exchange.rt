@@ -2,7 +2,7 @@
 ghost use Rattle.std.specs.Prelude.{◌≡◌, ◌+◌, ◌-◌, ◌<◌, ◌≤◌, ◌^◌, ℕ, List, min, length, IfOk, OnOk, OnErr, slice_index, drop};
 ghost use Rattle.p9_tmsg.specs.Messages.{Message, message_of, MessageSpells, message_spelling};
 ghost use Rattle.p9_tmsg.specs.Frames.{message_frame};
-ghost use Rattle.p9_rmsg.specs.Replies.{Reply, reply_of, ReplySpells};
+ghost use Rattle.p9_rmsg.specs.Replies.{Reply, reply_of, ReplySpells, IsReadableReply};
 ghost use Rattle.p9_rmsg.specs.Frames.{reply_frame};
 ghost use Rattle.fid_model.specs.Handling.{Outcome, Steadily};
 ghost use Rattle.p9_client.specs.Asking.{IsAskable, RepliesWith, IsUnfinished, IsReplyFrame};
@@ -53,7 +53,7 @@ fn reply_to<N: Nine>(alloc: Global, nine: &mut N, frame: &[u8]) -> Result<MemSin
 // The message that a reply's frame spells.
 fn reply_in(alloc: Global, frame: &[u8]) -> Result<Rmessage, NoMemory>
     requires { IsReplyFrame frame.now }
-    ensures { (tag : ℕ) (r : Reply) → frame.now ≡ reply_frame tag r → ReplySpells r → IfOk result (λ m. reply_of m ≡ r) }
+    ensures { (tag : ℕ) (r : Reply) → frame.now ≡ reply_frame tag r → ReplySpells r → IsReadableReply r → IfOk result (λ m. reply_of m ≡ r) }
 {
     let mut source = SliceSource::new(&frame[7..]);
     match Rmessage::decode_body(alloc, &mut source, frame[4]) {

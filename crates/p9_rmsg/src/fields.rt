@@ -1,3 +1,5 @@
 // The fields of each message, one after another.
 mod attributes;
+mod files;
+mod names;
 mod session;

@@ -1,7 +1,8 @@
 // Frames with the messages that a server answers.
-ghost use Rattle.std.specs.Prelude.{◌≡◌, ◌+◌, ◌-◌, ◌<◌, ◌^◌, ℕ, List, length};
+ghost use Rattle.std.specs.Prelude.{◌≡◌, ◌+◌, ◌-◌, ◌<◌, ◌^◌, ℕ, List, length, IfErr};
 ghost use Rattle.p9_wire.specs.Reading.{Always, Decodes};
 ghost use Rattle.p9_wire.specs.Sending.{Sends};
+ghost use Rattle.p9_wire.specs.Frames.{Drains};
 ghost use Rattle.p9_wire.specs.FrameLaws.{sound_lawful};
 ghost use Rattle.p9_rmsg.specs.Replies.{Reply, reply_of, reply_kind, reply_spelling, ReplySpells, IsReadableReply, reply_reading};
 ghost use Rattle.p9_rmsg.specs.ReplyLaws.{replies_lawful};
@@ -64,7 +65,13 @@ impl WireFormat for Rframe {
         self.msg.send_frame(self.tag, sink)
     }
 
-    fn decode<S: Source>(alloc: Global, source: &mut S) -> Result<Self, WireError> {
+    // Where the body is malformed the source is at the frame's end.
+    fn decode<S: Source>(alloc: Global, source: &mut S) -> Result<Self, WireError>
+        ensures decodes { Decodes frame_of reply_frame_reading (S.left source.old) (S.left source.new) (S.faults source.old) (S.faults source.new) result }
+        ensures drains { IfErr result (Drains reply_reading (2 ^ 32 - 1) (S.left source.old) (S.left source.new)) }
+        ensures kept { S.kept source.new ≡ S.kept source.old }
+        ensures lender { S.lender source.new ≡ S.lender source.old }
+    {
         let (tag, msg) = decode_sound_frame(alloc, source, u32::MAX)?;
         Ok(Rframe { tag, msg })
     }

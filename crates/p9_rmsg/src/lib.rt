@@ -2,12 +2,18 @@
 #![tactic(auto)]
 
 pub mod dirent;
+pub mod examples;
 mod fields;
 pub mod frame;
 mod framed;
 pub mod kind;
 pub mod message;
+#[cfg(test)]
+mod tests;
 
 pub use dirent::Dirent;
 pub use frame::Rframe;
-pub use message::{Rattach, Rgetattr, Rlerror, Rmessage, Rwalk};
+pub use message::{
+    Rattach, Rauth, Rgetattr, Rgetlock, Rlcreate, Rlerror, Rlock, Rlopen, Rmessage, Rmkdir, Rmknod,
+    Rread, Rreaddir, Rreadlink, Rstatfs, Rsymlink, Rversion, Rwalk, Rwrite, Rxattrwalk,
+};

@@ -14,3 +14,4 @@ pub mod Releasing
 pub mod Replying
 pub mod RootLaws
 pub mod Emptying
+pub mod Unserved

@@ -1,0 +1,2 @@
+pub mod CountingFrames
+pub mod ByComputing

@@ -1,3 +1,4 @@
 pub mod Messages
 pub mod MessageLaws
 pub mod Frames
+pub mod Counting

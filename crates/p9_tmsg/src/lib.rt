@@ -1,11 +1,20 @@
 //! The messages that a 9P2000.L client sends, and the frames that they are sent in.
 #![tactic(auto)]
 
+pub mod count;
+pub mod examples;
 mod fields;
 pub mod frame;
 mod framed;
 pub mod kind;
 pub mod message;
+#[cfg(test)]
+mod tests;
 
+pub use count::tframe_decode;
 pub use frame::Tframe;
-pub use message::{Tattach, Tclunk, Tgetattr, Tmessage, Twalk};
+pub use message::{
+    Tattach, Tauth, Tclunk, Tflush, Tfsync, Tgetattr, Tgetlock, Tlcreate, Tlink, Tlock, Tlopen,
+    Tmessage, Tmkdir, Tmknod, Tread, Treaddir, Treadlink, Tremove, Trename, Trenameat, Tsetattr,
+    Tstatfs, Tsymlink, Tunlinkat, Tversion, Twalk, Twrite, Txattrcreate, Txattrwalk,
+};

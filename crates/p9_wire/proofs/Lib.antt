@@ -1,2 +1,3 @@
-pub mod Loops
 pub mod Framing
+pub mod Loops
+pub mod Pieces

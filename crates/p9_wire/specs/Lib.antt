@@ -10,3 +10,5 @@ pub mod FrameLaws
 pub mod Qids
 pub mod Values
 pub mod Kinds
+pub mod Rows
+pub mod Counting

@@ -5,10 +5,10 @@ ghost use Rattle.p9_wire.specs.Sending.{Sends};
 ghost use Rattle.p9_wire.specs.Frames.{frame, filling, body_of, framed_reading, sound_reading, result_view, framed_view, sound_view, IsMalformed, Drains, FrameSpells, LawfulMessages};
 ghost use Rattle.p9_wire.specs.declared.error.WireError.TheVariants.{NoMemory};
 
+use crate::bytes::decode_bytes;
 use crate::error::WireError;
 use crate::fields::Fields;
 use crate::format::WireFormat;
-use crate::text::decode_bytes;
 use port_base::memory::SliceSource;
 use port_base::sink::{Sink, SinkFault};
 use port_base::source::Source;

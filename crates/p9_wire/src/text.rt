@@ -1,20 +1,27 @@
-// Texts and data behind their count.
-ghost use Rattle.std.specs.Prelude.{◌≡◌, ◌<◌, ◌^◌, ◌+◌, ◌↔◌, ◌++◌, ◌≤◌, ℕ, List, length, IsTrue, true, IfOk, IfErr, ◌⊎◌};
-ghost use Rattle.p9_wire.specs.Reading.{Always, Decodes, bytes_at};
+// Texts behind their length.
+ghost use Rattle.std.specs.Prelude.{◌≡◌, ◌↔◌, ◌<◌, ◌^◌, ℕ, List, length, IsTrue, true, bytes_eq, IfOk, IfErr, ◌⊎◌};
+ghost use Rattle.std.specs.Hash as fed;
+ghost use Rattle.std.specs.Cmp.Rules.{hashing};
+ghost use Rattle.std.proofs.Common.{rules};
+ghost use Rattle.p9_wire.specs.Reading.{Always};
 ghost use Rattle.p9_wire.specs.Texts.{is_text};
-ghost use Rattle.p9_wire.specs.Values.{TextSpells, text_spelling, text_at, text_law, DataSpells, data_spelling, IsReadableData, data_at, data_law};
+ghost use Rattle.p9_wire.specs.Values.{TextSpells, text_spelling, text_at, text_law};
+ghost use Rattle.std.proofs.lemmas.Cmp.{nat_list_eq_equiv};
+ghost use Rattle.std.specs.Cmp.{partial_equiv_from_equiv};
 
+use crate::bytes::decode_bytes;
 use crate::error::WireError;
 use crate::fields::{Fields, Raw};
 use crate::format::WireFormat;
-use crate::numbers::fill;
-use port_base::sink::{Sink, SinkFault};
+use port_base::sink::{NoMemory, Sink, SinkFault};
 use port_base::source::Source;
 use std::alloc::Global;
 use std::fmt;
+use std::hash::{Hash, Hasher};
 use std::marker::Model;
 
-pub const MAX_DATA_LENGTH: u32 = 33554432;
+/// The longest text in bytes: its length is a u16.
+pub const MAX_TEXT_LENGTH: usize = 65535;
 
 // Whether the bytes are UTF-8 without a zero byte.
 #[tactic(auto, unfolding(crate::specs::Texts::is_text))]
@@ -25,22 +32,6 @@ fn test_text(bytes: &[u8]) -> bool
         Ok(_) => !bytes.contains(&0),
         Err(_) => false,
     }
-}
-
-// The next n bytes.
-pub fn decode_bytes<S: Source>(
-    alloc: Global,
-    source: &mut S,
-    n: usize,
-) -> Result<Vec<u8>, WireError>
-    ensures decodes { Decodes (λ v. v.items) (bytes_at n) (S.left source.old) (S.left source.new) (S.faults source.old) (S.faults source.new) result }
-    ensures kept { S.kept source.new ≡ S.kept source.old }
-    ensures lender { S.lender source.new ≡ S.lender source.old }
-    ensures len { IfOk result (λ v. length v.items ≡ n) }
-{
-    let mut bytes = vec![in alloc; 0; n]?;
-    fill(source, &mut bytes)?;
-    Ok(bytes)
 }
 
 /// A text of at most 65535 bytes, UTF-8 without a zero byte.
@@ -58,12 +49,13 @@ impl Model for P9String {
 }
 
 impl P9String {
+    /// A copy of the bytes. `InvalidInput`: more than 65535 bytes, a zero byte, or bytes that aren't UTF-8.
     pub fn new(alloc: Global, bytes: &[u8]) -> Result<P9String, WireError>
         ensures ok { IfOk result (λ s. s ≡ bytes.now) }
-        ensures input { result ≡ Err WireError.InvalidInput → (length bytes.now < 2 ^ 16) × (is_text bytes.now ≡ true) → ⊥ }
-        ensures errors { IfErr result (λ e. (e ≡ WireError.InvalidInput) ⊎ ((e ≡ WireError.NoMemory) × (length bytes.now < 2 ^ 16) × (is_text bytes.now ≡ true))) }
+        ensures text { IfOk result TextSpells }
+        ensures errors { IfErr result (λ e. ((e ≡ WireError.InvalidInput) × (TextSpells bytes.now → ⊥)) ⊎ ((e ≡ WireError.NoMemory) × TextSpells bytes.now)) }
     {
-        if bytes.len() > 65535 {
+        if bytes.len() > MAX_TEXT_LENGTH {
             return Err(WireError::InvalidInput);
         }
         if !test_text(bytes) {
@@ -73,11 +65,63 @@ impl P9String {
         Ok(P9String { bytes })
     }
 
+    /// How many bytes the text has.
+    pub fn len(&self) -> usize
+        ensures { result ≡ length self.now }
+    {
+        self.bytes.len()
+    }
+
+    /// The bytes, which are UTF-8 without a zero byte.
     pub fn as_bytes(&self) -> &[u8]
         ensures bytes { result.now ≡ self.now }
-        ensures text { (length self.now < 2 ^ 16) × (is_text self.now ≡ true) }
+        ensures text { TextSpells self.now }
     {
         &self.bytes
+    }
+
+    /// Whether these are the text's bytes.
+    pub fn eq_text(&self, text: &str) -> bool
+        ensures { IsTrue result ↔ (self.now ≡ text.now) }
+    {
+        self.bytes.as_slice() == text.as_bytes()
+    }
+
+    /// A copy of the text.
+    pub fn try_clone(&self, alloc: Global) -> Result<P9String, NoMemory>
+        ensures { IfOk result (λ s. s ≡ self.now) }
+    {
+        match self.bytes.to_vec(alloc) {
+            Ok(bytes) => Ok(P9String { bytes }),
+            Err(_) => Err(NoMemory),
+        }
+    }
+}
+
+impl PartialEq for P9String {
+    ghost eq = { bytes_eq };
+
+    ghost laws = { partial_equiv_from_equiv nat_list_eq_equiv };
+
+    fn eq(&self, other: &P9String) -> bool
+        ensures test { result ≡ bytes_eq self.now other.now }
+        ensures same { IsTrue result ↔ (self.now ≡ other.now) }
+    {
+        self.bytes.as_slice() == other.bytes.as_slice()
+    }
+}
+
+impl Eq for P9String {
+    ghost laws = { nat_list_eq_equiv };
+}
+
+impl Hash for P9String {
+    ghost hash_input = { fed.slice fed.u8 };
+
+    ghost respects_eq = { Prim.search (hashing, rules) };
+
+    fn hash<H: Hasher>(&self, state: &mut H) {
+        self.bytes.as_slice().hash(state);
     }
 }
 
@@ -129,57 +173,5 @@ impl WireFormat for P9String {
             return Err(WireError::InvalidInput);
         }
         Ok(P9String { bytes })
-    }
-}
-
-/// Bytes behind a count of four bytes.
-#[derive(Drop)]
-pub struct Data(pub Vec<u8>);
-
-impl fmt::Debug for Data {
-    fn fmt<W: fmt::Write>(&self, f: &mut fmt::Formatter<W>) -> fmt::Result {
-        let n = self.0.len();
-        write!(f, "Data({n} bytes)")
-    }
-}
-
-impl WireFormat for Data {
-    ghost Plain = { List ℕ };
-
-    ghost view = { λ d. d.0.items };
-
-    ghost Spells = { DataSpells };
-
-    ghost spelling = { data_spelling };
-
-    ghost IsSound = { Always };
-
-    ghost IsReadable = { IsReadableData };
-
-    ghost reading = { data_at };
-
-    ghost lawful = { data_law };
-
-    fn fits(&self) -> bool {
-        self.0.len() <= 4294967291
-    }
-
-    fn byte_size(&self) -> u32 {
-        self.0.len() as u32 + 4
-    }
-
-    fn send<K: Sink>(&self, sink: &mut K) -> Result<(), SinkFault> {
-        let count = self.0.len() as u32;
-        let raw = Raw { bytes: &self.0 };
-        (&count, raw).send(sink)
-    }
-
-    fn decode<S: Source>(alloc: Global, source: &mut S) -> Result<Self, WireError> {
-        let count = u32::decode(alloc, source)?;
-        if count > MAX_DATA_LENGTH {
-            return Err(WireError::InvalidData);
-        }
-        let bytes = decode_bytes(alloc, source, count as usize)?;
-        Ok(Data(bytes))
     }
 }

@@ -1,12 +1,14 @@
 // Fields of the answers that begin a session or name files, and of refusals.
 ghost use Rattle.p9_wire.specs.Reading.{Always};
 ghost use Rattle.p9_wire.specs.Numbers.{law32};
-ghost use Rattle.p9_wire.specs.Values.{qid_law, qids_law};
+ghost use Rattle.p9_wire.specs.Values.{qid_law, qids_law, text_law, then_law};
 
-use crate::message::{Rattach, Rlerror, Rwalk};
+use crate::message::{Rattach, Rauth, Rlerror, Rversion, Rwalk};
 use p9_wire::error::WireError;
+use p9_wire::fields::Fields;
 use p9_wire::format::WireFormat;
 use p9_wire::qid::Qid;
+use p9_wire::text::P9String;
 use port_base::sink::{Sink, SinkFault};
 use port_base::source::Source;
 use std::alloc::Global;
@@ -43,6 +45,78 @@ impl WireFormat for Rlerror {
     fn decode<S: Source>(alloc: Global, source: &mut S) -> Result<Self, WireError> {
         let ecode = u32::decode(alloc, source)?;
         Ok(Rlerror { ecode })
+    }
+}
+
+type VersionFields = (u32, P9String);
+
+impl WireFormat for Rversion {
+    ghost Plain = { ⟦<VersionFields as WireFormat>⟧.Plain };
+
+    ghost view = { λ m. ⟦<VersionFields as WireFormat>⟧.view (m.msize, m.version) };
+
+    ghost Spells = { ⟦<VersionFields as WireFormat>⟧.Spells };
+
+    ghost spelling = { ⟦<VersionFields as WireFormat>⟧.spelling };
+
+    ghost IsSound = { Always };
+
+    ghost IsReadable = { Always };
+
+    ghost reading = { ⟦<VersionFields as WireFormat>⟧.reading };
+
+    ghost lawful = { then_law law32 text_law };
+
+    fn fits(&self) -> bool {
+        (&self.msize, &self.version).fits()
+    }
+
+    fn byte_size(&self) -> u32 {
+        (&self.msize, &self.version).byte_size()
+    }
+
+    fn send<K: Sink>(&self, sink: &mut K) -> Result<(), SinkFault> {
+        (&self.msize, &self.version).send(sink)
+    }
+
+    fn decode<S: Source>(alloc: Global, source: &mut S) -> Result<Self, WireError> {
+        let (msize, version) = VersionFields::decode(alloc, source)?;
+        Ok(Rversion { msize, version })
+    }
+}
+
+impl WireFormat for Rauth {
+    ghost Plain = { ⟦<Qid as WireFormat>⟧.Plain };
+
+    ghost view = { λ m. ⟦<Qid as WireFormat>⟧.view m.aqid };
+
+    ghost Spells = { ⟦<Qid as WireFormat>⟧.Spells };
+
+    ghost spelling = { ⟦<Qid as WireFormat>⟧.spelling };
+
+    ghost IsSound = { Always };
+
+    ghost IsReadable = { Always };
+
+    ghost reading = { ⟦<Qid as WireFormat>⟧.reading };
+
+    ghost lawful = { qid_law };
+
+    fn fits(&self) -> bool {
+        self.aqid.fits()
+    }
+
+    fn byte_size(&self) -> u32 {
+        self.aqid.byte_size()
+    }
+
+    fn send<K: Sink>(&self, sink: &mut K) -> Result<(), SinkFault> {
+        self.aqid.send(sink)
+    }
+
+    fn decode<S: Source>(alloc: Global, source: &mut S) -> Result<Self, WireError> {
+        let aqid = Qid::decode(alloc, source)?;
+        Ok(Rauth { aqid })
     }
 }
 

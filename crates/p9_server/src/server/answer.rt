@@ -10,11 +10,11 @@ use crate::replies::{attach_reply, clunk_reply, getattr_reply, refused, walk_rep
 use p9_rmsg::Rmessage;
 use p9_tmsg::Tmessage;
 use p9_wire::error::WireError;
-use port_base::errno::EINVAL;
+use port_base::errno::{EINVAL, EOPNOTSUPP};
 use tree_host::Host;
 
 impl<H: Host> Server<H> {
-    // Answers a message.
+    // Answers a message; one that isn't served yet is EOPNOTSUPP.
     fn answer_message(&mut self, message: Tmessage) -> Result<Rmessage, WireError>
         ensures answered { Answered (Ok (message_of message)) (server_state (H.tree self.old.host) self.old.fids self.old.msize self.old.share) (server_state (H.tree self.new.host) self.new.fids self.new.msize self.new.share) (H.steady self.old.host) (H.faults self.old.host) (H.faults self.new.host) result }
         ensures steady { H.steady self.new.host ≡ H.steady self.old.host }
@@ -25,6 +25,7 @@ impl<H: Host> Server<H> {
             Tmessage::Walk(m) => walk_reply(self.walk(m.fid, m.newfid, &m.wnames)),
             Tmessage::GetAttr(m) => getattr_reply(self.get_attr(m.fid)),
             Tmessage::Clunk(m) => clunk_reply(self.clunk(m.fid)),
+            _ => Ok(refused(EOPNOTSUPP)),
         }
     }
 

@@ -3,6 +3,7 @@ use Rattle.std.proofs.Common.{subst, sym, refl}
 use Rattle.p9_client.specs.Asking.{IsAskable}
 use Rattle.p9_client.proofs.Names.{walk_askable}
 use Rattle.p9_client.proofs.Answering.{walk_qid, walk_errno, walk_unfinished, on_err}
+use Rattle.p9_client.proofs.Only.{walk_replied}
 use Rattle.p9_client.proofs.calls.walk_one.Goals as goal
 
 pub exchange-requires : goal.exchange-requires
@@ -22,3 +23,8 @@ pub returns-in_err-reply-clause-unfinished : goal.returns-in_err-reply-clause-un
 returns-in_err-reply-clause-unfinished g c =
     on_err c.from_residual-in_err-reply.result _ (walk_unfinished (g.N.Nine.state c.args.nine.now) (g.met.N.Nine.good c.args.nine.now) c.args.fid c.args.newfid c.args.name.now _ refl c.requires.known c.requires.fresh c.requires.below c.requires.named
     _ (g.N.Nine.state c.exchange.new.nine) _ _ c.in_ok-message.ensures c.in_err-reply.ensures.err)
+
+pub unreachable-requires-in_default : goal.unreachable-requires-in_default
+unreachable-requires-in_default g c =
+    walk_replied (g.N.Nine.state c.args.nine.now) (g.met.N.Nine.good c.args.nine.now) c.args.fid c.args.newfid c.args.name.now _ refl c.requires.known c.requires.fresh c.requires.below c.requires.named
+    _ c.in_ok-reply.field-0 _ _ _ c.in_ok-message.ensures c.in_ok-reply.ensures.outcome c.in_default.not-Walk c.in_default.not-Lerror

@@ -4,10 +4,10 @@ use Rattle.std.specs.Int.{w32, from_le_bytes}
 use Rattle.p9_wire.specs.declared.error.WireError.TheVariants.{InvalidInput, InvalidData}
 use Rattle.p9_wire.specs.Reading.{then_read, give, bytes_at, fixed_at}
 use Rattle.std.proofs.lemmas.Bool.{le-leb}
-use Rattle.p9_wire.specs.declared.text.Data.{Data}
+use Rattle.p9_wire.specs.declared.data.Data.{Data}
 use Rattle.p9_wire.specs.Steps.{Decodes-stops, Decodes-after, Decodes-give}
 use Rattle.p9_wire.specs.Texts.{read_if, data_len, Decodes-passed}
-use Rattle.p9_wire.proofs.text.DataWireFormat.decode.Goals as goal
+use Rattle.p9_wire.proofs.data.DataWireFormat.decode.Goals as goal
 
 pub returns-in_err-bytes-clause-decodes : goal.returns-in_err-bytes-clause-decodes
 returns-in_err-bytes-clause-decodes g c =

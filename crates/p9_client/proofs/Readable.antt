@@ -1,0 +1,70 @@
+-- What the machine replies can be read: no reply has data yet that could be too long.
+use Rattle.std.proofs.Common.{◌≡◌, ⊎_elim, ℕ, Bool, true, false, cond, List, [], ◌∷◌, Result, Ok, Err, Some, None, Option, sym, ap, subst, length}
+use Rattle.std.specs.FinMap as map
+use Rattle.port_base.specs.declared.errno.TheConstants.{EIO}
+use Rattle.tree_model.specs.Finding.{root_of}
+use Rattle.tree_model.specs.Attributes.{Qid, stat_of}
+use Rattle.tree_model.specs.Settings.{Settings}
+use Rattle.tree_model.specs.declared.attributes.Attr.{Attr}
+use Rattle.p9_tmsg.specs.Messages.{Message}
+use Rattle.p9_tmsg.specs.Messages.Message.{attach as t_attach, clunk as t_clunk, getattr as t_getattr, walk as t_walk}
+use Rattle.p9_rmsg.specs.Replies.{Reply, IsReadableReply}
+use Rattle.p9_rmsg.specs.Replies.Reply.{lerror as r_lerror, walk as r_walk}
+use Rattle.fid_model.specs.Fids.{ServerState, Fid}
+use Rattle.fid_model.specs.Answers.{answer, core, attached, walk_told, walk_from, walk_names, Walked, got, getattr_by, clunk_by}
+use Rattle.fid_model.specs.Handling.{Outcome, IsHurtReply, IsPartOfWalk}
+
+readable_either : (b : Bool) (x y : Reply × ServerState) → IsReadableReply x.0 → IsReadableReply y.0 → IsReadableReply (cond b x y).0
+readable_either true x y h k = h
+readable_either false x y h k = k
+
+attached_readable : (s : ServerState) (fid : ℕ) (r : Result ℕ ℕ) → IsReadableReply (attached s fid r).0
+attached_readable s fid (Ok i) = tt
+attached_readable s fid (Err e) = tt
+
+walk_told_readable : (s : ServerState) (newfid : ℕ) (w : Walked) → IsReadableReply (walk_told s newfid w).0
+walk_told_readable s newfid (qids, Ok i) = tt
+walk_told_readable s newfid ([], Err e) = tt
+walk_told_readable s newfid (q ∷ qids, Err e) = tt
+
+walk_from_readable : (s : ServerState) (fid newfid : ℕ) (names : List (List ℕ)) (f : Option Fid) → IsReadableReply (walk_from s fid newfid names f).0
+walk_from_readable s fid newfid names None = tt
+walk_from_readable s fid newfid names (Some f) =
+    readable_either _ _ _ tt (readable_either _ _ _ tt (walk_told_readable s newfid (walk_names s.settings.casefold s.tree names f.ino)))
+
+got_readable : (settings : Settings) (a : Result Attr ℕ) → IsReadableReply (got settings a)
+got_readable settings (Ok a) = tt
+got_readable settings (Err e) = tt
+
+getattr_readable : (s : ServerState) (f : Option Fid) → IsReadableReply (getattr_by s f)
+getattr_readable s None = tt
+getattr_readable s (Some f) = got_readable s.settings (stat_of s.tree f.ino)
+
+clunk_readable : (s : ServerState) (fid : ℕ) (f : Option Fid) → IsReadableReply (clunk_by s fid f).0
+clunk_readable s fid None = tt
+clunk_readable s fid (Some f) = tt
+
+core_readable : (s : ServerState) (m : Message) → IsReadableReply (core s m).0
+core_readable s (t_attach fid afid uname aname n_uname) =
+    readable_either _ _ _ tt (readable_either _ _ _ tt (attached_readable s fid (root_of s.tree s.settings.root)))
+core_readable s (t_walk fid newfid wnames) = readable_either _ _ _ tt (walk_from_readable s fid newfid wnames (map.get s.fids fid))
+core_readable s (t_getattr fid request_mask) = getattr_readable s (map.get s.fids fid)
+core_readable s (t_clunk fid) = clunk_readable s fid (map.get s.fids fid)
+core_readable s _ = tt
+
+part_readable : (names : ℕ) (r : Reply) → IsPartOfWalk names r → IsReadableReply r
+part_readable names (r_walk qids) h = tt
+part_readable names _ h = absurd h
+
+refused_readable : (r : Reply) → r ≡ r_lerror EIO → IsReadableReply r
+refused_readable r is = subst IsReadableReply (sym is) tt
+
+hurt_readable : (m : Message) (r : Reply) → IsHurtReply m r → IsReadableReply r
+hurt_readable (t_attach fid afid uname aname n_uname) r h = refused_readable r h
+hurt_readable (t_walk fid newfid wnames) r h = ⊎_elim (λ is. refused_readable r is) (λ part. part_readable (length wnames) r part) h
+hurt_readable (t_getattr fid request_mask) r h = refused_readable r h
+hurt_readable _ r h = absurd h
+
+pub outcome_readable : (s : ServerState) (m : Message) (r : Reply) (s1 : ServerState) (f0 f1 : ℕ) → Outcome s m r s1 f0 f1 → IsReadableReply r
+outcome_readable s m r s1 f0 f1 o =
+    ⊎_elim (λ is. subst IsReadableReply (sym (ap (λ (x : Reply × ServerState). x.0) is)) (core_readable s m)) (λ h. hurt_readable m r h.1.0) o
