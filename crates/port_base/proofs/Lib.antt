@@ -4,3 +4,4 @@ pub mod TableViews
 pub mod TableOrder
 pub mod PathParts
 mod PathWalks
+pub mod Escaping

@@ -1,5 +1,5 @@
 -- The escapes of names and paths in texts, which are those of fstab(5).
-use Rattle.std.specs.Prelude.{ℕ, ◌+◌, ◌/◌, ◌%◌, List, [], ◌∷◌, ◌==◌, ◌||◌, if◌then◌else◌, Bool}
+use Rattle.std.specs.Prelude.{◌≡◌, ℕ, ◌+◌, ◌/◌, ◌%◌, List, [], ◌∷◌, ◌++◌, length, drop, ◌==◌, ◌||◌, if◌then◌else◌, Bool, Option, Some, None}
 use Rattle.std.specs.List.{flat_map}
 
 -- a space, a tab, a line feed, a carriage return or a backslash
@@ -16,3 +16,13 @@ escaped_byte b = if is_escaped b then 92 ∷ octal_digit b 64 ∷ octal_digit b 
 
 unfoldable pub escaped : List ℕ → List ℕ
 escaped bytes = flat_map escaped_byte bytes
+
+-- the text whose escaped text is the field; none where there is none
+abbrev pub IsUnescaped : List ℕ → Option (List ℕ) → Type 0
+IsUnescaped field (Some text) = escaped text ≡ field
+IsUnescaped field None = (text : List ℕ) → escaped text ≡ field → ⊥
+
+-- the byte that the field begins with, and its width there; none where it begins with none
+abbrev pub BeginsWith : List ℕ → Option (ℕ × ℕ) → Type 0
+BeginsWith field (Some (byte, width)) = (width ≡ length (escaped_byte byte)) × (field ≡ escaped_byte byte ++ drop width field)
+BeginsWith field None = (byte : ℕ) (rest : List ℕ) → escaped_byte byte ++ rest ≡ field → ⊥

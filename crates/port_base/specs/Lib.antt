@@ -8,3 +8,4 @@ pub mod Quoting
 pub mod Streams
 pub mod Words
 pub mod Tables
+pub mod Failing

@@ -2,11 +2,14 @@
 #![tactic(auto)]
 
 pub mod errno;
+pub mod escapes;
+pub mod failing;
 pub mod flags;
 pub mod memory;
 pub mod names;
 pub mod oflag;
 pub mod paths;
+mod pushing;
 pub mod quoting;
 pub mod sink;
 pub mod source;

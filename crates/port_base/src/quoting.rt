@@ -2,6 +2,7 @@
 ghost use Rattle.std.specs.Prelude.{◌≡◌, ◌<◌, ◌++◌, ◌∷◌, [], IfOk, OnOk};
 ghost use Rattle.port_base.specs.Quoting.{hex_digit, quoted, quoted_byte, upper_hex_digit};
 
+use crate::pushing::push;
 use crate::sink::NoMemory;
 use std::alloc::Global;
 
@@ -27,12 +28,6 @@ fn upper_hex_digit(digit: u8) -> u8
     } else {
         b'A' + (digit - 10)
     }
-}
-
-fn push(out: &mut Vec<u8>, bytes: &[u8]) -> Result<(), NoMemory>
-    ensures { OnOk result (out.new.items ≡ out.old.items ++ bytes.now) }
-{
-    out.extend_from_slice(bytes).map_err(|_| NoMemory)
 }
 
 #[tactic(auto, unfolding(crate::specs::Quoting::quoted_byte))]
