@@ -7,4 +7,4 @@ pub mod Bodies
 pub mod Adding
 pub mod Files
 pub mod Reading
-mod Examples
+pub mod Sampling

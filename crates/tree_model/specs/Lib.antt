@@ -7,3 +7,5 @@ pub mod Making
 pub mod Sound
 pub mod GoodLaws
 pub mod Reading
+pub mod Opening
+pub mod Samples
