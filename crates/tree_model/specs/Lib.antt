@@ -9,3 +9,4 @@ pub mod GoodLaws
 pub mod Reading
 pub mod Opening
 pub mod Samples
+pub mod Placing
