@@ -7,112 +7,115 @@ use port_base::memory::{MemSink, SliceSource};
 use std::test::Fail;
 
 // A frame of every type with the tag 0x0102, and its message.
-const FRAMES: [(&[u8], &str); 28] = [
+const FRAMES: [(&[u8], &[u8]); 28] = [
     (
         b"\x0b\0\0\0\x08\x02\x01\x01\0\0\0",
-        "Statfs(Tstatfs { fid: 1 })",
+        b"Statfs(Tstatfs { fid: 1 })",
     ),
     (
         b"\x0f\0\0\0\x0c\x02\x01\x01\0\0\0\x02\0\0\0",
-        "Lopen(Tlopen { fid: 1, flags: 2 })",
+        b"Lopen(Tlopen { fid: 1, flags: 2 })",
     ),
     (
         b"\x1a\0\0\0\x0e\x02\x01\x01\0\0\0\x01\0a\x02\0\0\0\x03\0\0\0\x04\0\0\0",
-        "Lcreate(Tlcreate { fid: 1, name: \"a\", flags: 2, mode: 3, gid: 4 })",
+        b"Lcreate(Tlcreate { fid: 1, name: \"a\", flags: 2, mode: 3, gid: 4 })",
     ),
     (
         b"\x16\0\0\0\x10\x02\x01\x01\0\0\0\x01\0a\x02\0bc\x02\0\0\0",
-        "Symlink(Tsymlink { fid: 1, name: \"a\", symtgt: \"bc\", gid: 2 })",
+        b"Symlink(Tsymlink { fid: 1, name: \"a\", symtgt: \"bc\", gid: 2 })",
     ),
     (
         b"\x1e\0\0\0\x12\x02\x01\x01\0\0\0\x01\0a\x02\0\0\0\x03\0\0\0\x04\0\0\0\x05\0\0\0",
-        "Mknod(Tmknod { dfid: 1, name: \"a\", mode: 2, major: 3, minor: 4, gid: 5 })",
+        b"Mknod(Tmknod { dfid: 1, name: \"a\", mode: 2, major: 3, minor: 4, gid: 5 })",
     ),
     (
         b"\x12\0\0\0\x14\x02\x01\x01\0\0\0\x02\0\0\0\x01\0a",
-        "Rename(Trename { fid: 1, dfid: 2, name: \"a\" })",
+        b"Rename(Trename { fid: 1, dfid: 2, name: \"a\" })",
     ),
     (
         b"\x0b\0\0\0\x16\x02\x01\x01\0\0\0",
-        "Readlink(Treadlink { fid: 1 })",
+        b"Readlink(Treadlink { fid: 1 })",
     ),
     (
         b"\x13\0\0\0\x18\x02\x01\x01\0\0\0\x02\0\0\0\0\0\0\0",
-        "GetAttr(Tgetattr { fid: 1, request_mask: 2 })",
+        b"GetAttr(Tgetattr { fid: 1, request_mask: 2 })",
     ),
     (
         b"\x43\0\0\0\x1a\x02\x01\x01\0\0\0\x02\0\0\0\x03\0\0\0\x04\0\0\0\x05\0\0\0\x06\0\0\0\0\0\0\0\x07\0\0\0\0\0\0\0\x08\0\0\0\0\0\0\0\x09\0\0\0\0\0\0\0\x0a\0\0\0\0\0\0\0",
-        "SetAttr(Tsetattr { fid: 1, valid: 2, mode: 3, uid: 4, gid: 5, size: 6, atime_sec: 7, atime_nsec: 8, mtime_sec: 9, mtime_nsec: 10 })",
+        b"SetAttr(Tsetattr { fid: 1, valid: 2, mode: 3, uid: 4, gid: 5, size: 6, atime_sec: 7, atime_nsec: 8, mtime_sec: 9, mtime_nsec: 10 })",
     ),
     (
         b"\x12\0\0\0\x1e\x02\x01\x01\0\0\0\x02\0\0\0\x01\0a",
-        "XattrWalk(Txattrwalk { fid: 1, newfid: 2, name: \"a\" })",
+        b"XattrWalk(Txattrwalk { fid: 1, newfid: 2, name: \"a\" })",
     ),
     (
         b"\x1a\0\0\0\x20\x02\x01\x01\0\0\0\x01\0a\x02\0\0\0\0\0\0\0\x03\0\0\0",
-        "XattrCreate(Txattrcreate { fid: 1, name: \"a\", attr_size: 2, flags: 3 })",
+        b"XattrCreate(Txattrcreate { fid: 1, name: \"a\", attr_size: 2, flags: 3 })",
     ),
     (
         b"\x17\0\0\0\x28\x02\x01\x01\0\0\0\x02\0\0\0\0\0\0\0\x03\0\0\0",
-        "Readdir(Treaddir { fid: 1, offset: 2, count: 3 })",
+        b"Readdir(Treaddir { fid: 1, offset: 2, count: 3 })",
     ),
     (
         b"\x0f\0\0\0\x32\x02\x01\x01\0\0\0\x02\0\0\0",
-        "Fsync(Tfsync { fid: 1, datasync: 2 })",
+        b"Fsync(Tfsync { fid: 1, datasync: 2 })",
     ),
     (
         b"\x27\0\0\0\x34\x02\x01\x01\0\0\0\x02\x03\0\0\0\x04\0\0\0\0\0\0\0\x05\0\0\0\0\0\0\0\x06\0\0\0\x01\0a",
-        "Lock(Tlock { fid: 1, kind_: 2, flags: 3, start: 4, length: 5, proc_id: 6, client_id: \"a\" })",
+        b"Lock(Tlock { fid: 1, kind_: 2, flags: 3, start: 4, length: 5, proc_id: 6, client_id: \"a\" })",
     ),
     (
         b"\x23\0\0\0\x36\x02\x01\x01\0\0\0\x02\x03\0\0\0\0\0\0\0\x04\0\0\0\0\0\0\0\x05\0\0\0\x01\0a",
-        "GetLock(Tgetlock { fid: 1, kind_: 2, start: 3, length: 4, proc_id: 5, client_id: \"a\" })",
+        b"GetLock(Tgetlock { fid: 1, kind_: 2, start: 3, length: 4, proc_id: 5, client_id: \"a\" })",
     ),
     (
         b"\x12\0\0\0\x46\x02\x01\x01\0\0\0\x02\0\0\0\x01\0a",
-        "Link(Tlink { dfid: 1, fid: 2, name: \"a\" })",
+        b"Link(Tlink { dfid: 1, fid: 2, name: \"a\" })",
     ),
     (
         b"\x16\0\0\0\x48\x02\x01\x01\0\0\0\x01\0a\x02\0\0\0\x03\0\0\0",
-        "Mkdir(Tmkdir { dfid: 1, name: \"a\", mode: 2, gid: 3 })",
+        b"Mkdir(Tmkdir { dfid: 1, name: \"a\", mode: 2, gid: 3 })",
     ),
     (
         b"\x16\0\0\0\x4a\x02\x01\x01\0\0\0\x01\0a\x02\0\0\0\x02\0bc",
-        "RenameAt(Trenameat { olddirfid: 1, oldname: \"a\", newdirfid: 2, newname: \"bc\" })",
+        b"RenameAt(Trenameat { olddirfid: 1, oldname: \"a\", newdirfid: 2, newname: \"bc\" })",
     ),
     (
         b"\x12\0\0\0\x4c\x02\x01\x01\0\0\0\x01\0a\x02\0\0\0",
-        "UnlinkAt(Tunlinkat { dirfd: 1, name: \"a\", flags: 2 })",
+        b"UnlinkAt(Tunlinkat { dirfd: 1, name: \"a\", flags: 2 })",
     ),
     (
         b"\x0e\0\0\0d\x02\x01\x01\0\0\0\x01\0a",
-        "Version(Tversion { msize: 1, version: \"a\" })",
+        b"Version(Tversion { msize: 1, version: \"a\" })",
     ),
     (
         b"\x16\0\0\0f\x02\x01\x01\0\0\0\x01\0a\x02\0bc\x02\0\0\0",
-        "Auth(Tauth { afid: 1, uname: \"a\", aname: \"bc\", n_uname: 2 })",
+        b"Auth(Tauth { afid: 1, uname: \"a\", aname: \"bc\", n_uname: 2 })",
     ),
     (
         b"\x1a\0\0\0h\x02\x01\x01\0\0\0\x02\0\0\0\x01\0a\x02\0bc\x03\0\0\0",
-        "Attach(Tattach { fid: 1, afid: 2, uname: \"a\", aname: \"bc\", n_uname: 3 })",
+        b"Attach(Tattach { fid: 1, afid: 2, uname: \"a\", aname: \"bc\", n_uname: 3 })",
     ),
-    (b"\x09\0\0\0l\x02\x01\x01\0", "Flush(Tflush { oldtag: 1 })"),
+    (b"\x09\0\0\0l\x02\x01\x01\0", b"Flush(Tflush { oldtag: 1 })"),
     (
         b"\x18\0\0\0n\x02\x01\x01\0\0\0\x02\0\0\0\x02\0\x01\0a\x02\0bc",
-        "Walk(Twalk { fid: 1, newfid: 2, wnames: [\"a\", \"bc\"] })",
+        b"Walk(Twalk { fid: 1, newfid: 2, wnames: [\"a\", \"bc\"] })",
     ),
     (
         b"\x17\0\0\0t\x02\x01\x01\0\0\0\x02\0\0\0\0\0\0\0\x03\0\0\0",
-        "Read(Tread { fid: 1, offset: 2, count: 3 })",
+        b"Read(Tread { fid: 1, offset: 2, count: 3 })",
     ),
     (
         b"\x1a\0\0\0v\x02\x01\x01\0\0\0\x02\0\0\0\0\0\0\0\x03\0\0\0\x07\x08\x09",
-        "Write(Twrite { fid: 1, offset: 2, payload: Data(3 bytes) })",
+        b"Write(Twrite { fid: 1, offset: 2, payload: Data(3 bytes) })",
     ),
-    (b"\x0b\0\0\0x\x02\x01\x01\0\0\0", "Clunk(Tclunk { fid: 1 })"),
+    (
+        b"\x0b\0\0\0x\x02\x01\x01\0\0\0",
+        b"Clunk(Tclunk { fid: 1 })",
+    ),
     (
         b"\x0b\0\0\0z\x02\x01\x01\0\0\0",
-        "Remove(Tremove { fid: 1 })",
+        b"Remove(Tremove { fid: 1 })",
     ),
 ];
 
@@ -122,16 +125,16 @@ fn each_type_has_its_bytes(rt: HostRuntime) -> Result<(), Fail> {
     for (bytes, text) in FRAMES {
         let mut source = SliceSource::new(bytes);
         let frame = Tframe::decode(alloc, &mut source)?;
-        assert!(rt; source.is_at_end(), "{text}");
-        assert_eq!(rt; frame.tag, 0x0102, "{text}");
+        assert!(rt; source.is_at_end(), "{bytes:?}");
+        assert_eq!(rt; frame.tag, 0x0102, "{bytes:?}");
         match &frame.msg {
-            Ok(message) => assert_eq!(rt; format!(in alloc; "{message:?}")?.as_str(), text),
-            Err(fault) => assert!(rt; false, "{text} is {fault:?}"),
+            Ok(message) => assert_eq!(rt; format!(in alloc; "{message:?}")?.as_bytes(), text),
+            Err(fault) => assert!(rt; false, "{bytes:?} is {fault:?}"),
         }
         let mut sink = MemSink::new(alloc);
         frame.encode(&mut sink)?;
-        assert_eq!(rt; sink.as_bytes(), bytes, "{text}");
-        assert_eq!(rt; frame.byte_size() as usize, bytes.len(), "{text}");
+        assert_eq!(rt; sink.as_bytes(), bytes, "{bytes:?}");
+        assert_eq!(rt; frame.byte_size() as usize, bytes.len(), "{bytes:?}");
     }
     Ok(())
 }
@@ -218,7 +221,8 @@ fn a_long_frame_comes_in_pieces(rt: HostRuntime) -> Result<(), Fail> {
     frame.encode(&mut sink)?;
     assert_eq!(rt; sink.as_bytes().len(), 200023);
     let mut source = SliceSource::new(sink.as_bytes());
-    match Tframe::decode(alloc, &mut source)?.msg {
+    let again = Tframe::decode(alloc, &mut source)?;
+    match &again.msg {
         Ok(Tmessage::Write(write)) => {
             assert_eq!(rt; write.fid, 1);
             assert_eq!(rt; write.offset, 2);
