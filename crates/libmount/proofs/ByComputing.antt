@@ -1,8 +1,8 @@
 -- The definitions at examples.
-use Rattle.std.proofs.Common.{◌≡◌, [], ◌∷◌, ◌++◌, ◌^◌, ◌-◌, true, false, Some, None, Ok, Err, refl}
+use Rattle.std.proofs.Common.{◌≡◌, ℕ, List, [], ◌∷◌, ◌++◌, ◌^◌, ◌-◌, map, true, false, Some, None, Ok, Err, refl}
 use Rattle.std.specs.Prelude.{codes}
 use Rattle.std.specs.Fmt.{digits}
-use Rattle.port_base.specs.Flags.{known_flags}
+use Rattle.port_base.specs.Flags.{flag_table}
 use Rattle.port_base.specs.Paths.{components, names, same_path}
 use Rattle.port_base.specs.Quoting.{quoted, quoted_byte}
 use Rattle.libmount.specs.declared.mountinfo.errors.ParseError.TheVariants as parse_error
@@ -20,7 +20,7 @@ use Rattle.libmount.specs.Parts.{parts}
 use Rattle.libmount.specs.Reading.{bad_number, field_at}
 use Rattle.libmount.specs.Rows.{borrowed, fields_of, optional_at, owned, row, row_of, text_at, text_of}
 use Rattle.libmount.specs.Texts.{shown}
-use Rattle.libmount.specs.Worked.{all_options, mounted_twice, returned_line, short_fields, short_line, small_table}
+use Rattle.libmount.specs.Worked.{all_options, mounted_twice, option_words, returned_line, short_fields, short_line, small_table}
 
 pub cut_at_dash : cut dash (codes "shared:1 - ext4 s") ≡ (codes "shared:1 ", codes "ext4 s")
 unfolding cut
@@ -130,9 +130,9 @@ parts_there = refl
 pub parts_of_nothing : parts comma None ≡ []
 parts_of_nothing = refl
 
-pub flag_named : flag_of (codes "noatime") ≡ 1024
+pub flag_each : map flag_of option_words ≡ 1 ∷ 2 ∷ 4 ∷ 8 ∷ 64 ∷ 16 ∷ 128 ∷ 1024 ∷ 2048 ∷ 2097152 ∷ 16777216 ∷ []
 unfolding flag_of flags_of
-flag_named = refl
+flag_each = refl
 
 pub flag_unknown : flag_of (codes "rw") ≡ 0
 unfolding flag_of flags_of
@@ -142,7 +142,7 @@ pub flags_all : flags_of all_options ≡ 18877663
 unfolding flag_of flags_of
 flags_all = refl
 
-pub flags_known : known_flags ≡ 18906367
+pub flags_known : map (λ (flag : List ℕ × ℕ). flag.1) flag_table ≡ 1 ∷ 2 ∷ 4 ∷ 8 ∷ 16 ∷ 32 ∷ 64 ∷ 128 ∷ 1024 ∷ 2048 ∷ 4096 ∷ 8192 ∷ 16384 ∷ 2097152 ∷ 16777216 ∷ []
 unfolding flag_of flags_of
 flags_known = refl
 

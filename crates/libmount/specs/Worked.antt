@@ -50,6 +50,11 @@ small_table = codes "# Test\n" ++ returned_line ++ codes "\nbad"
 abbrev pub mounted_twice : List ℕ
 mounted_twice = codes "11 18 0:4 / /tmp rw shared:28 - tmpfs tmpfs rw\n12 18 0:6 / /tmp rw,nosuid,nodev shared:29 - tmpfs tmpfs rw\n"
 
--- all options that name a flag, and two that name none
+-- the options that name a flag, and all of them with two that name none
+abbrev pub option_words : List (List ℕ)
+option_words =
+    codes "ro" ∷ codes "nosuid" ∷ codes "nodev" ∷ codes "noexec" ∷ codes "mand" ∷ codes "sync" ∷ codes "dirsync" ∷ codes "noatime" ∷ codes "nodiratime"
+    ∷ codes "relatime" ∷ codes "strictatime" ∷ []
+
 abbrev pub all_options : List ℕ
 all_options = codes "ro,nosuid,nodev,noexec,mand,sync,dirsync,noatime,nodiratime,relatime,strictatime,,RO"

@@ -1,5 +1,5 @@
 //! The definitions of this crate at examples. Each function makes no call: its contract is the example.
-ghost use Rattle.std.specs.Prelude.{◌≡◌, ◌∷◌, ◌++◌, ◌^◌, ◌-◌, [], codes, true, false, None, Some, Ok, Err};
+ghost use Rattle.std.specs.Prelude.{◌≡◌, ◌∷◌, ◌++◌, ◌^◌, ◌-◌, ℕ, List, [], map, codes, true, false, None, Some, Ok, Err};
 ghost use Rattle.libmount.specs.declared.mountinfo.errors.ParseError.TheVariants as parse_error;
 ghost use Rattle.libmount.specs.declared.mountinfo.errors.RowError.{RowError};
 ghost use Rattle.libmount.specs.declared.mountinfo.numbers.NumberFault.TheVariants as number_fault;
@@ -15,8 +15,8 @@ ghost use Rattle.libmount.specs.Parts.{parts};
 ghost use Rattle.libmount.specs.Reading.{bad_number, field_at};
 ghost use Rattle.libmount.specs.Rows.{borrowed, optional_at, owned, row, text_at, text_of};
 ghost use Rattle.libmount.specs.Texts.{shown};
-ghost use Rattle.libmount.specs.Worked.{all_options, mounted_twice, returned_line, short_fields, short_line, small_table};
-ghost use Rattle.port_base.specs.Flags.{known_flags};
+ghost use Rattle.libmount.specs.Worked.{all_options, mounted_twice, option_words, returned_line, short_fields, short_line, small_table};
+ghost use Rattle.port_base.specs.Flags.{flag_table};
 
 /// A text is cut at a dash and a space, and not at a dash alone.
 #[tactic(auto, using(crate::proofs::ByComputing::cut_at_dash, crate::proofs::ByComputing::cut_nowhere))]
@@ -91,13 +91,13 @@ pub fn parts_between_commas()
     ensures of_nothing { parts comma None ≡ [] }
 {}
 
-/// Flags of options: one, none, and all eleven; and all fifteen flags together.
-#[tactic(auto, using(crate::proofs::ByComputing::flag_named, crate::proofs::ByComputing::flag_unknown, crate::proofs::ByComputing::flags_all, crate::proofs::ByComputing::flags_known))]
+/// The flag of each option that names one, of another option, of all together; and the numbers of all fifteen flags.
+#[tactic(auto, using(crate::proofs::ByComputing::flag_each, crate::proofs::ByComputing::flag_unknown, crate::proofs::ByComputing::flags_all, crate::proofs::ByComputing::flags_known))]
 pub fn flags_of_options()
-    ensures named { flag_of (codes "noatime") ≡ 1024 }
+    ensures each { map flag_of option_words ≡ 1 ∷ 2 ∷ 4 ∷ 8 ∷ 64 ∷ 16 ∷ 128 ∷ 1024 ∷ 2048 ∷ 2097152 ∷ 16777216 ∷ [] }
     ensures unknown { flag_of (codes "rw") ≡ 0 }
     ensures all { flags_of all_options ≡ 18877663 }
-    ensures known { known_flags ≡ 18906367 }
+    ensures known { map (λ (flag : List ℕ × ℕ). flag.1) flag_table ≡ 1 ∷ 2 ∷ 4 ∷ 8 ∷ 16 ∷ 32 ∷ 64 ∷ 128 ∷ 1024 ∷ 2048 ∷ 4096 ∷ 8192 ∷ 16384 ∷ 2097152 ∷ 16777216 ∷ [] }
 {}
 
 /// Lines with their numbers: a last one without a line feed repeats the number before it.
