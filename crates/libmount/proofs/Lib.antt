@@ -1,3 +1,4 @@
+pub mod ByComputing
 mod CutLaw
 mod CutLemmas
 mod DecimalLaw

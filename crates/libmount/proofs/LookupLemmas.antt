@@ -1,5 +1,5 @@
 -- The last line that has a say is the first from the end.
-use Rattle.std.proofs.Common.{◌≡◌, ℕ, List, [], ◌∷◌, ◌++◌, length, Option, Some, None, Result, Ok, Err, refl, sym, ap, ◌∙◌, reverse, map}
+use Rattle.std.proofs.Common.{◌≡◌, ℕ, List, [], ◌∷◌, ◌++◌, Option, Some, None, Result, Ok, Err, refl, ap, ◌∙◌, reverse}
 use Rattle.std.specs.Prelude.{slice_get}
 use Rattle.std.specs.List.{cons_option, filter_map}
 use Rattle.std.specs.Option.{option_map}
@@ -9,7 +9,7 @@ use Rattle.port_base.specs.Flags.{bits_of}
 use Rattle.libmount.specs.declared.remount.RemountError.{RemountError}
 use Rattle.libmount.specs.declared.remount.RemountError.TheVariants.{ParseMountInfo, NoMemory}
 use Rattle.libmount.specs.Items.{line_feed}
-use Rattle.libmount.specs.Lookup.{flags_at, flags_in, or_none, verdict, verdict_by, verdicts}
+use Rattle.libmount.specs.Lookup.{flags_at, or_none, verdict, verdicts}
 use Rattle.libmount.specs.Parts.{parts}
 use Rattle.libmount.specs.Reading.{Message}
 use Rattle.libmount.specs.Rows.{Row, row}

@@ -1,13 +1,12 @@
 -- A number is read digit by digit, up to the first fault.
-use Rattle.std.proofs.Common.{◌≡◌, ℕ, suc, ◌+◌, ◌-◌, ◌*◌, ◌≤◌, ◌<◌, ◌^◌, Bool, true, false, List, [], ◌∷◌, length, take, drop, get_or, Result, Ok, Err, refl, sym, ap, ◌∙◌, subst, arith, cond, nat_lt, inl, inr, one-add}
+use Rattle.std.proofs.Common.{◌≡◌, ℕ, suc, ◌+◌, ◌≤◌, ◌<◌, ◌^◌, Bool, true, false, List, [], ◌∷◌, length, drop, get_or, Result, Ok, Err, refl, sym, ap, ◌∙◌, subst, arith, cond, nat_lt, one-add}
 use Rattle.std.specs.Prelude.{nat_le, ◌==◌}
-use Rattle.std.specs.List.{fold, prefix_len, take_while}
-use Rattle.std.proofs.lemmas.Bool.{cases_lt}
+use Rattle.std.specs.List.{fold, take_while}
 use Rattle.std.proofs.lemmas.Bool.Decides.{nat_tests}
 use Rattle.std.proofs.lemmas.List.{drop_all, drop_more}
 use Rattle.libmount.specs.declared.mountinfo.numbers.NumberFault.{NumberFault}
 use Rattle.libmount.specs.declared.mountinfo.numbers.NumberFault.TheVariants.{Empty, InvalidDigit, TooLarge}
-use Rattle.libmount.specs.Numbers.{is_digit, with_digit, digits_value, decimal_value, Goes}
+use Rattle.libmount.specs.Numbers.{is_digit, with_digit, digits_value, Goes}
 
 -- a number of so many of the digits, or its fault
 abbrev pub judged : ℕ → ℕ → ℕ → Result ℕ NumberFault

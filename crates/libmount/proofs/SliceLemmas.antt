@@ -1,9 +1,9 @@
 -- A part of a part is a part.
-use Rattle.std.proofs.Common.{◌≡◌, ℕ, suc, ◌+◌, ◌-◌, ◌≤◌, ◌<◌, List, length, take, drop, Some, None, Result, Ok, Err, refl, sym, ap, ◌∙◌, subst, arith, take_all}
+use Rattle.std.proofs.Common.{◌≡◌, ℕ, ◌+◌, ◌-◌, ◌≤◌, List, length, take, drop, Some, None, Result, Ok, Err, refl, sym, ap, ◌∙◌, arith, take_all}
 use Rattle.std.specs.declared.option.Option.{Option}
 use Rattle.std.specs.Prelude.{IfSome}
 use Rattle.std.specs.Borrow.{Bor}
-use Rattle.std.proofs.lemmas.List.{drop-drop, drop-take, length-drop, length-take, take-take}
+use Rattle.std.proofs.lemmas.List.{drop-drop, drop-take, take-take}
 use Rattle.libmount.specs.declared.mountinfo.escapes.Field.{Field}
 use Rattle.libmount.specs.declared.mountinfo.escapes.Field.TheVariants.{Borrowed, Owned}
 use Rattle.libmount.specs.declared.mountinfo.errors.ParseError.{ParseError}
@@ -74,3 +74,10 @@ Item-trans a None line item h k i = absurd k
 Item-trans None (Some y) line item h k i = absurd h
 Item-trans (Some x) (Some y) line (Ok m) h k i = RowLiesIn-trans x line (LiesIn-trans x y line h k) m i
 Item-trans (Some x) (Some y) line (Err e) h k i = tt
+
+-- what lies in the text that is left later lies in the text that was left before
+pub ItemLiesInRest-trans : (a b : Option (Bor (List ℕ))) (item : Result MountPoint ParseError) → StaysIn a b → ItemLiesInRest b item → ItemLiesInRest a item
+ItemLiesInRest-trans a None item h i = absurd i
+ItemLiesInRest-trans None (Some y) item h i = absurd h
+ItemLiesInRest-trans (Some x) (Some y) (Ok m) h i = RowLiesIn-trans x y h m i
+ItemLiesInRest-trans (Some x) (Some y) (Err e) h i = tt

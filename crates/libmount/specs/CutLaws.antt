@@ -1,5 +1,5 @@
 -- What a cut is: a relation on the text and its two parts.
-use Rattle.std.specs.Prelude.{◌≡◌, ℕ, ◌<◌, List, [], ◌++◌, length, drop, Bool, false, nat_eq, ◌⊎◌}
+use Rattle.std.specs.Prelude.{◌≡◌, ℕ, ◌<◌, List, [], ◌++◌, length, drop, false, nat_eq, ◌⊎◌}
 use Rattle.std.specs.List.{starts_with}
 
 -- the mark stands at none of the first places of the text

@@ -1,5 +1,5 @@
 -- Texts in which a backslash and three octal digits are one byte.
-use Rattle.std.specs.Prelude.{◌≡◌, ℕ, ◌+◌, ◌-◌, ◌*◌, ◌%◌, ◌<◌, List, [], ◌∷◌, length, slice_index, Bool, false, ◌==◌, ◌&&◌, ◌||◌, nat_le, if◌then◌else◌}
+use Rattle.std.specs.Prelude.{◌≡◌, ℕ, ◌+◌, ◌-◌, ◌*◌, ◌%◌, ◌<◌, List, ◌∷◌, length, slice_index, Bool, false, ◌==◌, ◌&&◌, ◌||◌, nat_le, if◌then◌else◌}
 
 abbrev pub is_octal : ℕ → Bool
 is_octal byte = nat_le 48 byte && nat_le byte 55

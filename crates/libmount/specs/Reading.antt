@@ -1,5 +1,5 @@
 -- Reading from left to right, where a refusal is its message.
-use Rattle.std.specs.Prelude.{◌≡◌, ℕ, List, [], ◌++◌, length, Result, Ok, Err, ◌==◌, if◌then◌else◌, codes}
+use Rattle.std.specs.Prelude.{◌≡◌, ℕ, List, ◌++◌, length, Result, Ok, Err, ◌==◌, if◌then◌else◌, codes}
 use Rattle.port_base.specs.Quoting.{quoted}
 use Rattle.libmount.specs.declared.mountinfo.numbers.NumberFault.{NumberFault}
 use Rattle.libmount.specs.declared.mountinfo.numbers.NumberFault.TheVariants.{Empty, InvalidDigit, TooLarge}

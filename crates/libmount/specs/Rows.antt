@@ -1,5 +1,5 @@
 -- Rows of a mountinfo table, as proc(5) describes them.
-use Rattle.std.specs.Prelude.{ℕ, ◌-◌, List, length, drop, Bool, ◌==◌, ◌||◌, if◌then◌else◌, slice_index, Option, Some, None, Result, Ok, Err}
+use Rattle.std.specs.Prelude.{ℕ, List, length, drop, Bool, ◌==◌, ◌||◌, if◌then◌else◌, slice_index, Option, Some, None, Result, Ok}
 use Rattle.std.specs.List.{prefix_len}
 use Rattle.std.specs.Str.Lines.{strip_carriage_return}
 use Rattle.libmount.specs.Cuts.{space, colon, dash, without_trailing_spaces}

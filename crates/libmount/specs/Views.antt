@@ -5,7 +5,6 @@ use Rattle.port_base.specs.declared.flags.MsFlags.{MsFlags}
 use Rattle.port_base.specs.Flags.{bits_of}
 use Rattle.libmount.specs.declared.mountinfo.errors.ParseError.{ParseError}
 use Rattle.libmount.specs.declared.mountinfo.errors.ParseError.TheVariants.{Row as ErrorRow, NoMemory as NoErrorMemory}
-use Rattle.libmount.specs.declared.mountinfo.errors.ParseRowError.{ParseRowError}
 use Rattle.libmount.specs.declared.mountinfo.errors.RowError.{RowError}
 use Rattle.libmount.specs.declared.mountinfo.errors.RowFault.{RowFault}
 use Rattle.libmount.specs.declared.mountinfo.errors.RowFault.TheVariants.{Row as RefusedRow, NoMemory as NoRowMemory}

@@ -1,4 +1,4 @@
--- A worked row of proc(5).
+-- Worked texts: a row of proc(5), and small tables.
 use Rattle.std.specs.Prelude.{ℕ, List, [], ◌∷◌, ◌++◌, codes}
 use Rattle.libmount.specs.Rows.{Row, borrowed, owned}
 
@@ -19,3 +19,42 @@ worked_fields = record {
   mount_source = borrowed (codes "/dev/sda1");
   super_options = borrowed (codes "rw,data=ordered");
 }
+
+-- a short row, and the same with a carriage return
+abbrev pub short_line : List ℕ
+short_line = codes "1 2 0:4 / /p ro - t s rw"
+
+abbrev pub returned_line : List ℕ
+returned_line = short_line ++ 13 ∷ []
+
+abbrev pub short_fields : Row
+short_fields = record {
+  mount_id = 1;
+  parent_id = 2;
+  major = 0;
+  minor = 4;
+  root = borrowed (codes "/");
+  mount_point = borrowed (codes "/p");
+  mount_options = borrowed (codes "ro");
+  optional_fields = borrowed [];
+  fstype = borrowed (codes "t");
+  mount_source = borrowed (codes "s");
+  super_options = borrowed (codes "rw");
+}
+
+-- a comment, the short row and a bad last line without a line feed
+abbrev pub small_table : List ℕ
+small_table = codes "# Test\n" ++ returned_line ++ codes "\nbad"
+
+-- two mounts at one place
+abbrev pub mounted_twice : List ℕ
+mounted_twice = codes "11 18 0:4 / /tmp rw shared:28 - tmpfs tmpfs rw\n12 18 0:6 / /tmp rw,nosuid,nodev shared:29 - tmpfs tmpfs rw\n"
+
+-- the options that name a flag, and all of them with two that name none
+abbrev pub option_words : List (List ℕ)
+option_words =
+    codes "ro" ∷ codes "nosuid" ∷ codes "nodev" ∷ codes "noexec" ∷ codes "mand" ∷ codes "sync" ∷ codes "dirsync" ∷ codes "noatime" ∷ codes "nodiratime"
+    ∷ codes "relatime" ∷ codes "strictatime" ∷ []
+
+abbrev pub all_options : List ℕ
+all_options = codes "ro,nosuid,nodev,noexec,mand,sync,dirsync,noatime,nodiratime,relatime,strictatime,,RO"

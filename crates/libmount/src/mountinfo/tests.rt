@@ -1,4 +1,4 @@
-use crate::mountinfo::{Field, MountPoint, Parser};
+use crate::mountinfo::{Field, MountPoint, Parser, RowFault, parse_mount_point};
 use crate::texts::Shown;
 use std::alloc::{AllocError, Global};
 use std::test::Fail;
@@ -161,6 +161,33 @@ fn rows_are_read_as_proc_shows_them(rt: HostRuntime) -> Result<(), Fail> {
     ];
     for (text, want) in cases {
         let got = describe(rt.alloc(), text)?;
+        assert_eq!(rt; got.as_str(), want);
+    }
+    Ok(())
+}
+
+// What one line says, as text: its mount flags, or its refusal.
+fn describe_line(alloc: Global, line: &[u8]) -> Result<String, AllocError> {
+    match parse_mount_point(alloc, line) {
+        Ok(Some(mount)) => format!(in alloc; "{}", mount.get_mount_flags().bits()),
+        Ok(None) => format!(in alloc; "passed over"),
+        Err(RowFault::Row(error)) => format!(in alloc; "{error}"),
+        Err(RowFault::NoMemory) => format!(in alloc; "no memory"),
+    }
+}
+
+#[test]
+fn a_line_alone_is_read(rt: HostRuntime) -> Result<(), Fail> {
+    let cases: [(&[u8], &str); 3] = [
+        (b"1 2 0:4 / /p ro,noexec - t s rw\r", "9"),
+        (b" # Test", "passed over"),
+        (
+            b"1 \xff",
+            "Parse error: Cannot parse integer \"\\xFF\": invalid digit",
+        ),
+    ];
+    for (line, want) in cases {
+        let got = describe_line(rt.alloc(), line)?;
         assert_eq!(rt; got.as_str(), want);
     }
     Ok(())

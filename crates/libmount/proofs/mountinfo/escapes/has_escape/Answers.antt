@@ -1,5 +1,5 @@
 -- An escape stands in a text where it stands at the front of what is left.
-use Rattle.std.proofs.Common.{◌≡◌, ◌∙◌, sym, ap, arith}
+use Rattle.std.proofs.Common.{◌∙◌, sym, ap, arith}
 use Rattle.std.proofs.lemmas.List.{drop_all}
 use Rattle.libmount.specs.Escapes.{has_escape}
 use Rattle.libmount.proofs.EscapeLemmas.{has-found, has-more, has-nil}
