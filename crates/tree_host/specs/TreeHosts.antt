@@ -9,6 +9,7 @@ use Rattle.tree_model.specs.Making.{NewFile, add_file_of}
 use Rattle.tree_host.specs.declared.memory.TreeHost.{TreeHost}
 use Rattle.tree_host.specs.declared.memory.NewItem.{NewItem}
 use Rattle.tree_host.specs.declared.memory.NewItem.TheVariants.{Dir, File, Link, Hard}
+use Rattle.tree_host.specs.Scripts.{Plan}
 use Rattle.tree_host.specs.Holds.{Holds}
 use Rattle.tree_host.specs.Kept.{tree_from}
 
@@ -30,12 +31,17 @@ faults h = h.faults
 abbrev pub is_steady : TreeHost → Bool
 is_steady h = h.steady
 
+-- which calls fault
+abbrev pub plan : TreeHost → Plan
+plan h = h.script
+
 -- what a call that adds leaves as it was
 pub record KeepsRest (old new : TreeHost) : Type 0 where
   pub holds : holds new ≡ holds old
   pub born : birth new ≡ birth old
   pub faults : faults new ≡ faults old
   pub steady : is_steady new ≡ is_steady old
+  pub plan : plan new ≡ plan old
 
 -- modes are permission bits, and targets those of good links
 abbrev pub IsGoodItem : NewItem → Type 0
