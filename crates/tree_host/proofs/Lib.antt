@@ -1,3 +1,4 @@
 pub mod Results
 pub mod Held
 pub mod Adding
+pub mod Striking

@@ -21,6 +21,11 @@ pub on_err : {A E : Type 0} (r : Result A E) {P Q : Type 0} → OnErr r P → (P
 on_err (Ok a) h f = tt
 on_err (Err e) h f = f h
 
+-- what holds of both ends of a call that may find no memory holds of what it leaves
+pub either_way : {A E X : Type 0} (r : Result A E) (P : X → Type 0) (now made old : X) → OnOk r (now ≡ made) → OnErr r (now ≡ old) → P made → P old → P now
+either_way (Ok a) P now made old ok err there here = subst P (sym ok) there
+either_way (Err e) P now made old ok err there here = subst P (sym err) here
+
 -- ---- answers
 
 pub told_ok : {A : Type 0} (told : Result A ℕ) (a : A) → Ok a ≡ as_errno told → told ≡ Ok a

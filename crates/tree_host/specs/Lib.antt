@@ -4,3 +4,4 @@ pub mod Stored
 pub mod Walking
 pub mod Kept
 pub mod TreeHosts
+pub mod Scripts

@@ -1,5 +1,5 @@
 //! What serves a tree of files.
-ghost use Rattle.std.specs.Prelude.{◌≡◌, ◌≢◌, ◌-◌, ◌^◌, ◌<◌, ℕ, Bool, All, length, IfOk, IfErr, OnErr, Some, None, Err, slice_get};
+ghost use Rattle.std.specs.Prelude.{◌≡◌, ◌≢◌, ◌-◌, ◌^◌, ◌<◌, ℕ, Bool, Option, All, length, IfOk, IfErr, OnErr, Some, None, Err, slice_get};
 ghost use Rattle.port_base.specs.Names.{name_fault};
 ghost use Rattle.tree_model.specs.Tree.{Tree, keep};
 ghost use Rattle.tree_model.specs.Good.{IsGoodTree};
@@ -8,6 +8,7 @@ ghost use Rattle.tree_model.specs.Attributes.{stat_of};
 ghost use Rattle.tree_model.specs.Reading.{entry_after_of};
 ghost use Rattle.tree_model.specs.Opening.{open_check_of, read_of};
 ghost use Rattle.tree_host.specs.Holds.{Holds, hold_count, is_held, held_more, held_less};
+ghost use Rattle.tree_host.specs.Scripts.{Plan, Follows};
 ghost use Rattle.tree_host.specs.Host.{IsHeldIn, Answers, Reads, Causes};
 
 use crate::entry::Entry;
@@ -15,7 +16,8 @@ use tree_model::{Attr, HostError};
 
 /// A tree of files, however it is kept. Callers name inodes by number, and hold each that they go on to
 /// name: a record stays as long as an entry or a hold names it. After an error the tree and the holds are
-/// as they were. `Fault` comes only where the count of faults rose, and never where the host is steady.
+/// as they were. `Fault` comes only where the count of faults rose, and never where the host is steady. A host may
+/// tell a plan: then the calls that it lists fault, and no other.
 pub trait Host {
     ghost tree: { Self → Tree };
 
@@ -24,6 +26,8 @@ pub trait Host {
     ghost faults: { Self → ℕ };
 
     ghost steady: { Self → Bool };
+
+    ghost plan: { Self → Option Plan };
 
     /// The directory at the end of an absolute path, which gets a hold. ENOTDIR where the record so far,
     /// or the last, is no directory; ENOENT where it has no such entry.
@@ -36,7 +40,8 @@ pub trait Host {
         ensures held { IfOk result (λ ino. holds self.new ≡ held_more (holds self.old) ino) }
         ensures refused { OnErr result (holds self.new ≡ holds self.old) }
         ensures cause { Causes (steady self.old) (faults self.old) (faults self.new) result }
-        ensures steady { steady self.new ≡ steady self.old };
+        ensures steady { steady self.new ≡ steady self.old }
+        ensures plan { Follows (plan self.old) (plan self.new) result };
 
     /// The inode that a name of a directory names, which gets a hold. ENOTDIR for what is no directory,
     /// ENOENT where no entry has the name.
@@ -49,7 +54,8 @@ pub trait Host {
         ensures held { IfOk result (λ ino. holds self.new ≡ held_more (holds self.old) ino) }
         ensures refused { OnErr result (holds self.new ≡ holds self.old) }
         ensures cause { Causes (steady self.old) (faults self.old) (faults self.new) result }
-        ensures steady { steady self.new ≡ steady self.old };
+        ensures steady { steady self.new ≡ steady self.old }
+        ensures plan { Follows (plan self.old) (plan self.new) result };
 
     /// One more hold of an inode that is held. It takes no memory, and its only error is `Fault`.
     fn hold_again(&mut self, ino: u64) -> Result<(), HostError>
@@ -60,7 +66,8 @@ pub trait Host {
         ensures refused { OnErr result (holds self.new ≡ holds self.old) }
         ensures fault { IfErr result (λ e. e ≡ HostError.Fault) }
         ensures cause { Causes (steady self.old) (faults self.old) (faults self.new) result }
-        ensures steady { steady self.new ≡ steady self.old };
+        ensures steady { steady self.new ≡ steady self.old }
+        ensures plan { Follows (plan self.old) (plan self.new) result };
 
     /// Takes a hold away. A record that no entry and no hold names is gone then. It takes no memory.
     fn release(&mut self, ino: u64)
@@ -68,7 +75,8 @@ pub trait Host {
         ensures holds { holds self.new ≡ held_less (holds self.old) ino }
         ensures tree { tree self.new ≡ keep (is_held (holds self.new)) (tree self.old) }
         ensures faults { faults self.new ≡ faults self.old }
-        ensures steady { steady self.new ≡ steady self.old };
+        ensures steady { steady self.new ≡ steady self.old }
+        ensures plan { plan self.new ≡ plan self.old };
 
     /// What is told of an inode. It takes no memory.
     fn stat(&mut self, ino: u64) -> Result<Attr, HostError>
@@ -78,7 +86,8 @@ pub trait Host {
         ensures holds { holds self.new ≡ holds self.old }
         ensures memory { result ≢ Err HostError.NoMemory }
         ensures cause { Causes (steady self.old) (faults self.old) (faults self.new) result }
-        ensures steady { steady self.new ≡ steady self.old };
+        ensures steady { steady self.new ≡ steady self.old }
+        ensures plan { Follows (plan self.old) (plan self.new) result };
 
     /// Whether an inode may be opened with these flags, which are those of `open(2)`: EINVAL for access 3, EEXIST
     /// for CREATE with EXCL, ELOOP for a link, ENOTDIR for a file with DIRECTORY, EISDIR for a directory that is
@@ -90,7 +99,8 @@ pub trait Host {
         ensures holds { holds self.new ≡ holds self.old }
         ensures memory { result ≢ Err HostError.NoMemory }
         ensures cause { Causes (steady self.old) (faults self.old) (faults self.new) result }
-        ensures steady { steady self.new ≡ steady self.old };
+        ensures steady { steady self.new ≡ steady self.old }
+        ensures plan { Follows (plan self.old) (plan self.new) result };
 
     /// Reads a file's bytes from an offset on, as many as there are and fit, into the front of `buf`, whose
     /// rest stays. EISDIR for a directory, EINVAL for a link. After an error `buf` is as it was. It takes no
@@ -102,7 +112,8 @@ pub trait Host {
         ensures holds { holds self.new ≡ holds self.old }
         ensures memory { result ≢ Err HostError.NoMemory }
         ensures cause { Causes (steady self.old) (faults self.old) (faults self.new) result }
-        ensures steady { steady self.new ≡ steady self.old };
+        ensures steady { steady self.new ≡ steady self.old }
+        ensures plan { Follows (plan self.old) (plan self.new) result };
 
     /// The first entry of a directory whose cookie is above the given one, if there is one. ENOTDIR for what
     /// is no directory.
@@ -112,7 +123,8 @@ pub trait Host {
         ensures tree { tree self.new ≡ tree self.old }
         ensures holds { holds self.new ≡ holds self.old }
         ensures cause { Causes (steady self.old) (faults self.old) (faults self.new) result }
-        ensures steady { steady self.new ≡ steady self.old };
+        ensures steady { steady self.new ≡ steady self.old }
+        ensures plan { Follows (plan self.old) (plan self.new) result };
 
     /// The tree is good at every moment.
     ghost good: { (h : Self) → IsGoodTree (tree h) };

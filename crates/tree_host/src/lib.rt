@@ -8,6 +8,7 @@ pub mod laws;
 pub mod memory;
 mod node;
 mod nodes;
+mod script;
 #[cfg(test)]
 mod tests;
 

@@ -3,31 +3,51 @@ ghost use Rattle.tree_model.specs.Good.{IsGoodTree, IsGoodStamp};
 ghost use Rattle.tree_model.specs.GoodLaws.{IsGoodTree-prop};
 ghost use Rattle.tree_host.specs.Host.{IsHeldIn};
 ghost use Rattle.tree_host.specs.Kept.{tree_from};
+ghost use Rattle.tree_host.specs.Scripts.{is_quiet};
+ghost use Rattle.std.specs.Prelude.{◌≡◌};
 
+mod adding;
 mod readers;
+#[cfg(test)]
+mod tests;
 
 use crate::entry::Entry;
 use crate::holds::{hold, lower};
 use crate::host::Host;
 use crate::node::{Node, TOP};
-use crate::nodes::{add_node, entry_after, find_in, open_check, refusal, sweep, walk};
-use port_base::errno::{EFBIG, ENOENT};
+use crate::nodes::{entry_after, find_in, open_check, sweep, walk};
+use crate::script::Script;
+use port_base::errno::ENOENT;
 use port_base::sink::NoMemory;
 use port_base::table::Table;
 use std::alloc::Global;
 use tree_model::{Attr, HostError, Limits, Stamp};
 
-/// What is added to a tree in memory: a file with its permission bits, owners and bytes.
+/// What is added to a tree in memory: a directory or a file with its permission bits and owners, a symbolic
+/// link, or one more name of the file or link `ino`.
 pub enum NewItem<'a> {
+    Dir {
+        mode: u32,
+        uid: u32,
+        gid: u32,
+    },
     File {
         mode: u32,
         uid: u32,
         gid: u32,
         bytes: &'a [u8],
     },
+    Link {
+        uid: u32,
+        gid: u32,
+        target: &'a [u8],
+    },
+    Hard {
+        ino: u64,
+    },
 }
 
-/// A tree in memory. It faults in no call yet.
+/// A tree in memory. It faults exactly in the calls of `Host` that `fail_at` lists.
 #[derive(Drop)]
 pub struct TreeHost {
     alloc: Global,
@@ -39,19 +59,22 @@ pub struct TreeHost {
     born: Stamp,
     faults: u64,
     steady: bool,
+    script: Script,
     ghost good: { IsGoodTree (tree_from nodes next limits moment) } by { IsGoodTree-prop (tree_from nodes next limits moment) },
     ghost stored: { IsHeldIn (tree_from nodes next limits moment) holds },
     ghost timed: { IsGoodStamp born },
+    ghost quiet: { steady ≡ is_quiet script.fails },
 }
 
 impl TreeHost {
-    ghost use Rattle.std.specs.Prelude.{◌≡◌, ◌≢◌, ◌<◌, IfOk, IsSome, true, None, Err};
+    ghost use Rattle.std.specs.Prelude.{◌≡◌, ◌≢◌, ◌<◌, ◌++◌, [], IfOk, OnOk, OnErr, IsSome, true, None, Err};
+    ghost use Rattle.tree_host.specs.Scripts.{is_quiet};
     ghost use Rattle.port_base.specs.Names.{name_fault};
     ghost use Rattle.std.specs.FinMap as map;
     ghost use Rattle.tree_model.specs.Good.{IsGoodLimits, IsGoodStamp};
-    ghost use Rattle.tree_model.specs.Making.{new_tree, add_file_of};
+    ghost use Rattle.tree_model.specs.Making.{new_tree};
     ghost use Rattle.tree_host.specs.Host.{Leaves};
-    ghost use Rattle.tree_host.specs.TreeHosts.{tree, holds, birth, faults, is_steady, IsGoodItem, new_file, add_of};
+    ghost use Rattle.tree_host.specs.TreeHosts.{tree, holds, birth, faults, is_steady, plan, IsGoodItem, IsStoredItem, add_of};
 
     /// A tree of the top directory alone, inode 1, whose times are `born`. What is added is born then too,
     /// and what changes is stamped with `moment`.
@@ -73,6 +96,7 @@ impl TreeHost {
         ensures born { IfOk result (λ host. birth host ≡ born) }
         ensures faults { IfOk result (λ host. faults host ≡ 0) }
         ensures steady { IfOk result (λ host. is_steady host ≡ true) }
+        ensures plan { IfOk result (λ host. plan host ≡ record { fails = []; calls = 0 }) }
     {
         let mut nodes = Table::new(alloc);
         match nodes.insert(TOP, Node::top(alloc, mode, uid, gid, born)) {
@@ -86,6 +110,7 @@ impl TreeHost {
                 born,
                 faults: 0,
                 steady: true,
+                script: Script::new(alloc),
             }),
             Err(_) => Err(NoMemory),
         }
@@ -94,68 +119,60 @@ impl TreeHost {
     /// Adds a record with an entry in the directory `dir`, and answers its number. Its times are those that
     /// the tree is born with; the directory's times stay. ENOTDIR for what is no directory, ENOENT for a
     /// directory that no entry names, EEXIST for a name that is there, ENOSPC where the directory is full or
-    /// no number or cookie is left, EFBIG for more bytes than a file may have. After an error nothing has
-    /// changed. It never faults.
+    /// no number or cookie is left, EFBIG for more bytes than a file may have. `Hard` adds an entry alone and
+    /// answers `ino`: EPERM, after ENOTDIR, for a directory, ENOENT also for what no entry names, EMLINK, after
+    /// EEXIST, for what has as many links as there may be. After an error nothing has changed. It never
+    /// faults.
     pub fn add(&mut self, dir: u64, name: &[u8], item: NewItem<'_>) -> Result<u64, HostError>
         requires stored { IsSome (map.get (tree self.old).records dir) }
         requires named { name_fault name.now ≡ None }
         requires item { IsGoodItem item }
+        requires there { IsStoredItem (tree self.old).records item }
         ensures leaves { Leaves (add_of (birth self.old) (tree self.old) dir name.now item.entry) (tree self.old) (tree self.new) result }
         ensures holds { holds self.new ≡ holds self.old }
         ensures fault { result ≢ Err HostError.Fault }
         ensures faults { faults self.new ≡ faults self.old }
         ensures steady { is_steady self.new ≡ is_steady self.old }
         ensures born { birth self.new ≡ birth self.old }
+        ensures plan { plan self.new ≡ plan self.old }
     {
         match item {
+            NewItem::Dir { mode, uid, gid } => self.add_directory(dir, name, mode, uid, gid),
             NewItem::File {
                 mode,
                 uid,
                 gid,
                 bytes,
             } => self.add_file(dir, name, mode, uid, gid, bytes),
+            NewItem::Link { uid, gid, target } => self.add_link(dir, name, uid, gid, target),
+            NewItem::Hard { ino } => self.add_hard(dir, name, ino),
         }
     }
 
-    fn add_file(
-        &mut self,
-        dir: u64,
-        name: &[u8],
-        mode: u32,
-        uid: u32,
-        gid: u32,
-        bytes: &[u8],
-    ) -> Result<u64, HostError>
-        requires named { name_fault name.now ≡ None }
-        requires mode { mode < 4096 }
-        ensures leaves { Leaves (add_file_of (birth self.old) (tree self.old) dir name.now (new_file mode uid gid bytes.now)) (tree self.old) (tree self.new) result }
+    /// Lets the calls of `Host` with these numbers fault, besides those that were listed before. Calls count
+    /// from 0 on; `release` and the readers don't count. From a number on it is no longer steady. Without
+    /// memory nothing changes.
+    pub fn fail_at(&mut self, fails: &[u64]) -> Result<(), NoMemory>
+        ensures ok { OnOk result (plan self.new ≡ record (plan self.old) { fails = (plan self.old).fails ++ fails.now }) }
+        ensures err { OnErr result (plan self.new ≡ plan self.old) }
+        ensures steady { is_steady self.new ≡ is_quiet (plan self.new).fails }
+        ensures tree { tree self.new ≡ tree self.old }
         ensures holds { holds self.new ≡ holds self.old }
-        ensures fault { result ≢ Err HostError.Fault }
         ensures faults { faults self.new ≡ faults self.old }
-        ensures steady { is_steady self.new ≡ is_steady self.old }
         ensures born { birth self.new ≡ birth self.old }
     {
-        if let Some(errno) = refusal(&self.nodes, dir, name, self.next, self.limits.entries) {
-            return Err(HostError::Errno(errno));
-        }
-        if bytes.len() as u64 > self.limits.file {
-            return Err(HostError::Errno(EFBIG));
-        }
-        let ino = self.next;
-        let Ok(node) = Node::file(self.alloc, mode, uid, gid, bytes, self.born) else {
-            return Err(HostError::NoMemory);
-        };
-        match add_node(self.alloc, &mut self.nodes, dir, name, ino, node) {
-            Ok(()) => {
-                self.next = ino + 1;
-                Ok(ino)
-            }
-            Err(_) => Err(HostError::NoMemory),
+        let listed = self.script.fail_at(fails);
+        self.steady = self.script.is_quiet();
+        match listed {
+            Ok(()) => Ok(()),
+            Err(_) => Err(NoMemory),
         }
     }
 }
 
 impl Host for TreeHost {
+    ghost use Rattle.std.specs.Prelude.{Some};
+
     ghost tree = { λ s. tree_from s.nodes s.next s.limits s.moment };
 
     ghost holds = { λ s. s.holds };
@@ -164,7 +181,12 @@ impl Host for TreeHost {
 
     ghost steady = { λ s. s.steady };
 
+    ghost plan = { λ s. Some s.script };
+
     fn attach_path(&mut self, path: &[u8]) -> Result<u64, HostError> {
+        if self.script.strikes(&mut self.faults) {
+            return Err(HostError::Fault);
+        }
         let ino = walk(&self.nodes, path)?;
         match hold(&mut self.holds, ino) {
             Ok(()) => Ok(ino),
@@ -173,6 +195,9 @@ impl Host for TreeHost {
     }
 
     fn lookup(&mut self, dir: u64, name: &[u8]) -> Result<u64, HostError> {
+        if self.script.strikes(&mut self.faults) {
+            return Err(HostError::Fault);
+        }
         let ino = find_in(&self.nodes, dir, name)?;
         match hold(&mut self.holds, ino) {
             Ok(()) => Ok(ino),
@@ -181,6 +206,9 @@ impl Host for TreeHost {
     }
 
     fn hold_again(&mut self, ino: u64) -> Result<(), HostError> {
+        if self.script.strikes(&mut self.faults) {
+            return Err(HostError::Fault);
+        }
         match hold(&mut self.holds, ino) {
             Ok(()) => Ok(()),
             Err(_) => unreachable!(),
@@ -193,6 +221,9 @@ impl Host for TreeHost {
     }
 
     fn stat(&mut self, ino: u64) -> Result<Attr, HostError> {
+        if self.script.strikes(&mut self.faults) {
+            return Err(HostError::Fault);
+        }
         match self.nodes.get(ino) {
             Some(node) => Ok(node.attr(ino)),
             None => Err(HostError::Errno(ENOENT)),
@@ -200,10 +231,16 @@ impl Host for TreeHost {
     }
 
     fn open_check(&mut self, ino: u64, flags: u32) -> Result<(), HostError> {
+        if self.script.strikes(&mut self.faults) {
+            return Err(HostError::Fault);
+        }
         open_check(&self.nodes, ino, flags)
     }
 
     fn read_at(&mut self, ino: u64, offset: u64, buf: &mut [u8]) -> Result<usize, HostError> {
+        if self.script.strikes(&mut self.faults) {
+            return Err(HostError::Fault);
+        }
         match self.nodes.get(ino) {
             Some(node) => node.read_at(offset, buf),
             None => Err(HostError::Errno(ENOENT)),
@@ -211,6 +248,9 @@ impl Host for TreeHost {
     }
 
     fn entry_after(&mut self, dir: u64, cookie: u64) -> Result<Option<Entry>, HostError> {
+        if self.script.strikes(&mut self.faults) {
+            return Err(HostError::Fault);
+        }
         entry_after(self.alloc, &self.nodes, dir, cookie)
     }
 

@@ -12,6 +12,8 @@ ghost use Rattle.tree_model.specs.Reading.{shown_entry, entry_after_among};
 ghost use Rattle.tree_host.specs.Walking.{part_step, part_end, walk_parts};
 ghost use Rattle.tree_model.specs.Opening.{asked, unless, open_refused, found_at};
 ghost use Rattle.tree_model.specs.Attributes.{kind_of};
+ghost use Rattle.tree_model.specs.Placing.{link_refused, one_link_more};
+ghost use Rattle.tree_host.specs.Stored.{links};
 ghost use Rattle.tree_host.specs.Kept.{tree_from};
 ghost use Rattle.tree_model.specs.declared.attributes.Limits.{Limits};
 ghost use Rattle.tree_model.specs.declared.attributes.Stamp.{Stamp};
@@ -22,7 +24,7 @@ use crate::node::{Name, Node, TOP};
 use port_base::errno::{ENOENT, ENOTDIR};
 use port_base::table::Table;
 use std::alloc::{AllocError, Global};
-use tree_model::HostError;
+use tree_model::{HostError, Limits};
 
 /// The inode that a name of a directory names.
 pub fn find_in(nodes: &Table<Node>, dir: u64, name: &[u8]) -> Result<u64, HostError>
@@ -137,6 +139,25 @@ pub fn refusal(nodes: &Table<Node>, dir: u64, name: &[u8], number: u64, limit: u
     }
 }
 
+/// The first refusal of one more name of a record.
+pub fn link_refusal(
+    nodes: &Table<Node>,
+    dir: u64,
+    name: &[u8],
+    ino: u64,
+    limits: Limits,
+) -> Option<u32>
+    ensures { result ≡ link_refused (not (has_no_links (map.get nodes.now dir))) limits name.now (body_at nodes.now dir) (map.get nodes.now ino) }
+{
+    let Some(directory) = nodes.get(dir) else {
+        return Some(ENOTDIR);
+    };
+    match nodes.get(ino) {
+        Some(node) => directory.link_refusal(name, node, limits),
+        None => Some(ENOENT),
+    }
+}
+
 fn take_away(nodes: &mut Table<Node>, ino: u64)
     ensures { nodes.new ≡ map.remove nodes.old ino }
 {
@@ -183,6 +204,35 @@ pub fn add_node(
             Err(error)
         }
     }
+}
+
+fn link_more(nodes: &mut Table<Node>, ino: u64)
+    requires { unwrap_or (option_map links (map.get nodes.old ino)) 0 < 2 ^ 64 - 1 }
+    ensures { nodes.new ≡ change one_link_more nodes.old ino }
+{
+    match nodes.get_mut(ino) {
+        Some(node) => node.link_more(),
+        None => (),
+    }
+}
+
+/// Adds an entry for a record that is there, where there is memory for it.
+pub fn add_name(
+    alloc: Global,
+    nodes: &mut Table<Node>,
+    dir: u64,
+    name: &[u8],
+    ino: u64,
+) -> Result<(), AllocError>
+    requires room { unwrap_or (option_map next_cookie (body_at nodes.old dir)) 0 < 2 ^ 64 - 1 }
+    requires apart { dir ≢ ino }
+    requires few { unwrap_or (option_map links (map.get nodes.old ino)) 0 < 2 ^ 64 - 1 }
+    ensures ok { OnOk result (nodes.new ≡ change (joined_by name.now ino) (change one_link_more nodes.old ino) dir) }
+    ensures err { OnErr result (nodes.new ≡ nodes.old) }
+{
+    push_into(alloc, nodes, dir, name, ino)?;
+    link_more(nodes, ino);
+    Ok(())
 }
 
 // An entry with what is told of the inode that it names.

@@ -1,4 +1,5 @@
 pub mod Maps
+pub mod Changing
 pub mod Counting
 pub mod Naming
 pub mod Sweeping

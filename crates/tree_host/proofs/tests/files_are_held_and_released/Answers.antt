@@ -20,14 +20,17 @@ one h h' i more = let same = ap (λ h. hold_count h i) more in let count = hold_
 
 pub attach_path-requires-clause-room : goal.attach_path-requires-clause-room
 attach_path-requires-clause-room g c i =
-    let zero = no_holds c.add.new.host.holds (c.add.ensures ∙ c.in_ok-host.ensures.holds) i in
+    let zero = no_holds c.fail_at.new.self.holds (c.fail_at.ensures.holds ∙ c.add.ensures ∙ c.in_ok-host.ensures.holds) i in
     omega (arith, zero)
 
+pub stat-requires : goal.stat-requires
+stat-requires g c = one c.fail_at.new.self.holds c.attach_path.new.self.holds c.in_ok-root.root c.in_ok-root.ensures.held
+
 pub entry_after-requires : goal.entry_after-requires
-entry_after-requires g c = one c.add.new.host.holds c.attach_path.new.self.holds c.in_ok-root.root c.in_ok-root.ensures.held
+entry_after-requires g c = one c.fail_at.new.self.holds c.stat-struck.new.self.holds c.in_ok-root.root (c.stat-struck.ensures.holds ∙ c.in_ok-root.ensures.held)
 
 pub told-requires-clause-held : goal.told-requires-clause-held
-told-requires-clause-held g c = one c.add.new.host.holds c.entry_after.new.self.holds c.in_ok-root.root (c.in_ok-entry.ensures.holds ∙ c.in_ok-root.ensures.held)
+told-requires-clause-held g c = one c.fail_at.new.self.holds c.entry_after.new.self.holds c.in_ok-root.root (c.in_ok-entry.ensures.holds ∙ c.stat-struck.ensures.holds ∙ c.in_ok-root.ensures.held)
 
 pub told-requires-clause-room : goal.told-requires-clause-room
-told-requires-clause-room g c = few c.add.new.host.holds c.entry_after.new.self.holds c.in_ok-root.root (c.add.ensures ∙ c.in_ok-host.ensures.holds) (c.in_ok-entry.ensures.holds ∙ c.in_ok-root.ensures.held)
+told-requires-clause-room g c = few c.fail_at.new.self.holds c.entry_after.new.self.holds c.in_ok-root.root (c.fail_at.ensures.holds ∙ c.add.ensures ∙ c.in_ok-host.ensures.holds) (c.in_ok-entry.ensures.holds ∙ c.stat-struck.ensures.holds ∙ c.in_ok-root.ensures.held)

@@ -6,6 +6,7 @@ use Rattle.tree_model.specs.Good.{IsGoodTree}
 use Rattle.tree_model.proofs.Files.{new_tree_good}
 use Rattle.tree_host.specs.Holds.{Holds}
 use Rattle.tree_host.specs.Host.{IsHeldIn}
+use Rattle.tree_host.specs.Scripts.{Plan, is_quiet}
 use Rattle.tree_host.specs.Kept.{tree_from}
 use Rattle.tree_host.proofs.Held.{new_held}
 use Rattle.tree_host.proofs.memory.TreeHost.new.Goals as goal
@@ -19,4 +20,5 @@ invariant_of-result c =
       stored = subst (λ (h : Holds). IsHeldIn (tree_from c.insert.new.self 2 a.limits a.moment) h) (sym c.new.ensures)
           (subst (λ (rs : Records). IsHeldIn (tree_from rs 2 a.limits a.moment) map.empty) (sym records) (new_held a.limits a.moment a.born a.mode a.uid a.gid));
       timed = c.requires.born;
+      quiet = sym (ap (λ (p : Plan). is_quiet p.fails) c.new-in-Ok.ensures);
     }

@@ -5,10 +5,11 @@ use Rattle.tree_model.specs.Finding.{root_of, path_names}
 use Rattle.tree_host.specs.Kept.{tree_from}
 use Rattle.tree_host.proofs.Held.{either_held}
 use Rattle.tree_host.proofs.Results.{told_ok, root_is_stored}
+use Rattle.tree_host.proofs.Striking.{still_quiet}
 use Rattle.tree_host.proofs.memory.TreeHostHost.attach_path.Goals as goal
 
-pub invariant_of-self : goal.invariant_of-self
-invariant_of-self c =
+pub invariant_of-self-2 : goal.invariant_of-self-2
+invariant_of-self-2 c =
     let s = c.args.self.now in
     let t = tree_from s.nodes s.next s.limits s.moment in
     let i = c.in_ok-ino.ino in
@@ -18,4 +19,5 @@ invariant_of-self c =
       good = s.good;
       stored = either_held t s.holds c.hold.new.holds i s.stored had c.hold.result c.hold.ensures.ok c.hold.ensures.err;
       timed = s.timed;
+      quiet = still_quiet s.steady s.script c.strikes.new.self s.quiet c.strikes.ensures.after;
     }
