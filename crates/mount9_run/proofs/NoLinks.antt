@@ -1,5 +1,5 @@
 -- A tree that files are added to has no symbolic links.
-use Rattle.std.proofs.Common.{◌≡◌, ◌≢◌, ℕ, List, refl, sym, ap, ◌∙◌, subst, Option, Some, None, Result, Ok, Err, ⊎_elim}
+use Rattle.std.proofs.Common.{⊤, ◌≡◌, ◌≢◌, ℕ, List, refl, sym, ap, ◌∙◌, subst, Option, Some, None, Result, Ok, Err, ⊎_elim}
 use Rattle.std.proofs.lemmas.Bool.{cases_eq}
 use Rattle.std.proofs.lemmas.Option.{same_Some, none-some}
 use Rattle.std.specs.Ordering.{nat_cmp}
@@ -49,14 +49,24 @@ unless-files None born t u dir name f n is h =
     let same : ◌≡◌ {A = ℕ × Tree} (t.next, with_file born t dir name f) (n, u) = cc in
     subst HasNoLinks (ap (λ (p : ℕ × Tree). p.1) same) (with_file-files born t dir name f h)
 
-added-files : (born : Stamp) (t u : Tree) (dir : ℕ) (name : List ℕ) (x : NewItem) (n : ℕ) → add_of born t dir name x ≡ Ok (n, u) → HasNoLinks t → HasNoLinks u
-added-files born t u dir name (item.File mode uid gid bytes) n is h = unless-files _ born t u dir name (new_file mode uid gid bytes.now) n is h
+-- what is added is a file
+abbrev pub IsFile : NewItem → Type 0
+IsFile (item.Dir mode uid gid) = ⊥
+IsFile (item.File mode uid gid bytes) = ⊤
+IsFile (item.Link uid gid target) = ⊥
+IsFile (item.Hard ino) = ⊥
 
-left_by : (born : Stamp) (t u : Tree) (dir : ℕ) (name : List ℕ) (x : NewItem) (r : Result ℕ HostError) → LeavesBy (add_of born t dir name x) t u r → HasNoLinks t → HasNoLinks u
-left_by born t u dir name x (Ok n) is h = added-files born t u dir name x n is h
-left_by born t u dir name x (Err (Errno e)) is h = subst HasNoLinks (sym is.1) h
-left_by born t u dir name x (Err Fault) is h = subst HasNoLinks (sym is) h
-left_by born t u dir name x (Err NoMemory) is h = subst HasNoLinks (sym is) h
+added-files : (born : Stamp) (t u : Tree) (dir : ℕ) (name : List ℕ) (x : NewItem) (n : ℕ) → IsFile x → add_of born t dir name x ≡ Ok (n, u) → HasNoLinks t → HasNoLinks u
+added-files born t u dir name (item.Dir mode uid gid) n file is h = absurd file
+added-files born t u dir name (item.File mode uid gid bytes) n file is h = unless-files _ born t u dir name (new_file mode uid gid bytes.now) n is h
+added-files born t u dir name (item.Link uid gid target) n file is h = absurd file
+added-files born t u dir name (item.Hard ino) n file is h = absurd file
 
-pub added-no_links : (born : Stamp) (t u : Tree) (dir : ℕ) (name : List ℕ) (x : NewItem) (r : Result ℕ HostError) → Leaves (add_of born t dir name x) t u r → HasNoLinks t → HasNoLinks u
-added-no_links born t u dir name x r leaves h = left_by born t u dir name x r leaves.exactly h
+left_by : (born : Stamp) (t u : Tree) (dir : ℕ) (name : List ℕ) (x : NewItem) (r : Result ℕ HostError) → IsFile x → LeavesBy (add_of born t dir name x) t u r → HasNoLinks t → HasNoLinks u
+left_by born t u dir name x (Ok n) file is h = added-files born t u dir name x n file is h
+left_by born t u dir name x (Err (Errno e)) file is h = subst HasNoLinks (sym is.1) h
+left_by born t u dir name x (Err Fault) file is h = subst HasNoLinks (sym is) h
+left_by born t u dir name x (Err NoMemory) file is h = subst HasNoLinks (sym is) h
+
+pub added-no_links : (born : Stamp) (t u : Tree) (dir : ℕ) (name : List ℕ) (x : NewItem) (r : Result ℕ HostError) → IsFile x → Leaves (add_of born t dir name x) t u r → HasNoLinks t → HasNoLinks u
+added-no_links born t u dir name x r file leaves h = left_by born t u dir name x r file leaves.exactly h

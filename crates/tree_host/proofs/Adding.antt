@@ -1,61 +1,46 @@
--- A file more in a tree that is held.
-use Rattle.std.proofs.Common.{◌≡◌, ℕ, ◌+◌, ◌<◌, ◌≤◌, true, false, cond, not, List, length, refl, sym, ap, ◌∙◌, subst, Option, Some, None, Ok, Err, arith, nat_lt}
-use Rattle.std.proofs.lemmas.Bool.Decides.{nat_tests}
+-- A record or a name more in a tree that is held.
+use Rattle.std.proofs.Common.{◌≡◌, ℕ, ◌+◌, not, List, sym, subst, None}
 use Rattle.std.specs.FinMap.{get}
 use Rattle.port_base.specs.Names.{name_fault}
-use Rattle.port_base.specs.declared.errno.TheConstants.{EFBIG}
-use Rattle.tree_model.specs.declared.attributes.Stamp.{Stamp}
-use Rattle.tree_model.specs.declared.attributes.HostError.TheVariants.{Errno}
-use Rattle.tree_model.specs.Tree.{Tree, Records, body_at, is_linked}
-use Rattle.tree_model.specs.Good.{IsGoodStamp, IsGoodTree}
+use Rattle.tree_model.specs.Tree.{Tree, Record, Records, body_at, is_linked}
+use Rattle.tree_model.specs.Good.{IsGoodTree}
 use Rattle.tree_model.specs.Sound.{IsKept, AreStored, has_no_links}
-use Rattle.tree_model.specs.Making.{new_name_refused, NewFile, file_record, joined_by, add_refused, with_file, add_file_of, add_file_unless}
-use Rattle.tree_model.proofs.Adding.{added_kept, added_stored}
-use Rattle.tree_model.proofs.Files.{IsLetIn, let_in, refused_by_links, good_is_counted, file_added, with_file-records, with_file_good}
+use Rattle.tree_model.specs.Making.{new_name_refused}
+use Rattle.tree_model.specs.Placing.{IsNew, create_refused, with_record, link_refused, with_link}
+use Rattle.tree_model.proofs.Files.{refused_by_links, good_is_counted}
+use Rattle.tree_model.proofs.Placing.{with_record_good, with_record_kept, with_record_stored}
+use Rattle.tree_model.proofs.Joining.{named_in, with_link_good, with_link_kept, with_link_stored, link_refused_by_links}
 use Rattle.tree_host.specs.Holds.{Holds, is_held}
-use Rattle.tree_host.specs.Host.{IsHeldIn, Leaves}
+use Rattle.tree_host.specs.Host.{IsHeldIn}
 use Rattle.tree_host.specs.Kept.{tree_from}
 
 module _ (t : Tree) (h : Holds) (g : IsGoodTree t) (s : IsHeldIn t h) (dir : ℕ) (name : List ℕ) where
-  -- the first refusal of the name
-  abbrev pub first : Option ℕ
-  first = new_name_refused (is_linked t.records dir) t.limits.entries t.next name (body_at t.records dir)
+  pub refused_as : create_refused t dir name ≡ new_name_refused (not (has_no_links (get t.records dir))) t.limits.entries t.next name (body_at t.records dir)
+  refused_as = sym (refused_by_links (good_is_counted t (is_held h) g s.stored) t.limits.entries t.next dir name)
 
-  pub first_by_links : (o : Option ℕ) → o ≡ new_name_refused (not (has_no_links (get t.records dir))) t.limits.entries t.next name (body_at t.records dir) → first ≡ o
-  first_by_links o is = sym (is ∙ refused_by_links (good_is_counted t (is_held h) g s.stored) t.limits.entries t.next dir name)
+  pub named_as : (ino : ℕ) → link_refused (is_linked t.records dir) t.limits name (body_at t.records dir) (get t.records ino) ≡ link_refused (not (has_no_links (get t.records dir))) t.limits name (body_at t.records dir) (get t.records ino)
+  named_as ino = sym (link_refused_by_links (good_is_counted t (is_held h) g s.stored) t.limits dir name (get t.records ino))
 
-  module _ (born : Stamp) (f : NewFile) where
-    pub refused_leaves : (e : ℕ) → first ≡ Some e → Leaves (add_file_of born t dir name f) t t (Err (Errno e))
-    refused_leaves e is = record { exactly = (ap (λ o. add_file_unless (add_refused o t.limits.file f) born t dir name f) is, refl) }
+  -- a record more
+  module _ (free : create_refused t dir name ≡ None) (r : Record) (new : IsNew dir r) (rs : Records) (made : rs ≡ (with_record t dir name r).records) where
+    pub with_it_good : name_fault name ≡ None → IsGoodTree (tree_from rs (t.next + 1) t.limits t.moment)
+    with_it_good fine = subst (λ (rs : Records). IsGoodTree (tree_from rs (t.next + 1) t.limits t.moment)) (sym made) (with_record_good t g dir name free r new fine)
 
-    pub too_long_leaves : first ≡ None → t.limits.file < length f.bytes → Leaves (add_file_of born t dir name f) t t (Err (Errno EFBIG))
-    too_long_leaves is long =
-        let test : nat_lt t.limits.file (length f.bytes) ≡ true = grind (arith, nat_tests) in
-        record { exactly = (ap (λ o. add_file_unless (add_refused o t.limits.file f) born t dir name f) is ∙ ap (λ b. add_file_unless (cond b (Some EFBIG) None) born t dir name f) test, refl) }
+    pub with_it_held : IsHeldIn (tree_from rs (t.next + 1) t.limits t.moment) h
+    with_it_held = record {
+      kept = subst (λ (rs : Records). IsKept rs (is_held h)) (sym made) (with_record_kept t g dir name free r new (is_held h) s.kept);
+      stored = subst (λ (rs : Records). AreStored rs (is_held h)) (sym made) (with_record_stored t g dir name free r new (is_held h) s.stored);
+      positive = s.positive;
+    }
 
-    -- with the file, where the records are those of the definition
-    module _ (is : first ≡ None) (short : length f.bytes ≤ t.limits.file) (rs : Records) (made : rs ≡ (with_file born t dir name f).records) where
-      abbrev pub with_it : Tree
-      with_it = tree_from rs (t.next + 1) t.limits t.moment
+  -- one more name
+  module _ (ino : ℕ) (free : link_refused (is_linked t.records dir) t.limits name (body_at t.records dir) (get t.records ino) ≡ None) (rs : Records) (made : rs ≡ (with_link t dir name ino).records) where
+    pub with_name_good : name_fault name ≡ None → IsGoodTree (tree_from rs t.next t.limits t.moment)
+    with_name_good fine = subst (λ (rs : Records). IsGoodTree (tree_from rs t.next t.limits t.moment)) (sym made) (with_link_good t g dir ino name (named_in t.records t.limits dir ino name free) fine)
 
-      w : IsLetIn t.records t.next dir name
-      w = let_in t.records t.limits.entries t.next dir name is
-
-      pub with_it_leaves : Leaves (add_file_of born t dir name f) t with_it (Ok t.next)
-      with_it_leaves =
-          let test : nat_lt t.limits.file (length f.bytes) ≡ false = grind (arith, nat_tests) in
-          record { exactly = ap (λ o. add_file_unless (add_refused o t.limits.file f) born t dir name f) is ∙ ap (λ b. add_file_unless (cond b (Some EFBIG) None) born t dir name f) test ∙ ap (λ (rs : Records). Ok (t.next, tree_from rs (t.next + 1) t.limits t.moment)) (sym made) }
-
-      pub with_it_good : name_fault name ≡ None → f.mode < 4096 → IsGoodStamp born → IsGoodTree with_it
-      with_it_good fine mode stamp = subst (λ (rs : Records). IsGoodTree (tree_from rs (t.next + 1) t.limits t.moment)) (sym made) (with_file_good t g born dir name f w fine mode stamp short)
-
-      pub with_it_held : IsHeldIn with_it h
-      with_it_held =
-          let d = w.d in
-          let added = file_added t g born dir name f w in
-          let same = made ∙ with_file-records t g born dir name f w in
-          record {
-            kept = subst (λ (rs : Records). IsKept rs (is_held h)) (sym same) (added_kept t g dir name d (joined_by name t.next d) (file_record born f) added (is_held h) (is_held h) (λ q ne. refl) s.kept);
-            stored = subst (λ (rs : Records). AreStored rs (is_held h)) (sym same) (added_stored t g dir name d (joined_by name t.next d) (file_record born f) added (is_held h) (is_held h) (λ q ne. refl) s.stored);
-            positive = s.positive;
-          }
+    pub with_name_held : IsHeldIn (tree_from rs t.next t.limits t.moment) h
+    with_name_held = let w = named_in t.records t.limits dir ino name free in record {
+      kept = subst (λ (rs : Records). IsKept rs (is_held h)) (sym made) (with_link_kept t g dir ino name w (is_held h) s.kept);
+      stored = subst (λ (rs : Records). AreStored rs (is_held h)) (sym made) (with_link_stored t g dir ino name w (is_held h) s.stored);
+      positive = s.positive;
+    }

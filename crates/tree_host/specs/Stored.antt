@@ -1,5 +1,6 @@
 -- How the bodies of records are stored.
-use Rattle.tree_model.specs.Tree.{Body}
+use Rattle.std.specs.Prelude.{ℕ}
+use Rattle.tree_model.specs.Tree.{Body, Record}
 use Rattle.tree_model.specs.Tree.Body.{File, Directory, Link}
 use Rattle.tree_host.specs.declared.node.Stored.{Stored}
 use Rattle.tree_host.specs.declared.node.Stored.TheVariants.{Bytes, Names, Target}
@@ -9,3 +10,6 @@ abbrev pub body_of : Stored → Body
 body_of (Bytes bytes) = File bytes.items
 body_of (Names entries next above) = Directory entries.items next above
 body_of (Target target) = Link target.items
+
+abbrev pub links : Record → ℕ
+links r = r.links

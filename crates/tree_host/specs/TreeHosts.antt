@@ -1,11 +1,14 @@
 -- What a host in memory shows, and what can be added to it.
-use Rattle.std.specs.Prelude.{ℕ, Bool, List, Result, ◌<◌}
+use Rattle.std.specs.Prelude.{◌≡◌, ℕ, Bool, List, Result, ◌<◌, IsSome, ⊤}
+use Rattle.std.specs.FinMap as map
 use Rattle.tree_model.specs.declared.attributes.Stamp.{Stamp}
-use Rattle.tree_model.specs.Tree.{Tree}
+use Rattle.tree_model.specs.Tree.{Tree, Records}
+use Rattle.tree_model.specs.Good.{IsGoodTarget}
+use Rattle.tree_model.specs.Placing.{add_directory_of, add_link_of, add_hard_of}
 use Rattle.tree_model.specs.Making.{NewFile, add_file_of}
 use Rattle.tree_host.specs.declared.memory.TreeHost.{TreeHost}
 use Rattle.tree_host.specs.declared.memory.NewItem.{NewItem}
-use Rattle.tree_host.specs.declared.memory.NewItem.TheVariants.{File}
+use Rattle.tree_host.specs.declared.memory.NewItem.TheVariants.{Dir, File, Link, Hard}
 use Rattle.tree_host.specs.Holds.{Holds}
 use Rattle.tree_host.specs.Kept.{tree_from}
 
@@ -27,13 +30,33 @@ faults h = h.faults
 abbrev pub is_steady : TreeHost → Bool
 is_steady h = h.steady
 
--- the modes are permission bits
+-- what a call that adds leaves as it was
+pub record KeepsRest (old new : TreeHost) : Type 0 where
+  pub holds : holds new ≡ holds old
+  pub born : birth new ≡ birth old
+  pub faults : faults new ≡ faults old
+  pub steady : is_steady new ≡ is_steady old
+
+-- modes are permission bits, and targets those of good links
 abbrev pub IsGoodItem : NewItem → Type 0
+IsGoodItem (Dir mode uid gid) = mode < 4096
 IsGoodItem (File mode uid gid bytes) = mode < 4096
+IsGoodItem (Link uid gid target) = IsGoodTarget target.now
+IsGoodItem (Hard ino) = ⊤
+
+-- what gets one more name is stored
+abbrev pub IsStoredItem : Records → NewItem → Type 0
+IsStoredItem rs (Dir mode uid gid) = ⊤
+IsStoredItem rs (File mode uid gid bytes) = ⊤
+IsStoredItem rs (Link uid gid target) = ⊤
+IsStoredItem rs (Hard ino) = IsSome (map.get rs ino)
 
 abbrev pub new_file : ℕ → ℕ → ℕ → List ℕ → NewFile
 new_file mode uid gid bytes = record { mode = mode; uid = uid; gid = gid; bytes = bytes }
 
 -- the first refusal of what is added, or its number and the tree with it
 abbrev pub add_of : Stamp → Tree → ℕ → List ℕ → NewItem → Result (ℕ × Tree) ℕ
+add_of stamp t dir name (Dir mode uid gid) = add_directory_of stamp t dir name mode uid gid
 add_of stamp t dir name (File mode uid gid bytes) = add_file_of stamp t dir name (new_file mode uid gid bytes.now)
+add_of stamp t dir name (Link uid gid target) = add_link_of stamp t dir name uid gid target.now
+add_of stamp t dir name (Hard ino) = add_hard_of t dir name ino

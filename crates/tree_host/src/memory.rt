@@ -4,26 +4,43 @@ ghost use Rattle.tree_model.specs.GoodLaws.{IsGoodTree-prop};
 ghost use Rattle.tree_host.specs.Host.{IsHeldIn};
 ghost use Rattle.tree_host.specs.Kept.{tree_from};
 
+mod adding;
 mod readers;
+#[cfg(test)]
+mod tests;
 
 use crate::entry::Entry;
 use crate::holds::{hold, lower};
 use crate::host::Host;
 use crate::node::{Node, TOP};
-use crate::nodes::{add_node, entry_after, find_in, refusal, sweep, walk};
-use port_base::errno::{EFBIG, ENOENT};
+use crate::nodes::{entry_after, find_in, open_check, sweep, walk};
+use port_base::errno::ENOENT;
 use port_base::sink::NoMemory;
 use port_base::table::Table;
 use std::alloc::Global;
 use tree_model::{Attr, HostError, Limits, Stamp};
 
-/// What is added to a tree in memory: a file with its permission bits, owners and bytes.
+/// What is added to a tree in memory: a directory or a file with its permission bits and owners, a symbolic
+/// link, or one more name of the file or link `ino`.
 pub enum NewItem<'a> {
+    Dir {
+        mode: u32,
+        uid: u32,
+        gid: u32,
+    },
     File {
         mode: u32,
         uid: u32,
         gid: u32,
         bytes: &'a [u8],
+    },
+    Link {
+        uid: u32,
+        gid: u32,
+        target: &'a [u8],
+    },
+    Hard {
+        ino: u64,
     },
 }
 
@@ -49,9 +66,9 @@ impl TreeHost {
     ghost use Rattle.port_base.specs.Names.{name_fault};
     ghost use Rattle.std.specs.FinMap as map;
     ghost use Rattle.tree_model.specs.Good.{IsGoodLimits, IsGoodStamp};
-    ghost use Rattle.tree_model.specs.Making.{new_tree, add_file_of};
+    ghost use Rattle.tree_model.specs.Making.{new_tree};
     ghost use Rattle.tree_host.specs.Host.{Leaves};
-    ghost use Rattle.tree_host.specs.TreeHosts.{tree, holds, birth, faults, is_steady, IsGoodItem, new_file, add_of};
+    ghost use Rattle.tree_host.specs.TreeHosts.{tree, holds, birth, faults, is_steady, IsGoodItem, IsStoredItem, add_of};
 
     /// A tree of the top directory alone, inode 1, whose times are `born`. What is added is born then too,
     /// and what changes is stamped with `moment`.
@@ -94,12 +111,15 @@ impl TreeHost {
     /// Adds a record with an entry in the directory `dir`, and answers its number. Its times are those that
     /// the tree is born with; the directory's times stay. ENOTDIR for what is no directory, ENOENT for a
     /// directory that no entry names, EEXIST for a name that is there, ENOSPC where the directory is full or
-    /// no number or cookie is left, EFBIG for more bytes than a file may have. After an error nothing has
-    /// changed. It never faults.
+    /// no number or cookie is left, EFBIG for more bytes than a file may have. `Hard` adds an entry alone and
+    /// answers `ino`: EPERM, after ENOTDIR, for a directory, ENOENT also for what no entry names, EMLINK, after
+    /// EEXIST, for what has as many links as there may be. After an error nothing has changed. It never
+    /// faults.
     pub fn add(&mut self, dir: u64, name: &[u8], item: NewItem<'_>) -> Result<u64, HostError>
         requires stored { IsSome (map.get (tree self.old).records dir) }
         requires named { name_fault name.now ≡ None }
         requires item { IsGoodItem item }
+        requires there { IsStoredItem (tree self.old).records item }
         ensures leaves { Leaves (add_of (birth self.old) (tree self.old) dir name.now item.entry) (tree self.old) (tree self.new) result }
         ensures holds { holds self.new ≡ holds self.old }
         ensures fault { result ≢ Err HostError.Fault }
@@ -108,49 +128,15 @@ impl TreeHost {
         ensures born { birth self.new ≡ birth self.old }
     {
         match item {
+            NewItem::Dir { mode, uid, gid } => self.add_directory(dir, name, mode, uid, gid),
             NewItem::File {
                 mode,
                 uid,
                 gid,
                 bytes,
             } => self.add_file(dir, name, mode, uid, gid, bytes),
-        }
-    }
-
-    fn add_file(
-        &mut self,
-        dir: u64,
-        name: &[u8],
-        mode: u32,
-        uid: u32,
-        gid: u32,
-        bytes: &[u8],
-    ) -> Result<u64, HostError>
-        requires named { name_fault name.now ≡ None }
-        requires mode { mode < 4096 }
-        ensures leaves { Leaves (add_file_of (birth self.old) (tree self.old) dir name.now (new_file mode uid gid bytes.now)) (tree self.old) (tree self.new) result }
-        ensures holds { holds self.new ≡ holds self.old }
-        ensures fault { result ≢ Err HostError.Fault }
-        ensures faults { faults self.new ≡ faults self.old }
-        ensures steady { is_steady self.new ≡ is_steady self.old }
-        ensures born { birth self.new ≡ birth self.old }
-    {
-        if let Some(errno) = refusal(&self.nodes, dir, name, self.next, self.limits.entries) {
-            return Err(HostError::Errno(errno));
-        }
-        if bytes.len() as u64 > self.limits.file {
-            return Err(HostError::Errno(EFBIG));
-        }
-        let ino = self.next;
-        let Ok(node) = Node::file(self.alloc, mode, uid, gid, bytes, self.born) else {
-            return Err(HostError::NoMemory);
-        };
-        match add_node(self.alloc, &mut self.nodes, dir, name, ino, node) {
-            Ok(()) => {
-                self.next = ino + 1;
-                Ok(ino)
-            }
-            Err(_) => Err(HostError::NoMemory),
+            NewItem::Link { uid, gid, target } => self.add_link(dir, name, uid, gid, target),
+            NewItem::Hard { ino } => self.add_hard(dir, name, ino),
         }
     }
 }
@@ -195,6 +181,17 @@ impl Host for TreeHost {
     fn stat(&mut self, ino: u64) -> Result<Attr, HostError> {
         match self.nodes.get(ino) {
             Some(node) => Ok(node.attr(ino)),
+            None => Err(HostError::Errno(ENOENT)),
+        }
+    }
+
+    fn open_check(&mut self, ino: u64, flags: u32) -> Result<(), HostError> {
+        open_check(&self.nodes, ino, flags)
+    }
+
+    fn read_at(&mut self, ino: u64, offset: u64, buf: &mut [u8]) -> Result<usize, HostError> {
+        match self.nodes.get(ino) {
+            Some(node) => node.read_at(offset, buf),
             None => Err(HostError::Errno(ENOENT)),
         }
     }

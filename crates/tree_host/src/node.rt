@@ -4,9 +4,12 @@ ghost use Rattle.tree_model.specs.Tree.{is_directory};
 ghost use Rattle.tree_model.specs.Finding.{entry_named, entries_of, ino_among};
 ghost use Rattle.tree_model.specs.Attributes.{attr_of};
 ghost use Rattle.tree_model.specs.Reading.{above, entry_above, bytes_of, part};
-ghost use Rattle.tree_model.specs.Making.{joined_by, next_cookie, new_name_refused, file_record, top_record};
+ghost use Rattle.tree_model.specs.Making.{joined_by, next_cookie, new_name_refused};
 ghost use Rattle.tree_host.specs.Host.{as_errno};
 ghost use Rattle.tree_host.specs.Stored.{body_of};
+
+mod making;
+mod opening;
 
 use port_base::errno::{EEXIST, ENOENT, ENOSPC, ENOTDIR};
 use std::alloc::{AllocError, Global};
@@ -142,50 +145,6 @@ impl Model for Node {
 }
 
 impl Node {
-    /// The top directory, with no entries.
-    pub fn top(alloc: Global, mode: u32, uid: u32, gid: u32, born: Stamp) -> Self
-        ensures { result ≡ top_record born mode uid gid }
-    {
-        Node {
-            body: Stored::Names {
-                entries: Vec::new(alloc),
-                next: 1,
-                above: TOP,
-            },
-            mode,
-            uid,
-            gid,
-            links: 2,
-            atime: born,
-            mtime: born,
-            ctime: born,
-        }
-    }
-
-    /// A file that one entry names.
-    pub fn file(
-        alloc: Global,
-        mode: u32,
-        uid: u32,
-        gid: u32,
-        bytes: &[u8],
-        born: Stamp,
-    ) -> Result<Self, AllocError>
-        ensures { IfOk result (λ node. node ≡ file_record born (record { mode = mode; uid = uid; gid = gid; bytes = bytes.now })) }
-    {
-        let bytes = Vec::from_slice(alloc, bytes)?;
-        Ok(Node {
-            body: Stored::Bytes(bytes),
-            mode,
-            uid,
-            gid,
-            links: 1,
-            atime: born,
-            mtime: born,
-            ctime: born,
-        })
-    }
-
     pub fn links(&self) -> u64
         ensures { result ≡ self.now.links }
     {

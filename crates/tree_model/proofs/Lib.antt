@@ -1,4 +1,5 @@
 pub mod Maps
+pub mod Changing
 pub mod Counting
 pub mod Naming
 pub mod Sweeping
@@ -6,5 +7,8 @@ pub mod Keeping
 pub mod Bodies
 pub mod Adding
 pub mod Files
+pub mod Placing
+pub mod Linking
+pub mod Joining
 pub mod Reading
-mod Examples
+pub mod Sampling

@@ -8,7 +8,7 @@ pub returns-in-Ok-clause-rest : goal.returns-in-Ok-clause-rest
 returns-in-Ok-clause-rest c =
     let f = c.args.file.now in
     record {
-      links = λ h. added-no_links c.args.host.now.born (tree c.args.host.now) (tree c.add.new.self) 1 c.deref-2.result.now (item.File f.mode f.uid f.gid c.deref.result) c.add.result c.add.ensures.leaves h;
+      links = λ h. added-no_links c.args.host.now.born (tree c.args.host.now) (tree c.add.new.self) 1 c.deref-2.result.now (item.File f.mode f.uid f.gid c.deref.result) c.add.result tt c.add.ensures.leaves h;
       born = c.add.ensures.born;
       holds = c.add.ensures.holds;
       faults = c.add.ensures.faults;
