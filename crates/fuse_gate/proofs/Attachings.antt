@@ -1,5 +1,5 @@
 -- The beginning of a session.
-use Rattle.std.proofs.Common.{◌≡◌, ◌≢◌, ℕ, ◌+◌, ◌-◌, ◌≤◌, ◌^◌, Bool, true, false, cond, ◌||◌, refl, sym, ap, ◌∙◌, subst, Option, Some, None, Result, Ok, Err, arith, IsSome, is_some, min, nat_le, nat_lt, inl, inr, ⊎_elim}
+use Rattle.std.proofs.Common.{◌≡◌, ◌≢◌, ◌⊎◌, ℕ, ◌+◌, ◌-◌, ◌≤◌, ◌^◌, Bool, true, false, cond, ◌||◌, refl, sym, ap, ◌∙◌, subst, Option, Some, None, Result, Ok, Err, arith, IsSome, is_some, min, nat_le, nat_lt, inl, inr, ⊎_elim}
 use Rattle.std.specs.Prelude.{option_map}
 use Rattle.std.proofs.lemmas.Bool.{cases_eq}
 use Rattle.std.proofs.lemmas.Bool.Decides.{nat_tests}
@@ -9,12 +9,13 @@ use Rattle.std.specs.FinMap as map
 use Rattle.std.specs.FinMap.{FinMap, get, insert, len, retain_keys, len-insert, get-empty}
 use Rattle.port_base.specs.Faults.{Rose}
 use Rattle.port_base.specs.declared.errno.TheConstants.{EIO, ENFILE}
-use Rattle.tree_model.specs.Tree.{Tree, Record, is_linked, keep, linked, top}
+use Rattle.tree_model.specs.Tree.{Tree, Record, Records, is_linked, keep, linked, top}
 use Rattle.tree_model.specs.Good.{IsGoodTree}
 use Rattle.tree_model.specs.Finding.{root_of}
 use Rattle.tree_model.specs.Attributes.{Qid, attr_or_missing}
 use Rattle.tree_model.specs.Settings.{Settings}
-use Rattle.tree_model.proofs.Maps.{inserted, insert_keeps, same_gets}
+use Rattle.tree_model.proofs.Keeping.{retained-is_linked}
+use Rattle.tree_model.proofs.Maps.{inserted, insert_keeps, retained, same_gets}
 use Rattle.tree_machine.specs.State.{Node as MachineNode, begun, ROOT_NODE}
 use Rattle.tree_machine.specs.Good.{IsGoodMachine}
 use Rattle.tree_machine.proofs.Begun.{begun_good, root_is_directory, stored_by}
@@ -27,7 +28,7 @@ use Rattle.p9_wire.specs.Qids.{qid_of}
 use Rattle.p9_client.specs.Views.{qid_answer}
 use Rattle.fuse_gate.specs.Mapped.{mapped}
 use Rattle.fuse_gate.specs.Standing.{ArePaired, machine_of, node_of, handle_of, phase_of, fid_at}
-use Rattle.fuse_gate.specs.Attaching.{Attaches, AttachedBy, Begins, IsCleared, IsGateAt, root_told}
+use Rattle.fuse_gate.specs.Attaching.{Attaches, AttachedBy, Begins, IsCleared, IsGateAt, IsRefusal, refusal, root_told}
 use Rattle.fuse_gate.specs.declared.gate.TheConstants.{LEAST_MSIZE}
 use Rattle.fuse_gate.specs.declared.gate.Node.{Node}
 use Rattle.fuse_gate.specs.declared.gate.Handle.{Handle}
@@ -52,6 +53,18 @@ or_false false b h = h
 pub keep_none : (t : Tree) → keep (is_held map.empty) t ≡ linked t
 keep_none t = ap (λ (p : ℕ → Bool). let u : Tree = record t { records = retain_keys t.records p } in u) (λ j i. or_false (is_linked t.records i) (is_held map.empty i) (none_held i) j)
 
+-- what is linked of a linked tree is all of it
+cond_twice : (b c : Bool) (o : Option Record) → c ≡ b → cond c (cond b o None) None ≡ cond b o None
+cond_twice true c o same = ap (λ x. cond x o None) same
+cond_twice false c o same = ap (λ x. cond x None None) same
+
+linked_twice : (t : Tree) → IsGoodTree t → linked (linked t) ≡ linked t
+linked_twice t g = ap (λ (rs : Records). let u : Tree = record t { records = rs } in u) (same_gets _ _ (λ q.
+    retained (linked t).records (is_linked (linked t).records) q
+    ∙ ap (λ o. cond (is_linked (linked t).records q) o None) (retained t.records (is_linked t.records) q)
+    ∙ cond_twice (is_linked t.records q) (is_linked (linked t).records q) (get t.records q) (retained-is_linked t g (is_linked t.records) (λ i live. live) q)
+    ∙ sym (retained t.records (is_linked t.records) q)))
+
 -- ---- maps of one key
 
 module _ {X : Type 0} (m : FinMap nat_cmp X) (k : ℕ) (v : X) (is : m ≡ insert map.empty k v) where
@@ -72,6 +85,9 @@ module _ {X : Type 0} (m : FinMap nat_cmp X) (k : ℕ) (v : X) (is : m ≡ inser
 
 mapped-empty : {X Y : Type 0} (f : X → Y) → mapped f map.empty ≡ map.empty
 mapped-empty {X} {Y} f = same_gets _ _ (λ q. get-mapped f map.empty q ∙ ap (option_map f) (get-empty {X = X} nat_cmp q) ∙ sym (get-empty {X = Y} nat_cmp q))
+
+positive : (n : ℕ) → nat_le n 0 ≡ false → 1 ≤ n
+positive n t = grind (arith, nat_tests)
 
 -- ---- what an attach answers
 
@@ -111,16 +127,29 @@ module _ (s0 s s1 : ServerState) (is : s ≡ cleared s0) where
   cleared_by : s1 ≡ s → IsCleared s0 s1
   cleared_by same = record { fids = ap (λ (x : ServerState). x.fids) same ∙ fids_none; tree = ap (λ (x : ServerState). x.tree) same ∙ tree_is }
 
-  pub attach_refused : (r : Result QidStruct ℕ) (e f0 f f1 a0 a a1 : ℕ) → r ≡ Err e → f ≡ f0 → a ≡ a0 → Asks (attach_told s 1) (qid_answer r) s s1 f f1 → a1 ≡ min (a + 1) (2 ^ 64 - 1) → s1.settings ≡ s.settings
-      → Attaches s0 s1 f0 f1 a0 a1 (Err (Errno e))
-  attach_refused r e f0 f f1 a0 a a1 answered same_faults same_asked asks counted fixed = record {
-    fixed = fixed ∙ settings_is;
-    answer = by_asks (subst (λ (x : Result QidStruct ℕ). Asks (attach_told s 1) (qid_answer x) s s1 f f1) answered asks);
-  } where
-    by_asks : Asks (attach_told s 1) (Err e) s s1 f f1 → AttachedBy s0 s1 f0 f1 a0 a1 (Err (Errno e))
+  refusal_by : (b : Bool) → nat_le s0.settings.limit 0 ≡ b → (d e f0 f1 : ℕ) → e ≡ cond b ENFILE d → (root_told s0 ≡ Err d) ⊎ (Rose f0 f1 × (d ≡ EIO)) → IsRefusal s0 f0 f1 e
+  refusal_by true is d e f0 f1 same h = inl (ap (λ b. by_limit b (root_of (linked s0.tree) s0.settings.root)) is ∙ ap Err (sym same))
+  refusal_by false is d e f0 f1 same h = ⊎_elim
+      (λ told. inl (told ∙ ap Err (sym same)))
+      (λ k. inr (k.0, same ∙ k.1, positive s0.settings.limit is)) h
+
+  module _ (d e f0 f f1 a0 a a1 limit : ℕ) (same_faults : f ≡ f0) (same_asked : a ≡ a0) (counted : a1 ≡ min (a + 1) (2 ^ 64 - 1)) (fixed : s1.settings ≡ s.settings) (told_limit : limit ≡ s1.settings.limit) (told_errno : e ≡ refusal limit d) where
+    errno_is : e ≡ refusal s0.settings.limit d
+    errno_is = told_errno ∙ ap (λ n. refusal n d) (told_limit ∙ ap (λ (x : Settings). x.limit) (fixed ∙ settings_is))
+
+    refused : (root_told s0 ≡ Err d) ⊎ (Rose f0 f1 × (d ≡ EIO)) → IsRefusal s0 f0 f1 e
+    refused h = refusal_by (nat_le s0.settings.limit 0) refl d e f0 f1 errno_is h
+
+    by_asks : Asks (attach_told s 1) (Err d) s s1 f f1 → AttachedBy s0 s1 f0 f1 a0 a1 (Err (Errno e))
     by_asks asks = ⊎_elim
-        (λ h. let w = refused_by (nat_le s.settings.limit 0) (root_of s.tree s.settings.root) e h in (cleared_by w.0, inl (sym told_is ∙ w.1), omega arith))
-        (λ k. (cleared_by k.2, inr (subst (λ n. Rose n f1) same_faults k.0, (let q = k.1 in cc)), omega arith)) asks
+        (λ h. let w = refused_by (nat_le s.settings.limit 0) (root_of s.tree s.settings.root) d h in (cleared_by w.0, refused (inl (sym told_is ∙ w.1)), omega arith))
+        (λ k. (cleared_by k.2, refused (inr (subst (λ n. Rose n f1) same_faults k.0, (let q = k.1 in cc))), omega arith)) asks
+
+    pub attach_refused : (r : Result QidStruct ℕ) → r ≡ Err d → Asks (attach_told s 1) (qid_answer r) s s1 f f1 → Attaches s0 s1 f0 f1 a0 a1 (Err (Errno e))
+    attach_refused r answered asks = record {
+      fixed = fixed ∙ settings_is;
+      answer = by_asks (subst (λ (x : Result QidStruct ℕ). Asks (attach_told s 1) (qid_answer x) s s1 f f1) answered asks);
+    }
 
   attached_by : (b : Bool) (r : Result ℕ ℕ) (q : Qid) → pair (Ok q) s1 ≡ told_by b r → (i : ℕ) × (b ≡ false) × (r ≡ Ok i) × (q ≡ qid_at s.tree i) × (s1 ≡ record s { fids = insert s.fids 1 (closed i) })
   attached_by true r q h = absurd (let clash : Ok q ≡ Err ENFILE = ap (λ (x : Result Qid ℕ × ServerState). x.0) h in cc)
@@ -134,13 +163,20 @@ module _ (s0 s s1 : ServerState) (is : s ≡ cleared s0) where
       (λ k. absurd (let clash : Ok (qid_of q) ≡ Err EIO = k.1 in cc))
       (let here : Asks (attach_told s 1) (Ok (qid_of q)) s s1 f f1 = subst (λ (x : Result QidStruct ℕ). Asks (attach_told s 1) (qid_answer x) s s1 f f1) answered asks in here)
 
-  -- ---- want of memory
+  -- ---- want of memory, after which the fids are taken away once more
 
-  pub attach_unfinished : (f0 f1 a0 a1 : ℕ) → s1.tree ≡ s.tree → s1.settings ≡ s.settings → Attaches s0 s1 f0 f1 a0 a1 (Err NoMemory)
-  attach_unfinished f0 f1 a0 a1 same fixed = record { fixed = fixed ∙ settings_is; answer = same ∙ tree_is }
+  module _ (good : IsGoodServer s0) (s2 : ServerState) (over : s2 ≡ cleared s1) where
+    pub attach_unfinished : (f0 f1 a0 a1 : ℕ) → s1.tree ≡ s.tree → s1.settings ≡ s.settings → Attaches s0 s2 f0 f1 a0 a1 (Err NoMemory)
+    attach_unfinished f0 f1 a0 a1 same fixed = record {
+      fixed = ap (λ (x : ServerState). x.settings) over ∙ fixed ∙ settings_is;
+      answer = record {
+        fids = ap (λ (x : ServerState). x.fids) over;
+        tree = ap (λ (x : ServerState). x.tree) over ∙ keep_none s1.tree ∙ ap linked (same ∙ tree_is) ∙ linked_twice s0.tree good.tree;
+      };
+    }
 
-  pub attach_wanting : (r : Result QidStruct ℕ) (q : QidStruct) (f f0 f1 a0 a1 : ℕ) → r ≡ Ok q → Asks (attach_told s 1) (qid_answer r) s s1 f f1 → s1.settings ≡ s.settings → Attaches s0 s1 f0 f1 a0 a1 (Err NoMemory)
-  attach_wanting r q f f0 f1 a0 a1 answered asks fixed = attach_unfinished f0 f1 a0 a1 (ap (λ (x : ServerState). x.tree) (found_by r q f f1 answered asks).4) fixed
+    pub attach_wanting : (r : Result QidStruct ℕ) (q : QidStruct) (f fm f0 f1 a0 a1 : ℕ) → r ≡ Ok q → Asks (attach_told s 1) (qid_answer r) s s1 f fm → s1.settings ≡ s.settings → Attaches s0 s2 f0 f1 a0 a1 (Err NoMemory)
+    attach_wanting r q f fm f0 f1 a0 a1 answered asks fixed = attach_unfinished f0 f1 a0 a1 (ap (λ (x : ServerState). x.tree) (found_by r q f fm answered asks).4) fixed
 
   -- ---- the gate over the root
 
@@ -195,9 +231,7 @@ module _ (s0 s s1 : ServerState) (is : s ≡ cleared s0) where
     machine_is = λ j. record { phase = phase_of (h.phase j); tree = (tree_same ∙ tree_is) j; nodes = nodes_is j; handles = handles_is j; next = h.next j }
 
     limit_some : 1 ≤ s0.settings.limit
-    limit_some = some_left s0.settings.limit (sym limit_is ∙ few) where
-      some_left : (n : ℕ) → nat_le n 0 ≡ false → 1 ≤ n
-      some_left n t = grind (arith, nat_tests)
+    limit_some = positive s0.settings.limit (sym limit_is ∙ few)
 
     settings_same : s1.settings ≡ s0.settings
     settings_same = ap (λ (x : ServerState). x.settings) state ∙ settings_is

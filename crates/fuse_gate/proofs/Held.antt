@@ -42,7 +42,7 @@ module _ {X : Type 0} (w : X → ℕ) where
   pub weight_at : (m : FinMap nat_cmp X) (k : ℕ) (v : X) → get m k ≡ Some v → 0 < w v → 0 < weigh w (entries m)
   weight_at m k v at h = let step = weigh-remove w m k v at in omega arith
 
-same_bool : (a b : Bool) → (a ≡ true → b ≡ true) → (b ≡ true → a ≡ true) → a ≡ b
+pub same_bool : (a b : Bool) → (a ≡ true → b ≡ true) → (b ≡ true → a ≡ true) → a ≡ b
 same_bool true b f g = sym (f refl)
 same_bool false true f g = absurd (false≢true (g refl))
 same_bool false false f g = refl

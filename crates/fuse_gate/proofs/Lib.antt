@@ -13,3 +13,5 @@ pub mod Attachings
 pub mod Running
 pub mod Roots
 pub mod Played
+mod Telling
+mod Stored

@@ -12,7 +12,8 @@ use Rattle.fid_model.specs.Fids.{ServerState, is_held, IsGoodServer, closed}
 use Rattle.fid_model.proofs.Keeping.{keep_same, keep_alike}
 use Rattle.fuse_gate.specs.Mapped.{mapped}
 use Rattle.fuse_gate.specs.Standing.{IsInStep, ArePaired, machine_of, node_of, handle_of, fid_at, opened}
-use Rattle.fuse_gate.specs.Steps.{IsServed, Counted}
+use Rattle.frame_pump.specs.Sessions.{Counted}
+use Rattle.fuse_gate.specs.Steps.{IsServed}
 use Rattle.fuse_gate.specs.Replies.{laid_out}
 use Rattle.fuse_gate.specs.declared.gate.TheConstants.{LEAST_MSIZE}
 use Rattle.fuse_gate.specs.declared.gate.Node.{Node}
@@ -27,12 +28,16 @@ use Rattle.fuse_gate.proofs.Held.{named_is_held}
 abbrev pub AreApart : MachineState → Type 0
 AreApart m = (id : ℕ) (n : MachineNode) → get m.nodes id ≡ Some n → get m.handles id ≡ None
 
+-- what nodes and handles name is what fids name
+pub named_held : (g : Gate) (s : ServerState) → ArePaired g s → AreApart (machine_of g s) → (i : ℕ) → is_named (mapped node_of g.nodes) (mapped handle_of g.handles) i ≡ is_held s.fids i
+named_held g s paired apart i = named_is_held g.nodes g.handles s.fids paired.fids (λ q n at. mapped_none handle_of g.handles q (apart q (node_of n) (mapped_at node_of g.nodes q n at))) i
+
 -- nothing goes
 pub settled_same : (g : Gate) (s : ServerState) → ArePaired g s → AreApart (machine_of g s) → IsGoodServer s → settled (machine_of g s) ≡ machine_of g s
 settled_same g s paired apart good =
     ap (λ (t : Tree). let m : MachineState = record (machine_of g s) { tree = t } in m)
     (keep_alike s.tree (is_named (mapped node_of g.nodes) (mapped handle_of g.handles)) (is_held s.fids)
-    (λ i. named_is_held g.nodes g.handles s.fids paired.fids (λ q n at. mapped_none handle_of g.handles q (apart q (node_of n) (mapped_at node_of g.nodes q n at))) i)
+    (named_held g s paired apart)
     ∙ keep_same s.tree (is_held s.fids) good.kept)
 
 -- a request that was carried out

@@ -7,8 +7,8 @@ use Rattle.tree_model.specs.Tree.{linked}
 use Rattle.tree_model.specs.Finding.{root_of}
 use Rattle.tree_machine.specs.State.{begun, ROOT_NODE}
 use Rattle.fid_model.specs.Fids.{ServerState}
+use Rattle.frame_pump.specs.Sessions.{Counted}
 use Rattle.fuse_gate.specs.Standing.{IsInStep, machine_of}
-use Rattle.fuse_gate.specs.Steps.{Counted}
 use Rattle.fuse_gate.specs.declared.gate.Gate.{Gate}
 use Rattle.fuse_gate.specs.declared.gate.Phase.TheVariants.{New}
 use Rattle.fuse_gate.specs.declared.gate.attach.AttachError.{AttachError}
@@ -42,11 +42,19 @@ pub record IsCleared (s0 s1 : ServerState) : Type 0 where
   pub fids : s1.fids ≡ map.empty
   pub tree : s1.tree ≡ linked s0.tree
 
--- by the answer: the beginning; the refusal that is told, or EIO where the count of faults rose; want of memory
+-- where there may be no fid, that is told, whatever else failed
+abbrev pub refusal : ℕ → ℕ → ℕ
+refusal limit errno = if nat_le limit 0 then ENFILE else errno
+
+-- the refusal that is told; or, only where there may be fids and the count of faults rose, EIO
+abbrev pub IsRefusal : ServerState → ℕ → ℕ → ℕ → Type 0
+IsRefusal s f0 f1 e = (root_told s ≡ Err e) ⊎ (Rose f0 f1 × (e ≡ EIO) × (1 ≤ s.settings.limit))
+
+-- by the answer: the beginning; a refusal; want of memory
 abbrev pub AttachedBy : ServerState → ServerState → ℕ → ℕ → ℕ → ℕ → Result Gate AttachError → Type 0
 AttachedBy s0 s1 f0 f1 a0 a1 (Ok g) = Begins g s0 s1 × Counted a0 1 a1
-AttachedBy s0 s1 f0 f1 a0 a1 (Err (Errno e)) = IsCleared s0 s1 × ((root_told s0 ≡ Err e) ⊎ (Rose f0 f1 × (e ≡ EIO))) × Counted a0 1 a1
-AttachedBy s0 s1 f0 f1 a0 a1 (Err NoMemory) = s1.tree ≡ linked s0.tree
+AttachedBy s0 s1 f0 f1 a0 a1 (Err (Errno e)) = IsCleared s0 s1 × IsRefusal s0 f0 f1 e × Counted a0 1 a1
+AttachedBy s0 s1 f0 f1 a0 a1 (Err NoMemory) = IsCleared s0 s1
 
 pub record Attaches (s0 s1 : ServerState) (f0 f1 a0 a1 : ℕ) (result : Result Gate AttachError) : Type 0 where
   pub fixed : s1.settings ≡ s0.settings

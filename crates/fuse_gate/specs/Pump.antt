@@ -1,8 +1,6 @@
 -- A whole run over a server: the attach, the frames, and the fids taken away.
 use Rattle.std.specs.Prelude.{◌≡◌, ◌⊎◌, ℕ, ◌≤◌, Bool, IsTrue, Result, Ok, Err}
 use Rattle.std.specs.FinMap as map
-use Rattle.port_base.specs.Faults.{Rose}
-use Rattle.port_base.specs.declared.errno.TheConstants.{EIO}
 use Rattle.tree_model.specs.Tree.{linked}
 use Rattle.tree_model.specs.Finding.{root_of}
 use Rattle.tree_machine.specs.State.{begun}
@@ -11,10 +9,11 @@ use Rattle.frame_pump.specs.Sessions.{Session, Counted}
 use Rattle.frame_pump.specs.Turns.{Streams, Completes, StopsBy}
 use Rattle.frame_pump.specs.declared.outcome.Pumped.{Pumped}
 use Rattle.frame_pump.specs.declared.outcome.Stopped.{Stopped}
+use Rattle.frame_pump.specs.declared.outcome.PumpError.{PumpError}
 use Rattle.frame_pump.specs.declared.outcome.PumpError.TheVariants as error
 use Rattle.fuse_gate.specs.Standing.{machine_of}
 use Rattle.fuse_gate.specs.declared.gate.Gate.{Gate}
-use Rattle.fuse_gate.specs.Attaching.{root_told, IsCleared}
+use Rattle.fuse_gate.specs.Attaching.{IsRefusal, IsCleared}
 
 -- what a server shows
 pub record Served : Type 0 where
@@ -59,7 +58,7 @@ Between n0 n1 P = (s0 : Session) × (s1 : Session) × Opens n0 s0 × Closes s1 n
 
 -- the share couldn't be attached to, by the error number
 abbrev pub AttachRefused : Served → Served → ℕ → Type 0
-AttachRefused n0 n1 errno = IsCleared n0.state n1.state × ((root_told n0.state ≡ Err errno) ⊎ (Rose n0.faults n1.faults × (errno ≡ EIO))) × Counted n0.asked 1 n1.asked
+AttachRefused n0 n1 errno = IsCleared n0.state n1.state × IsRefusal n0.state n0.faults n1.faults errno × Counted n0.asked 1 n1.asked
 
 -- a run, by its answer
 abbrev pub PumpsBy : Served → Served → Streams → Streams → ℕ → Result Pumped Stopped → Type 0
@@ -67,7 +66,7 @@ PumpsBy n0 n1 p0 p1 turns (Ok told) = Between n0 n1 (λ s0 s1. (told.nine_frames
 PumpsBy n0 n1 p0 p1 turns (Err told) =
     Between n0 n1 (λ s0 s1. (told.nine_frames ≡ s1.sent) × StopsBy s0 s1 (Unit {0}) p0 p1 turns told.handled told.cause)
     ⊎ ((told.handled ≡ 0) × Untouched p0 p1 × ((errno : ℕ) × (told.cause ≡ error.Attach errno) × (told.nine_frames ≡ 1) × AttachRefused n0 n1 errno))
-    ⊎ ((told.handled ≡ 0) × Untouched p0 p1 × (told.cause ≡ error.NoMemory) × (n1.state.tree ≡ linked n0.state.tree))
+    ⊎ ((told.handled ≡ 0) × Untouched p0 p1 × (told.cause ≡ error.NoMemory) × IsCleared n0.state n1.state)
 
 pub record Pumps (n0 n1 : Served) (p0 p1 : Streams) (turns : ℕ) (result : Result Pumped Stopped) : Type 0 where
   pub settings : n1.state.settings ≡ n0.state.settings
@@ -75,3 +74,15 @@ pub record Pumps (n0 n1 : Served) (p0 p1 : Streams) (turns : ℕ) (result : Resu
   pub steady : n1.steady ≡ n0.steady
   pub steadily : IsTrue n0.steady → n1.faults ≡ n0.faults
   pub outcome : PumpsBy n0 n1 p0 p1 turns result
+
+-- the number of messages that is told is what the server was handed; want of memory leaves it open
+abbrev pub TellsStopped : PumpError → ℕ → ℕ → ℕ → Type 0
+TellsStopped error.NoMemory a0 sent a1 = Unit {0}
+TellsStopped error.Read a0 sent a1 = Counted a0 sent a1
+TellsStopped error.Write a0 sent a1 = Counted a0 sent a1
+TellsStopped error.Torn a0 sent a1 = Counted a0 sent a1
+TellsStopped (error.Attach errno) a0 sent a1 = Counted a0 sent a1
+
+abbrev pub TellsMessages : ℕ → ℕ → Result Pumped Stopped → Type 0
+TellsMessages a0 a1 (Ok told) = Counted a0 told.nine_frames a1
+TellsMessages a0 a1 (Err told) = TellsStopped told.cause a0 told.nine_frames a1

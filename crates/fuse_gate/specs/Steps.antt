@@ -1,5 +1,5 @@
 -- One step of a gate over a server.
-use Rattle.std.specs.Prelude.{◌≡◌, ◌⊎◌, ℕ, ◌+◌, ◌-◌, ◌^◌, min, List, ◌++◌}
+use Rattle.std.specs.Prelude.{◌≡◌, ◌⊎◌, ℕ, List, ◌++◌}
 use Rattle.port_base.specs.Faults.{Rose}
 use Rattle.port_base.specs.declared.errno.TheConstants.{EIO}
 use Rattle.tree_model.specs.Tree.{Tree}
@@ -9,15 +9,12 @@ use Rattle.tree_machine.specs.Step.{step}
 use Rattle.tree_machine.specs.Messages.{messages}
 use Rattle.tree_machine.specs.Faults.{IsHurtStep}
 use Rattle.fid_model.specs.Fids.{ServerState}
+use Rattle.frame_pump.specs.Sessions.{Counted}
 use Rattle.fuse_gate.specs.Standing.{IsInStep, machine_of}
 use Rattle.fuse_gate.specs.Replies.{laid_out}
 use Rattle.fuse_gate.specs.declared.gate.Gate.{Gate}
 use Rattle.fuse_gate.specs.declared.gate.reply.Reply.{Reply}
 use Rattle.fuse_gate.specs.declared.gate.reply.Reply.TheVariants.{Refused}
-
--- a count went up by so many; it stands at 2^64 - 1 once reached
-abbrev pub Counted : ℕ → ℕ → ℕ → Type 0
-Counted before sent now = min now (2 ^ 64 - 1) ≡ min (before + sent) (2 ^ 64 - 1)
 
 -- the tree before a request, or after it
 abbrev pub IsPart : MachineReply × MachineState → MachineState → Tree → Type 0

@@ -1,7 +1,8 @@
 //! A gate answers frames over a server, one at a time.
 ghost use Rattle.std.specs.Prelude.{◌≡◌, ◌≤◌};
+ghost use Rattle.std.specs.FinMap as map;
 ghost use Rattle.fuse_gate.specs.Standing.{IsInStep, machine_of};
-ghost use Rattle.fuse_gate.specs.Pump.{Served, Pumps};
+ghost use Rattle.fuse_gate.specs.Pump.{Served, Pumps, TellsMessages};
 ghost use Rattle.fuse_gate.specs.Playing.{PlaysWhole};
 ghost use Rattle.frame_pump.specs.Turns.{Streams};
 
@@ -33,7 +34,7 @@ impl<N: Nine> Answerer<N> for Gate {
 }
 
 /// Attaches to the root of a server's share, answers the frames of the input, at most so many, and takes the
-/// server's fids away. `Ok`: the input ended at a frame's end. `Attach`: as `Gate::new` refuses, with nothing
+/// server's fids away, whatever the answer. `Ok`: the input ended at a frame's end. `Attach`: as `Gate::new` refuses, with nothing
 /// read or written. `NoMemory`: no part of the unfinished reply was written. `Read`, `Write`: that stream
 /// failed. `Torn`: the input doesn't end at a frame's end, or not after so many frames.
 pub fn pump<N: Nine, S: Source, K: Sink>(
@@ -54,6 +55,8 @@ pub fn pump<N: Nine, S: Source, K: Sink>(
         (record { state = N.state nine.new; faults = N.faults nine.new; steady = N.steady nine.new; asked = N.asked nine.new })
         (record { left = S.left input.old; sent = K.sent out.old; read_faults = S.faults input.old; write_faults = K.faults out.old })
         (record { left = S.left input.new; sent = K.sent out.new; read_faults = S.faults input.new; write_faults = K.faults out.new }) turns result }
+    ensures cleared { (N.state nine.new).fids ≡ map.empty }
+    ensures messages { TellsMessages (N.asked nine.old) (N.asked nine.new) result }
     ensures input { S.kept input.new ≡ S.kept input.old }
     ensures lender { S.lender input.new ≡ S.lender input.old }
     ensures output { K.kept out.new ≡ K.kept out.old }

@@ -10,7 +10,7 @@ use Rattle.mount9_run.specs.Header.{HeaderRead, header, header_by, header_of, wi
 use Rattle.mount9_run.specs.Reading.{lines_of}
 use Rattle.mount9_run.specs.ReportLines.{number_line}
 use Rattle.mount9_run.specs.Report.{report}
-use Rattle.mount9_run.specs.Outcome.{Outcome, mount_refused, mount_table, mounted, served, run_of, outcome, outcome_by}
+use Rattle.mount9_run.specs.Outcome.{Outcome, mount_refused, mount_table, mounted, served, run_of, refused_words, outcome, outcome_by}
 use Rattle.mount9_run.specs.Running.{Ran, Tells}
 use Rattle.mount9_run.specs.declared.report.verdict.Cause.TheVariants.{Mount}
 use Rattle.mount9_run.specs.declared.report.verdict.Verdict.TheVariants as verdict
@@ -32,6 +32,14 @@ module _ (target : List ℕ) (h : HeaderRead) (left s0 s1 : Option (List ℕ)) (
 
 pub Ran-words : (words : List (List ℕ)) (left s0 s1 : Option (List ℕ)) (in0 out0 out1 : ℕ) (answer : Status) → command words ≡ None → Tells s0 s1 out0 out1 status.Words (codes "words\n") answer → Ran (outcome words) left s0 s1 in0 in0 out0 out1 answer
 Ran-words words left s0 s1 in0 out0 out1 answer is tells = Ran-told (outcome words) s0 s1 in0 in0 out0 out1 left status.Words (codes "words\n") answer tt refl (always left (λ bytes. ap (λ o. outcome_by o (header bytes)) is)) tells
+
+-- the same, whatever the input has left
+pub Ran-refused : (s0 s1 : Option (List ℕ)) (in0 out0 out1 : ℕ) (answer : Status) → Tells s0 s1 out0 out1 status.Words (codes "words\n") answer → Ran refused_words (Some []) s0 s1 in0 in0 out0 out1 answer
+Ran-refused s0 s1 in0 out0 out1 answer tells = Ran-told refused_words s0 s1 in0 in0 out0 out1 (Some []) status.Words (codes "words\n") answer tt refl refl tells
+
+-- words that command something aren't refused
+pub commanded : (words : List (List ℕ)) (s : Serve) → command words ≡ Some s → command words ≡ None → ⊥
+commanded words s is none = let clash : Some s ≡ None = sym is ∙ none in cc
 
 -- ---- the header
 

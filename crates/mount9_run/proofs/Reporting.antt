@@ -28,15 +28,13 @@ use Rattle.frame_pump.specs.declared.outcome.PumpError.TheVariants as error
 use Rattle.fid_model.specs.Fids.{ServerState}
 use Rattle.fuse_gate.specs.Attaching.{root_told}
 use Rattle.fuse_gate.specs.Pump.{Served, Opens, Closes, Pumps, PumpsBy, AttachRefused}
-use Rattle.mount9_run.specs.Walking.{HasNoLinks}
 use Rattle.mount9_run.specs.Report.{report}
 use Rattle.mount9_run.specs.Outcome.{Outcome, served, attached, told, share_settings, status_of, verdict_of, mount_table}
-use Rattle.mount9_run.specs.Serving.{IsReportable, IsReportableAfter, LeadsTo, StoppedBy, SharesBy, Shares}
+use Rattle.mount9_run.specs.Serving.{LeadsTo, StoppedBy, SharesBy, Shares}
 use Rattle.mount9_run.specs.declared.run.TheConstants.{TURNS}
 use Rattle.mount9_run.specs.declared.run.Status.TheVariants as status
 use Rattle.mount9_run.specs.declared.report.verdict.Cause.TheVariants.{Attach}
 use Rattle.mount9_run.specs.declared.report.verdict.Verdict.TheVariants as verdict
-use Rattle.mount9_run.proofs.FinalTree.{linked_files, hurt_files}
 
 -- ---- a host that holds nothing stores linked records alone
 
@@ -75,19 +73,6 @@ module _ (n0 n1 : Served) (settings : n0.state.settings ≡ share_settings) (zer
   p1 = record { left = left1; sent = Some r1; read_faults = in1; write_faults = 0 }
 
   module _ (s0 s1 : Session) (b : Opens n0 s0) (e : Closes s1 n1) where
-    answered_files : (frames : List (List ℕ)) (replies : List ℕ) → HasNoLinks n0.state.tree → Answered s0 s1 frames replies → HasNoLinks last
-    answered_files frames replies h a =
-        let begins : HasNoLinks s0.state.tree = subst (λ (m : MachineState). HasNoLinks m.tree) (sym b.state) (linked_files n0.state.tree h) in
-        let left : HasNoLinks n1.state.tree = subst HasNoLinks (sym e.tree) (linked_files s1.state.tree (hurt_files s0.settings s0.state frames a.hurt replies s1.state begins a.run)) in
-        subst HasNoLinks (sym ended) (linked_files n1.state.tree left)
-
-    stopped_files : (handled : ℕ) (cause : PumpError) → HasNoLinks n0.state.tree → StopsBy s0 s1 (Unit {0}) p0 p1 TURNS handled cause → IsReportableAfter cause last
-    stopped_files handled error.Torn h k = answered_files k.2.2.frames k.2.2.replies h k.2.2.answered
-    stopped_files handled error.Read h k = tt
-    stopped_files handled error.Write h k = not_failed k.0.1
-    stopped_files handled error.NoMemory h k = tt
-    stopped_files handled (error.Attach errno) h k = absurd k
-
     module _ (handled nine : ℕ) (sent : nine ≡ s1.sent) (end : End) (h : Ended s0 s1 p0 p1 TURNS handled end) where
       abbrev t : Tree
       t = linked n0.state.tree
@@ -158,15 +143,5 @@ module _ (n0 n1 : Served) (settings : n0.state.settings ≡ share_settings) (zer
       other)
       h
 
-  files : (result : Result Pumped Stopped) → HasNoLinks n0.state.tree → PumpsBy n0 n1 p0 p1 TURNS result → IsReportable result last
-  files (Ok r) none (s0, s1, b, e, k) = answered_files s0 s1 b e k.1.3.frames k.1.3.replies none k.1.3.answered
-  files (Err r) none h = ⊎_elim
-      (λ b. stopped_files b.0 b.1 b.2 b.3 r.handled r.cause none b.4.1)
-      (λ other. ⊎_elim
-      (λ a. subst (λ (c : PumpError). IsReportableAfter c last) (sym a.2.1) (subst HasNoLinks (sym ended) (linked_files n1.state.tree (subst HasNoLinks (sym a.2.3.0.tree) (linked_files n0.state.tree none)))))
-      (λ m. subst (λ (c : PumpError). IsReportableAfter c last) (sym m.2) tt)
-      other)
-      h
-
-  pub Shares-from : (result : Result Pumped Stopped) → HasNoLinks n0.state.tree → linked last ≡ last → PumpsBy n0 n1 p0 p1 TURNS result → Shares n0.state.tree left0 in0 in1 r1 last result
-  Shares-from result none whole h = record { answer = shares_by result h; whole = whole; files = files result none h }
+  pub Shares-from : (result : Result Pumped Stopped) → linked last ≡ last → PumpsBy n0 n1 p0 p1 TURNS result → Shares n0.state.tree left0 in0 in1 r1 last result
+  Shares-from result whole h = record { answer = shares_by result h; whole = whole }

@@ -1,5 +1,5 @@
--- A share that was told is a run.
-use Rattle.std.proofs.Common.{◌≡◌, ℕ, ◌-◌, ◌^◌, ◌<◌, min, List, IfSome, Some, None, Result, Ok, Err, refl, sym, ap, ◌∙◌, subst, arith}
+-- What a share tells makes a run: a report and its answer, or an answer alone.
+use Rattle.std.proofs.Common.{◌≡◌, ℕ, ◌-◌, ◌^◌, ◌<◌, min, List, IfSome, Some, None, Result, Ok, Err, sym, subst, arith}
 use Rattle.std.specs.declared.option.Option.{Option}
 use Rattle.port_base.specs.Faults.{Faulted}
 use Rattle.tree_model.specs.Tree.{Tree, linked}
@@ -11,14 +11,18 @@ use Rattle.frame_pump.specs.declared.outcome.PumpError.TheVariants as error
 use Rattle.mount9_run.specs.Report.{report}
 use Rattle.mount9_run.specs.Outcome.{Outcome, served, mount_table}
 use Rattle.mount9_run.specs.Running.{Ran, IsTold, Tells}
-use Rattle.mount9_run.specs.Serving.{LeadsTo, StoppedBy, SharesBy, Shares}
-use Rattle.mount9_run.specs.declared.report.verdict.Cause.TheVariants.{Torn, Attach}
+use Rattle.mount9_run.specs.Serving.{LeadsTo, StoppedBy, SharesBy, Shares, stopped_by, ending_of}
 use Rattle.mount9_run.specs.declared.report.verdict.Verdict.{Verdict}
-use Rattle.mount9_run.specs.declared.report.verdict.Verdict.TheVariants as verdict
-use Rattle.mount9_run.specs.declared.run.TheConstants.{TURNS, MOUNT_FLAGS}
+use Rattle.mount9_run.specs.declared.run.TheConstants.{TURNS}
+use Rattle.mount9_run.specs.declared.run.Ending.{Ending}
 use Rattle.mount9_run.specs.declared.run.Status.{Status}
-use Rattle.mount9_run.specs.declared.run.Status.TheVariants as status
 use Rattle.mount9_run.proofs.Ran.{Ran-told, Ran-memory, Ran-input}
+
+same_ok : (x y : Ending) → ◌≡◌ {A = Result Ending Status} (Ok x) (Ok y) → x ≡ y
+same_ok x y h = cc
+
+same_err : (x y : Status) → ◌≡◌ {A = Result Ending Status} (Err x) (Err y) → x ≡ y
+same_err x y h = cc
 
 module _ (t : Tree) (left s0 s1 : Option (List ℕ)) (in0 in1 out0 out1 : ℕ) (replies shown : List ℕ) (same : shown ≡ replies) (last : Tree) (result : Result Pumped Stopped) (h : Shares t left in0 in1 replies last result) where
   abbrev serves : List ℕ → Outcome
@@ -35,21 +39,40 @@ module _ (t : Tree) (left s0 s1 : Option (List ℕ)) (in0 in1 out0 out1 : ℕ) (
       Ran-told serves s0 s1 in0 in1 out0 out1 left st (report shown v (linked last) mount_table nine) answer told k.0
       (again (report replies v last mount_table (min nine (2 ^ 64 - 1))) (report shown v (linked last) mount_table nine) st left text k.1) tells
 
-  pub Ran-served : (r : Pumped) → result ≡ Ok r → r.nine_frames < 2 ^ 64 → (answer : Status) → Tells s0 s1 out0 out1 status.Served (report shown (verdict.Served MOUNT_FLAGS r.handled) (linked last) mount_table r.nine_frames) answer → Ran serves left s0 s1 in0 in1 out0 out1 answer
-  Ran-served r is fits answer tells = told_by status.Served (verdict.Served MOUNT_FLAGS r.handled) r.nine_frames tt fits (subst (SharesBy t left in0 in1 replies last) is h.answer) answer tells
+  -- ---- a share whose ending is reported
 
-  module _ (r : Stopped) (is : result ≡ Err r) where
-    stopped : (cause : PumpError) → r.cause ≡ cause → StoppedBy t left in0 in1 replies last r.handled r.nine_frames cause
-    stopped cause c = subst (StoppedBy t left in0 in1 replies last r.handled r.nine_frames) c (subst (SharesBy t left in0 in1 replies last) is h.answer)
+  abbrev IsReported : Ending → Type 0
+  IsReported e = IsTold e.status × LeadsTo t left in0 in1 e.status replies e.verdict last e.nine
 
-    pub Ran-torn : r.cause ≡ error.Torn → r.nine_frames < 2 ^ 64 → (answer : Status) → Tells s0 s1 out0 out1 status.Stopped (report shown (verdict.Stopped Torn r.handled) (linked last) mount_table r.nine_frames) answer → Ran serves left s0 s1 in0 in1 out0 out1 answer
-    Ran-torn c fits answer tells = told_by status.Stopped (verdict.Stopped Torn r.handled) r.nine_frames tt fits (stopped error.Torn c) answer tells
+  stopped_reported : (handled nine : ℕ) (cause : PumpError) → StoppedBy t left in0 in1 replies last handled nine cause → (e : Ending) → stopped_by handled nine cause ≡ Ok e → IsReported e
+  stopped_reported handled nine error.Torn k e is = subst IsReported (same_ok _ _ is) (tt, k)
+  stopped_reported handled nine (error.Attach errno) k e is = subst IsReported (same_ok _ _ is) (tt, k)
+  stopped_reported handled nine error.NoMemory k e is = absurd cc
+  stopped_reported handled nine error.Read k e is = absurd cc
+  stopped_reported handled nine error.Write k e is = absurd cc
 
-    pub Ran-refused : (errno : ℕ) → r.cause ≡ error.Attach errno → r.nine_frames < 2 ^ 64 → (answer : Status) → Tells s0 s1 out0 out1 status.Stopped (report shown (verdict.Stopped (Attach errno) r.handled) (linked last) mount_table r.nine_frames) answer → Ran serves left s0 s1 in0 in1 out0 out1 answer
-    Ran-refused errno c fits answer tells = told_by status.Stopped (verdict.Stopped (Attach errno) r.handled) r.nine_frames tt fits (stopped (error.Attach errno) c) answer tells
+  reported : (r : Result Pumped Stopped) → SharesBy t left in0 in1 replies last r → (e : Ending) → ending_of r ≡ Ok e → IsReported e
+  reported (Ok r) k e is = subst IsReported (same_ok _ _ is) (tt, k)
+  reported (Err r) k e is = stopped_reported r.handled r.nine_frames r.cause k e is
 
-    pub Ran-unread : r.cause ≡ error.Read → Ran serves left s0 s0 in0 in1 out0 out0 status.Input
-    Ran-unread c = Ran-input serves left s0 in0 in1 out0 (stopped error.Read c)
+  pub Ran-reported : (e : Ending) → ending_of result ≡ Ok e → e.nine < 2 ^ 64 → (answer : Status) → Tells s0 s1 out0 out1 e.status (report shown e.verdict (linked last) mount_table e.nine) answer → Ran serves left s0 s1 in0 in1 out0 out1 answer
+  Ran-reported e is fits answer tells = let r = reported result h.answer e is in told_by e.status e.verdict e.nine r.0 fits r.1 answer tells
 
-    pub Ran-wanting : r.cause ≡ error.NoMemory → Ran serves left s0 s0 in0 in1 out0 out0 status.Memory
-    Ran-wanting c = Ran-memory serves left s0 in0 in1 out0 (stopped error.NoMemory c)
+  -- ---- a share after which nothing is reported
+
+  abbrev RanSilently : Status → Type 0
+  RanSilently s = Ran serves left s0 s0 in0 in1 out0 out0 s
+
+  stopped_silently : (handled nine : ℕ) (cause : PumpError) → StoppedBy t left in0 in1 replies last handled nine cause → (s : Status) → stopped_by handled nine cause ≡ Err s → RanSilently s
+  stopped_silently handled nine error.NoMemory k s is = subst RanSilently (same_err _ _ is) (Ran-memory serves left s0 in0 in1 out0 k)
+  stopped_silently handled nine error.Read k s is = subst RanSilently (same_err _ _ is) (Ran-input serves left s0 in0 in1 out0 k)
+  stopped_silently handled nine error.Write k s is = absurd k
+  stopped_silently handled nine error.Torn k s is = absurd cc
+  stopped_silently handled nine (error.Attach errno) k s is = absurd cc
+
+  silently : (r : Result Pumped Stopped) → SharesBy t left in0 in1 replies last r → (s : Status) → ending_of r ≡ Err s → RanSilently s
+  silently (Ok r) k s is = absurd cc
+  silently (Err r) k s is = stopped_silently r.handled r.nine_frames r.cause k s is
+
+  pub Ran-unreported : (s : Status) → ending_of result ≡ Err s → RanSilently s
+  Ran-unreported s is = silently result h.answer s is

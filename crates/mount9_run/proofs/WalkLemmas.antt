@@ -14,12 +14,13 @@ use Rattle.tree_model.specs.Finding.{entries_of, entries_at}
 use Rattle.tree_model.specs.Making.{next_cookie}
 use Rattle.tree_model.specs.Attributes.{attr_of, attr_or_missing, kind_of, size_of}
 use Rattle.tree_model.specs.Reading.{record_after_of, peek_entry_of, entry_above, above as up_of, bytes_of, bytes_at, is_file_at}
+use Rattle.tree_model.specs.Opening.{is_link_at, target_of, target_at}
 use Rattle.tree_model.specs.Sound.{has_no_links}
 use Rattle.tree_model.proofs.Sweeping.{no_links}
 use Rattle.tree_model.proofs.Files.{good_is_counted}
-use Rattle.mount9_run.specs.ReportLines.{directory_line, entry_line, file_line}
+use Rattle.mount9_run.specs.ReportLines.{directory_line, entry_line, file_line, link_line}
 use Rattle.mount9_run.specs.Report.{entries_text, record_text, records_text, body_text}
-use Rattle.mount9_run.specs.Walking.{entries_in, directory_text, stored_text, linked_text, IsStored, HasNoLinks}
+use Rattle.mount9_run.specs.Walking.{entries_in, directory_text, stored_text, linked_text, IsStored}
 use Rattle.mount9_run.proofs.Rising.{Rises, above, above-all, above-next, above-none, number, entries-rise, get-first, entries-retain_keys}
 
 -- ---- the entries of a directory
@@ -165,6 +166,16 @@ file_size (File bytes) h = refl
 file_size (Directory es next up) h = absurd (cc)
 file_size (Link target) h = absurd (cc)
 
+link_body : (a : Attr) (b : Body) → kind_of b ≡ kind.Link → body_text a b ≡ link_line a (target_of b)
+link_body a (File bytes) h = absurd (cc)
+link_body a (Directory es next up) h = absurd (cc)
+link_body a (Link target) h = refl
+
+link_test : (b : Body) → kind_of b ≡ kind.Link → IsTrue (is_link_at (Some b))
+link_test (File bytes) h = absurd (cc)
+link_test (Directory es next up) h = absurd (cc)
+link_test (Link target) h = refl
+
 module _ (t : Tree) (a : Attr) (h : IsStored t a) where
   found : Found t a
   found = found_by t a (map.get t.records a.ino) refl h.told
@@ -202,8 +213,14 @@ module _ (t : Tree) (a : Attr) (h : IsStored t a) where
     pub stored_text-file : stored_text t a.ino ≡ file_line a (bytes_at t a.ino)
     stored_text-file = text_at ∙ file_body a found.stored.body (kind_at ∙ is) ∙ ap (file_line a) (sym bytes_there)
 
-  pub stored-no_link : HasNoLinks t → a.kind ≡ kind.Link → ⊥
-  stored-no_link none is = none.other a.ino found.stored found.at (kind_at ∙ is)
+  module _ (is : a.kind ≡ kind.Link) where
+    pub stored-link : IsTrue (is_link_at (body_at t.records a.ino))
+    stored-link = subst (λ (o : Option Record). IsTrue (is_link_at (option_map (λ (r : Record). r.body) o))) (sym found.at) (link_test found.stored.body (kind_at ∙ is))
+
+    pub stored_text-link : stored_text t a.ino ≡ link_line a (target_at t a.ino)
+    stored_text-link =
+        text_at ∙ link_body a found.stored.body (kind_at ∙ is)
+        ∙ ap (λ (o : Option Record). link_line a (unwrap_or (option_map target_of (option_map (λ (r : Record). r.body) o)) [])) (sym found.at)
 
   module _ (good : IsGoodTree t) where
     linked_by : (a.links == 0) ≡ not (is_linked t.records a.ino)

@@ -4,7 +4,6 @@ use Rattle.std.specs.Global.{Global}
 use Rattle.std.specs.Io.KnownBytes.{Consumes}
 use Rattle.port_base.specs.Faults.{Faulted}
 use Rattle.mount9_run.specs.HeaderLines.{NamedFile}
-use Rattle.mount9_run.specs.Walking.{HasNoLinks}
 use Rattle.mount9_run.specs.Header.{HeaderRead, text_of, text_from, onto}
 use Rattle.mount9_run.specs.declared.header.error.HeaderError.{HeaderError}
 use Rattle.mount9_run.specs.declared.header.error.HeaderError.TheVariants as error
@@ -28,9 +27,8 @@ pub record IsFresh (host : TreeHost) : Type 0 where
   pub faults : host.faults ≡ 0
   pub steady : host.steady ≡ true
 
--- but for the tree, the host is as before, and no link was added
+-- but for the tree, the host is as before
 pub record ChangesTree (old new : TreeHost) : Type 0 where
-  pub links : HasNoLinks (tree old) → HasNoLinks (tree new)
   pub born : new.born ≡ old.born
   pub holds : holds new ≡ holds old
   pub faults : new.faults ≡ old.faults

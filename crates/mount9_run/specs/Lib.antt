@@ -14,3 +14,4 @@ pub mod Wrote
 pub mod Serving
 pub mod Outcome
 pub mod Running
+pub mod Causes

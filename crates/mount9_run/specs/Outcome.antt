@@ -81,6 +81,10 @@ mounted t rest None = served (linked t) (cut TURNS rest)
 abbrev pub run_of : List ℕ → HeaderRead → List ℕ → Outcome
 run_of target h rest = mounted h.tree rest (mount_refused target h)
 
+-- refused words are told, whatever the input
+abbrev pub refused_words : List ℕ → Outcome
+refused_words bytes = (status.Words, codes "words\n")
+
 abbrev pub outcome_by : Option Serve → Result (HeaderRead × List ℕ) ℕ → Outcome
 outcome_by None h = (status.Words, codes "words\n")
 outcome_by (Some s) (Err n) = (status.Header, number_line (codes "header") n)

@@ -8,27 +8,28 @@ use Rattle.frame_pump.specs.declared.outcome.Pumped.{Pumped}
 use Rattle.frame_pump.specs.declared.outcome.Stopped.{Stopped}
 use Rattle.frame_pump.specs.declared.outcome.PumpError.{PumpError}
 use Rattle.frame_pump.specs.declared.outcome.PumpError.TheVariants as error
-use Rattle.mount9_run.specs.Walking.{HasNoLinks}
 use Rattle.mount9_run.specs.Outcome.{served, mount_table}
 use Rattle.mount9_run.specs.Report.{report}
 use Rattle.mount9_run.specs.declared.report.verdict.Cause.TheVariants.{Torn, Attach}
 use Rattle.mount9_run.specs.declared.report.verdict.Verdict.{Verdict}
 use Rattle.mount9_run.specs.declared.report.verdict.Verdict.TheVariants as verdict
 use Rattle.mount9_run.specs.declared.run.TheConstants.{TURNS, MOUNT_FLAGS}
+use Rattle.mount9_run.specs.declared.run.Ending.{Ending}
 use Rattle.mount9_run.specs.declared.run.Status.{Status}
 use Rattle.mount9_run.specs.declared.run.Status.TheVariants as status
 
--- the tree can be reported, where a report follows
-abbrev pub IsReportableAfter : PumpError → Tree → Type 0
-IsReportableAfter error.Torn t = HasNoLinks t
-IsReportableAfter (error.Attach errno) t = HasNoLinks t
-IsReportableAfter error.NoMemory t = Unit {0}
-IsReportableAfter error.Read t = Unit {0}
-IsReportableAfter error.Write t = ⊥
+-- how a share that stopped ends a run
+abbrev pub stopped_by : ℕ → ℕ → PumpError → Result Ending Status
+stopped_by handled nine error.Torn = Ok (record { status = status.Stopped; verdict = verdict.Stopped Torn handled; nine = nine })
+stopped_by handled nine (error.Attach errno) = Ok (record { status = status.Stopped; verdict = verdict.Stopped (Attach errno) handled; nine = nine })
+stopped_by handled nine error.NoMemory = Err status.Memory
+stopped_by handled nine error.Read = Err status.Input
+stopped_by handled nine error.Write = Err status.Output
 
-abbrev pub IsReportable : Result Pumped Stopped → Tree → Type 0
-IsReportable (Ok r) t = HasNoLinks t
-IsReportable (Err r) t = IsReportableAfter r.cause t
+-- how what a share told ends a run: by a report, or by an answer alone
+abbrev pub ending_of : Result Pumped Stopped → Result Ending Status
+ending_of (Ok r) = Ok (record { status = status.Served; verdict = verdict.Served MOUNT_FLAGS r.handled; nine = r.nine_frames })
+ending_of (Err r) = stopped_by r.handled r.nine_frames r.cause
 
 -- the input didn't fail, and from the tree t its bytes lead to this answer and this report
 abbrev pub LeadsTo : Tree → Option (List ℕ) → ℕ → ℕ → Status → List ℕ → Verdict → Tree → ℕ → Type 0
@@ -50,4 +51,3 @@ SharesBy t left in0 in1 replies last (Err r) = StoppedBy t left in0 in1 replies 
 pub record Shares (t : Tree) (left : Option (List ℕ)) (in0 in1 : ℕ) (replies : List ℕ) (last : Tree) (result : Result Pumped Stopped) : Type 0 where
   pub answer : SharesBy t left in0 in1 replies last result
   pub whole : linked last ≡ last
-  pub files : IsReportable result last

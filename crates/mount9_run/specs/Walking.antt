@@ -29,7 +29,3 @@ linked_text t ino = if is_linked t.records ino then stored_text t ino else []
 -- these are the attributes of a stored record
 pub record IsStored (t : Tree) (a : Attr) : Type 0 where
   pub told : stat_of t a.ino ≡ Ok a
-
--- no record is a symbolic link
-pub record HasNoLinks (t : Tree) : Type 0 where
-  pub other : (i : ℕ) (r : Record) → map.get t.records i ≡ Some r → kind_of r.body ≢ kind.Link

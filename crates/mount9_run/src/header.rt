@@ -5,7 +5,6 @@ ghost use Rattle.tree_host.specs.TreeHosts.{tree};
 ghost use Rattle.mount9_run.specs.Reading.{Gives, lines_of};
 ghost use Rattle.mount9_run.specs.Header.{first_tree, header_of, header_alone};
 ghost use Rattle.mount9_run.specs.HeaderViews.{header_view, IsFresh};
-ghost use Rattle.mount9_run.specs.Walking.{HasNoLinks};
 
 pub mod error;
 mod files;
@@ -44,7 +43,6 @@ fn new_host(alloc: Global, start: &Start, top: &Top) -> Result<TreeHost, HeaderE
     ensures tree { Gives (λ host. tree host) result (Ok (first_tree start.now top.now)) }
     ensures born { IfOk result (λ host. host.born ≡ start.now.born) }
     ensures fresh { IfOk result IsFresh }
-    ensures links { IfOk result (λ host. HasNoLinks (tree host)) }
 {
     let host = TreeHost::new(
         alloc,
@@ -63,7 +61,6 @@ fn new_host(alloc: Global, start: &Start, top: &Top) -> Result<TreeHost, HeaderE
 pub fn read_text(alloc: Global, text: &[u8]) -> Result<Header, HeaderError>
     ensures value { Gives header_view result (header_of (lines_of text.now)) }
     ensures fresh { IfOk result (λ header. IsFresh header.host) }
-    ensures links { IfOk result (λ header. HasNoLinks (tree header.host)) }
 {
     let (start, at) = start_lines(Place {
         number: 1,
@@ -85,7 +82,6 @@ pub fn read_text(alloc: Global, text: &[u8]) -> Result<Header, HeaderError>
 pub fn read_header(alloc: Global, bytes: &[u8]) -> Result<Header, HeaderError>
     ensures value { Gives header_view result (header_alone bytes.now) }
     ensures fresh { IfOk result (λ header. IsFresh header.host) }
-    ensures links { IfOk result (λ header. HasNoLinks (tree header.host)) }
 {
     let mut source = SliceSource::new(bytes);
     let mut text = Vec::new(alloc);

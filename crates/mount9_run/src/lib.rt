@@ -8,4 +8,6 @@ pub mod laws;
 pub mod path;
 pub mod report;
 pub mod run;
+#[cfg(test)]
+mod tests;
 pub mod text;

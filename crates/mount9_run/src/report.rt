@@ -5,7 +5,6 @@ ghost use Rattle.tree_host.specs.TreeHosts.{tree};
 ghost use Rattle.mount9_run.specs.Wrote.{Wrote};
 ghost use Rattle.mount9_run.specs.ReportLines.{verdict_line};
 ghost use Rattle.mount9_run.specs.Report.{tree_text, closing};
-ghost use Rattle.mount9_run.specs.Walking.{HasNoLinks};
 
 mod fields;
 mod lines;
@@ -30,7 +29,6 @@ pub fn write_report<K: Sink>(
     table: &[u8],
     nine: u64,
 ) -> Result<(), SinkFault>
-    requires { HasNoLinks (tree host.now) }
     ensures { Wrote (K.sent out.old) (K.sent out.new) (K.faults out.old) (K.faults out.new) (verdict_line verdict ++ (tree_text (linked (tree host.now)) ++ closing table.now nine)) result }
 {
     match write_verdict(alloc, out, verdict) {

@@ -6,13 +6,13 @@ ghost use Rattle.tree_host.specs.TreeHosts.{tree};
 ghost use Rattle.p9_server.specs.Configs.{config_refused, settings_of};
 ghost use Rattle.fuse_wire.specs.Cuts.{cut};
 ghost use Rattle.mount9_run.specs.HeaderViews.{IsFresh, header_view};
-ghost use Rattle.mount9_run.specs.Walking.{HasNoLinks};
 ghost use Rattle.mount9_run.specs.Wrote.{Wrote};
 ghost use Rattle.mount9_run.specs.ReportLines.{number_line};
 ghost use Rattle.mount9_run.specs.Report.{report};
-ghost use Rattle.mount9_run.specs.Outcome.{share_settings, mount_table, is_present, mount_refused, served, run_of, outcome};
+ghost use Rattle.mount9_run.specs.Outcome.{share_settings, mount_table, is_present, mount_refused, served, run_of, refused_words, outcome};
 ghost use Rattle.mount9_run.specs.Running.{Ran, Tells, after_text};
-ghost use Rattle.mount9_run.specs.Serving.{Shares};
+ghost use Rattle.mount9_run.specs.Serving.{Shares, stopped_by, ending_of};
+ghost use Rattle.mount9_run.specs.Command.{command};
 ghost use Rattle.mount9_run.specs.declared.run.Status.TheVariants as status;
 
 use crate::command::{WordsError, read_words};
@@ -99,7 +99,6 @@ fn write_whole<K: Sink>(
     host: &TreeHost,
     nine: u64,
 ) -> Result<(), SinkFault>
-    requires { HasNoLinks (tree host.now) }
     ensures { Wrote (K.sent out.old) (K.sent out.new) (K.faults out.old) (K.faults out.new) (report replies.now verdict (linked (tree host.now)) mount_table nine) result }
 {
     match write_replies(alloc, out, replies) {
@@ -110,22 +109,27 @@ fn write_whole<K: Sink>(
     write_report(alloc, out, verdict, host, table, nine)
 }
 
+// What is reported of a run: its answer, how it ended, and the number of 9P messages.
+#[derive(Clone, Copy, Debug, PartialEq, Eq)]
+struct Ending {
+    status: Status,
+    verdict: Verdict,
+    nine: u64,
+}
+
 // A whole report, and the answer that goes with it.
 fn tell_report<K: Sink>(
     alloc: Global,
     out: &mut K,
-    status: Status,
+    ending: Ending,
     replies: &[u8],
-    verdict: Verdict,
     host: &TreeHost,
-    nine: u64,
 ) -> Status
-    requires { HasNoLinks (tree host.now) }
-    ensures told { Tells (K.sent out.old) (K.sent out.new) (K.faults out.old) (K.faults out.new) status (report replies.now verdict (linked (tree host.now)) mount_table nine) result }
-    ensures range { nine < 2 ^ 64 }
+    ensures told { Tells (K.sent out.old) (K.sent out.new) (K.faults out.old) (K.faults out.new) ending.status (report replies.now ending.verdict (linked (tree host.now)) mount_table ending.nine) result }
+    ensures range { ending.nine < 2 ^ 64 }
 {
-    let written = write_whole(alloc, out, replies, verdict, host, nine);
-    after_text(status, written)
+    let written = write_whole(alloc, out, replies, ending.verdict, host, ending.nine);
+    after_text(ending.status, written)
 }
 
 // Whether mounts may stand on a path: the top, or a path that the header names.
@@ -183,7 +187,6 @@ struct Shared {
 // A tree is served to the requests of the input.
 fn share<S: Source>(alloc: Global, config: Config, host: TreeHost, input: &mut S) -> Shared
     requires fresh { IsFresh host }
-    requires files { HasNoLinks (tree host) }
     requires settings { settings_of config ≡ share_settings }
     requires msize { config.msize ≡ 65560 }
     requires allowed { config_refused config.msize config.root.items ≡ None }
@@ -202,10 +205,48 @@ fn share<S: Source>(alloc: Global, config: Config, host: TreeHost, input: &mut S
     }
 }
 
+// How a share that stopped ends a run.
+fn stopped_by(stopped: Stopped) -> Result<Ending, Status>
+    ensures { result ≡ stopped_by stopped.handled stopped.nine_frames stopped.cause }
+{
+    let cause = match stopped.cause {
+        PumpError::Torn => Cause::Torn,
+        PumpError::Attach(errno) => Cause::Attach(errno),
+        PumpError::NoMemory => return Err(Status::Memory),
+        PumpError::Read => return Err(Status::Input),
+        PumpError::Write => return Err(Status::Output),
+    };
+    let verdict = Verdict::Stopped {
+        cause,
+        handled: stopped.handled,
+    };
+    Ok(Ending {
+        status: Status::Stopped,
+        verdict,
+        nine: stopped.nine_frames,
+    })
+}
+
+// How what a share told ends a run: by a report, or by an answer alone.
+fn ending_of(told: Result<Pumped, Stopped>) -> Result<Ending, Status>
+    ensures { result ≡ ending_of told }
+{
+    match told {
+        Ok(pumped) => Ok(Ending {
+            status: Status::Served,
+            verdict: Verdict::Served {
+                flags: MOUNT_FLAGS,
+                handled: pumped.handled,
+            },
+            nine: pumped.nine_frames,
+        }),
+        Err(stopped) => stopped_by(stopped),
+    }
+}
+
 // A tree is served, and reported.
 fn serve<S: Source, K: Sink>(alloc: Global, host: TreeHost, input: &mut S, out: &mut K) -> Status
-    requires fresh { IsFresh host }
-    requires files { HasNoLinks (tree host) }
+    requires { IsFresh host }
     ensures { Ran (λ bytes. served (linked (tree host)) (cut TURNS bytes)) (S.left input.old) (K.sent out.old) (K.sent out.new) (S.faults input.old) (S.faults input.new) (K.faults out.old) (K.faults out.new) result }
 {
     let Ok(config) = share_config(alloc) else {
@@ -216,60 +257,9 @@ fn serve<S: Source, K: Sink>(alloc: Global, host: TreeHost, input: &mut S, out: 
         host,
         replies,
     } = share(alloc, config, host, input);
-    match told {
-        Ok(pumped) => {
-            let verdict = Verdict::Served {
-                flags: MOUNT_FLAGS,
-                handled: pumped.handled,
-            };
-            let replies = replies.as_bytes();
-            tell_report(
-                alloc,
-                out,
-                Status::Served,
-                replies,
-                verdict,
-                &host,
-                pumped.nine_frames,
-            )
-        }
-        Err(stopped) => match stopped.cause {
-            PumpError::NoMemory => Status::Memory,
-            PumpError::Read => Status::Input,
-            PumpError::Write => unreachable!(),
-            PumpError::Attach(errno) => {
-                let verdict = Verdict::Stopped {
-                    cause: Cause::Attach(errno),
-                    handled: stopped.handled,
-                };
-                let replies = replies.as_bytes();
-                tell_report(
-                    alloc,
-                    out,
-                    Status::Stopped,
-                    replies,
-                    verdict,
-                    &host,
-                    stopped.nine_frames,
-                )
-            }
-            PumpError::Torn => {
-                let verdict = Verdict::Stopped {
-                    cause: Cause::Torn,
-                    handled: stopped.handled,
-                };
-                let replies = replies.as_bytes();
-                tell_report(
-                    alloc,
-                    out,
-                    Status::Stopped,
-                    replies,
-                    verdict,
-                    &host,
-                    stopped.nine_frames,
-                )
-            }
-        },
+    match ending_of(told) {
+        Ok(ending) => tell_report(alloc, out, ending, replies.as_bytes(), &host),
+        Err(status) => status,
     }
 }
 
@@ -281,25 +271,31 @@ fn mount<S: Source, K: Sink>(
     input: &mut S,
     out: &mut K,
 ) -> Status
-    requires fresh { IsFresh header.host }
-    requires files { HasNoLinks (tree header.host) }
+    requires { IsFresh header.host }
     ensures { Ran (run_of target.now (header_view header)) (S.left input.old) (K.sent out.old) (K.sent out.new) (S.faults input.old) (S.faults input.new) (K.faults out.old) (K.faults out.new) result }
 {
     if let Some(errno) = mount_refused(target, &header) {
-        let verdict = Verdict::Stopped {
-            cause: Cause::Mount(errno),
-            handled: 0,
+        let ending = Ending {
+            status: Status::Stopped,
+            verdict: Verdict::Stopped {
+                cause: Cause::Mount(errno),
+                handled: 0,
+            },
+            nine: 0,
         };
-        return tell_report(alloc, out, Status::Stopped, &[], verdict, &header.host, 0);
+        return tell_report(alloc, out, ending, &[], &header.host);
     }
     serve(alloc, header.host, input, out)
 }
 
 /// Runs the program: `words` is the command line, `input` a header and the request frames behind it. The
 /// number of the answer is the exit status. What is written is the report, or `words` or `header N` where
-/// these are refused; after want of memory or a failed stream a front of it.
+/// these are refused; after want of memory or a failed stream a front of it. Where the words are refused nothing
+/// is read.
 pub fn run<S: Source, K: Sink>(alloc: Global, words: &Words, input: &mut S, out: &mut K) -> Status
     ensures ran { Ran (outcome words.now) (S.left input.old) (K.sent out.old) (K.sent out.new) (S.faults input.old) (S.faults input.new) (K.faults out.old) (K.faults out.new) result }
+    ensures unread { command words.now ≡ None → input.new ≡ input.old }
+    ensures refused { command words.now ≡ None → Ran refused_words (Some []) (K.sent out.old) (K.sent out.new) (S.faults input.old) (S.faults input.new) (K.faults out.old) (K.faults out.new) result }
 {
     let command = match read_words(alloc, words) {
         Ok(command) => command,

@@ -1,7 +1,7 @@
 //! Lines of a report, in memory. After an `Err` the line is of no use.
 ghost use Rattle.std.specs.Prelude.{◌≡◌, ◌++◌, ◌∷◌, [], OnOk, fold};
 ghost use Rattle.hex.specs.Hex.{encode_lower};
-ghost use Rattle.mount9_run.specs.ReportLines.{with_field, cause_fields, directory_line, entry_line, file_head, number_line, verdict_line};
+ghost use Rattle.mount9_run.specs.ReportLines.{with_field, cause_fields, directory_line, entry_line, file_head, link_line, number_line, verdict_line};
 
 use crate::report::fields::{
     push_attr, push_escaped, push_field, push_key_number, push_number, push_text,
@@ -71,6 +71,22 @@ pub fn make_file_head(alloc: Global, line: &mut Vec<u8>, attr: &Attr) -> Result<
     start_line(line, b"file")?;
     push_attr(alloc, line, attr)?;
     push_text(line, b" ")
+}
+
+/// Makes the line of a symbolic link.
+#[tactic(auto, unfolding(crate::specs::ReportLines::link_line))]
+pub fn make_link_line(
+    alloc: Global,
+    line: &mut Vec<u8>,
+    attr: &Attr,
+    target: &[u8],
+) -> Result<(), AllocError>
+    ensures { OnOk result (line.new.items ≡ link_line attr.now target.now) }
+{
+    start_line(line, b"link")?;
+    push_attr(alloc, line, attr)?;
+    push_escaped(line, target)?;
+    end_line(line)
 }
 
 /// Makes a line of a word and a number.

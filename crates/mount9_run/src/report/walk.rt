@@ -8,11 +8,11 @@ ghost use Rattle.tree_host.specs.TreeHosts.{tree};
 ghost use Rattle.mount9_run.specs.Wrote.{Wrote};
 ghost use Rattle.mount9_run.specs.ReportLines.{file_line, hex_or_dash};
 ghost use Rattle.mount9_run.specs.Report.{entries_text, records_text, tree_text};
-ghost use Rattle.mount9_run.specs.Walking.{entries_in, directory_text, stored_text, linked_text, IsStored, HasNoLinks};
+ghost use Rattle.mount9_run.specs.Walking.{entries_in, directory_text, stored_text, linked_text, IsStored};
 
 use crate::report::writing::{
-    write_directory_line, write_entry_line, write_file_head, write_hex, write_number_line,
-    write_text,
+    write_directory_line, write_entry_line, write_file_head, write_hex, write_link_line,
+    write_number_line, write_text,
 };
 use port_base::sink::{Sink, SinkFault};
 use std::alloc::{AllocError, Global};
@@ -156,14 +156,13 @@ fn write_stored<K: Sink>(
     host: &TreeHost,
     attr: &Attr,
 ) -> Result<(), SinkFault>
-    requires stored { IsStored (tree host.now) attr.now }
-    requires files { HasNoLinks (tree host.now) }
+    requires { IsStored (tree host.now) attr.now }
     ensures { Wrote (K.sent out.old) (K.sent out.new) (K.faults out.old) (K.faults out.new) (stored_text (tree host.now) attr.now.ino) result }
 {
     match attr.kind {
         Kind::File => write_file(alloc, out, buffer, host, attr),
         Kind::Directory => write_directory(alloc, out, buffer, host, attr),
-        Kind::Link => unreachable!(),
+        Kind::Link => write_link_line(alloc, out, buffer, attr, host.peek_target(attr.ino)),
     }
 }
 
@@ -175,8 +174,7 @@ fn write_linked<K: Sink>(
     host: &TreeHost,
     attr: &Attr,
 ) -> Result<(), SinkFault>
-    requires stored { IsStored (tree host.now) attr.now }
-    requires files { HasNoLinks (tree host.now) }
+    requires { IsStored (tree host.now) attr.now }
     ensures { Wrote (K.sent out.old) (K.sent out.new) (K.faults out.old) (K.faults out.new) (linked_text (tree host.now) attr.now.ino) result }
 {
     if attr.links == 0 {
@@ -187,7 +185,6 @@ fn write_linked<K: Sink>(
 
 // Writes the records that are linked.
 fn write_records<K: Sink>(alloc: Global, out: &mut K, host: &TreeHost) -> Result<(), SinkFault>
-    requires { HasNoLinks (tree host.now) }
     ensures { Wrote (K.sent out.old) (K.sent out.new) (K.faults out.old) (K.faults out.new) (records_text (map.entries (linked (tree host.now)).records)) result }
 {
     let mut buffer = Vec::new(alloc);
@@ -205,7 +202,6 @@ fn write_records<K: Sink>(alloc: Global, out: &mut K, host: &TreeHost) -> Result
 /// Writes the next number of a tree and its linked records.
 #[tactic(auto, unfolding(crate::specs::Report::tree_text))]
 pub fn write_tree<K: Sink>(alloc: Global, out: &mut K, host: &TreeHost) -> Result<(), SinkFault>
-    requires { HasNoLinks (tree host.now) }
     ensures { Wrote (K.sent out.old) (K.sent out.new) (K.faults out.old) (K.faults out.new) (tree_text (linked (tree host.now))) result }
 {
     match write_number_line(alloc, out, b"tree", host.next_ino()) {

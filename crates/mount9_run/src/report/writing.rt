@@ -2,12 +2,12 @@
 ghost use Rattle.std.specs.Prelude.{◌≡◌, ◌++◌, ◌∷◌, [], take, drop, codes};
 ghost use Rattle.hex.specs.Hex.{encode_lower};
 ghost use Rattle.mount9_run.specs.Wrote.{Wrote};
-ghost use Rattle.mount9_run.specs.ReportLines.{directory_line, entry_line, file_head, number_line, hex_lines, verdict_line};
+ghost use Rattle.mount9_run.specs.ReportLines.{directory_line, entry_line, file_head, link_line, number_line, hex_lines, verdict_line};
 ghost use Rattle.mount9_run.specs.Report.{replies_text, closing};
 
 use crate::report::lines::{
-    make_directory_line, make_entry_line, make_file_head, make_hex_line, make_number_line,
-    make_verdict_line,
+    make_directory_line, make_entry_line, make_file_head, make_hex_line, make_link_line,
+    make_number_line, make_verdict_line,
 };
 use crate::report::verdict::Verdict;
 use port_base::sink::{Sink, SinkFault, write_all};
@@ -97,6 +97,22 @@ pub fn write_file_head<K: Sink>(
     ensures { Wrote (K.sent out.old) (K.sent out.new) (K.faults out.old) (K.faults out.new) (file_head attr.now) result }
 {
     if make_file_head(alloc, buffer, attr).is_err() {
+        return Err(SinkFault::NoMemory);
+    }
+    write_text(out, buffer)
+}
+
+/// Writes the line of a symbolic link. The buffer's contents are of no use before and after.
+pub fn write_link_line<K: Sink>(
+    alloc: Global,
+    out: &mut K,
+    buffer: &mut Vec<u8>,
+    attr: &Attr,
+    target: &[u8],
+) -> Result<(), SinkFault>
+    ensures { Wrote (K.sent out.old) (K.sent out.new) (K.faults out.old) (K.faults out.new) (link_line attr.now target.now) result }
+{
+    if make_link_line(alloc, buffer, attr, target).is_err() {
         return Err(SinkFault::NoMemory);
     }
     write_text(out, buffer)

@@ -1,6 +1,7 @@
 -- The attach, the frames, and the fids taken away.
 use Rattle.fuse_gate.proofs.Running.{Pumps-run}
 use Rattle.fuse_gate.proofs.Played.{PlaysWhole-from}
+use Rattle.fuse_gate.proofs.Telling.{TellsMessages-from}
 use Rattle.fuse_gate.specs.Pump.{Served}
 use Rattle.fuse_gate.proofs.pump.pump.Goals as goal
 
@@ -14,3 +15,6 @@ returns-in-Ok-clause-pumps g c =
 
 pub returns-in-Ok-clause-played : goal.returns-in-Ok-clause-played
 returns-in-Ok-clause-played g c = PlaysWhole-from _ _ _ _ _ _ (returns-in-Ok-clause-pumps g c)
+
+pub returns-in-Ok-clause-messages : goal.returns-in-Ok-clause-messages
+returns-in-Ok-clause-messages g c = TellsMessages-from _ _ _ _ _ _ (returns-in-Ok-clause-pumps g c).outcome

@@ -4,7 +4,6 @@ use Rattle.tree_host.specs.declared.memory.TreeHost.{TreeHost}
 use Rattle.tree_host.specs.TreeHosts.{tree, holds}
 use Rattle.fid_model.specs.Fids.{ServerState}
 use Rattle.mount9_run.specs.Serving.{Shares}
-use Rattle.mount9_run.specs.Walking.{HasNoLinks}
 use Rattle.mount9_run.proofs.Reporting.{Shares-from, linked_whole}
 use Rattle.mount9_run.proofs.run.share.Goals as goal
 
@@ -19,6 +18,5 @@ returns g c =
     (ap (λ (x : TreeHost). x.faults) at ∙ c.requires.fresh.faults)
     (h.steadily (ap (λ (x : TreeHost). x.steady) at ∙ c.requires.fresh.steady))
     _ _ _ _ _ _ c.new-replies.ensures (tree last) c.into_host-host.ensures.tree c.pump-told.result
-    (subst (λ (x : TreeHost). HasNoLinks (tree x)) (sym at) c.requires.files)
     (linked_whole (tree last) (holds last) c.into_host-host.ensures.holds last.stored)
     h.outcome)

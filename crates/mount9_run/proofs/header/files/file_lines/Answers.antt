@@ -26,5 +26,5 @@ lines-preserved c =
     record {
       lines = c.lines.invariant.lines ∙ gathered-more _ _ _ _ _ _ _ c.in-Ok.ensures.value _ e
           ∙ ap (λ (b : Stamp). gathered (record_at b) (tree c.take_file.new.host) c.in-Ok.taken.1.number (lines_of c.in-Ok.taken.1.rest.now)) (sym step.born);
-      rest = record { links = λ h. step.links (before.links h); born = step.born ∙ before.born; holds = step.holds ∙ before.holds; faults = step.faults ∙ before.faults; steady = step.steady ∙ before.steady };
+      rest = record { born = step.born ∙ before.born; holds = step.holds ∙ before.holds; faults = step.faults ∙ before.faults; steady = step.steady ∙ before.steady };
     }

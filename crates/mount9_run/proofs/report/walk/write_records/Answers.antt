@@ -8,8 +8,8 @@ use Rattle.mount9_run.proofs.report.walk.write_records.Goals as goal
 pub records-init : goal.records-init
 records-init g c = Writing-at (records-start (tree c.args.host.now) c.args.host.now.good) (Writing-start _ _ _ _ _ refl refl)
 
-pub write_linked-requires-clause-stored : goal.write_linked-requires-clause-stored
-write_linked-requires-clause-stored g c = next_is_stored (tree c.args.host.now) c.args.host.now.good c.records.at c.in-Some.attr c.in-Some.ensures
+pub write_linked-requires : goal.write_linked-requires
+write_linked-requires g c = next_is_stored (tree c.args.host.now) c.args.host.now.good c.records.at c.in-Some.attr c.in-Some.ensures
 
 pub returns-in-Err : goal.returns-in-Err
 returns-in-Err g c = Writing-stop _ _ _ _ _ _ _ _ _ (Writing-at (records-step (tree c.args.host.now) c.args.host.now.good c.records.at c.in-Some.attr c.in-Some.ensures) c.records.invariant) c.in-Err.e c.in-Err.ensures
