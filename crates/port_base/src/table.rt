@@ -120,3 +120,25 @@ impl<V> Table<V> {
         self.entries.get_mut(&key)
     }
 }
+
+#[cfg(test)]
+mod tests {
+    use super::*;
+    use std::test::Fail;
+
+    #[test]
+    fn values_stand_by_their_numbers(rt: HostRuntime) -> Result<(), Fail> {
+        let mut table = Table::new(rt.alloc());
+        table.insert(7, 70u64)?;
+        table.insert(3, 30)?;
+        table.insert(7, 71)?;
+        assert_eq!(rt; table.len(), 2);
+        assert_eq!(rt; table.get(7), Some(&71));
+        assert!(rt; !table.contains_key(5));
+        assert_eq!(rt; table.next_after(3), Some((7, &71)));
+        assert_eq!(rt; table.remove(7), Some(71));
+        assert_eq!(rt; table.pop_first(), Some((3, 30)));
+        assert_eq!(rt; table.pop_first(), None);
+        Ok(())
+    }
+}
