@@ -1,5 +1,5 @@
 -- What the calls of a host promise.
-use Rattle.std.specs.Prelude.{◌≡◌, ℕ, ◌<◌, Bool, false, Some, Result, Ok, Err, ⊤}
+use Rattle.std.specs.Prelude.{◌≡◌, ℕ, ◌<◌, ◌≤◌, Bool, false, List, length, take, drop, Some, Result, Ok, Err, ⊤}
 use Rattle.std.specs.FinMap as map
 use Rattle.port_base.specs.Faults.{Faulted}
 use Rattle.tree_model.specs.declared.attributes.HostError.{HostError}
@@ -40,6 +40,16 @@ LeavesBy told old new (Err NoMemory) = new ≡ old
 -- an answer and the new tree, or a refusal, are those that a definition gives; after every error the tree is as it was
 pub record Leaves {A : Type 0} (told : Result (A × Tree) ℕ) (old new : Tree) (result : Result A HostError) : Type 0 where
   pub exactly : LeavesBy told old new result
+
+abbrev pub ReadsBy : Result (List ℕ) ℕ → List ℕ → List ℕ → Result ℕ HostError → Type 0
+ReadsBy told old new (Ok n) = (told ≡ Ok (take n new)) × (n ≤ length new) × (drop n new ≡ drop n old)
+ReadsBy told old new (Err (Errno e)) = (told ≡ Err e) × (new ≡ old)
+ReadsBy told old new (Err Fault) = new ≡ old
+ReadsBy told old new (Err NoMemory) = new ≡ old
+
+-- the bytes that a definition gives stand at the front of a buffer, whose rest is as it was; or the refusal is the definition's
+pub record Reads (told : Result (List ℕ) ℕ) (old new : List ℕ) (result : Result ℕ HostError) : Type 0 where
+  pub exactly : ReadsBy told old new result
 
 -- ---- counts of faults
 

@@ -1,13 +1,14 @@
 //! What serves a tree of files.
-ghost use Rattle.std.specs.Prelude.{◌≡◌, ◌≢◌, ◌-◌, ◌^◌, ◌<◌, ℕ, Bool, All, IfOk, IfErr, OnErr, Some, None, Err, slice_get};
+ghost use Rattle.std.specs.Prelude.{◌≡◌, ◌≢◌, ◌-◌, ◌^◌, ◌<◌, ℕ, Bool, All, length, IfOk, IfErr, OnErr, Some, None, Err, slice_get};
 ghost use Rattle.port_base.specs.Names.{name_fault};
 ghost use Rattle.tree_model.specs.Tree.{Tree, keep};
 ghost use Rattle.tree_model.specs.Good.{IsGoodTree};
 ghost use Rattle.tree_model.specs.Finding.{root_of, path_names, lookup_of};
 ghost use Rattle.tree_model.specs.Attributes.{stat_of};
 ghost use Rattle.tree_model.specs.Reading.{entry_after_of};
+ghost use Rattle.tree_model.specs.Opening.{open_check_of, read_of};
 ghost use Rattle.tree_host.specs.Holds.{Holds, hold_count, is_held, held_more, held_less};
-ghost use Rattle.tree_host.specs.Host.{IsHeldIn, Answers, Causes};
+ghost use Rattle.tree_host.specs.Host.{IsHeldIn, Answers, Reads, Causes};
 
 use crate::entry::Entry;
 use tree_model::{Attr, HostError};
@@ -73,6 +74,30 @@ pub trait Host {
     fn stat(&mut self, ino: u64) -> Result<Attr, HostError>
         requires { 0 < hold_count (holds self.old) ino }
         ensures answer { Answers (stat_of (tree self.old) ino) result }
+        ensures tree { tree self.new ≡ tree self.old }
+        ensures holds { holds self.new ≡ holds self.old }
+        ensures memory { result ≢ Err HostError.NoMemory }
+        ensures cause { Causes (steady self.old) (faults self.old) (faults self.new) result }
+        ensures steady { steady self.new ≡ steady self.old };
+
+    /// Whether an inode may be opened with these flags, which are those of `open(2)`: EINVAL for access 3, EEXIST
+    /// for CREATE with EXCL, ELOOP for a link, ENOTDIR for a file with DIRECTORY, EISDIR for a directory that is
+    /// opened to write, with TRUNC or with CREATE. It takes no memory.
+    fn open_check(&mut self, ino: u64, flags: u32) -> Result<(), HostError>
+        requires { 0 < hold_count (holds self.old) ino }
+        ensures answer { Answers (open_check_of (tree self.old) ino flags) result }
+        ensures tree { tree self.new ≡ tree self.old }
+        ensures holds { holds self.new ≡ holds self.old }
+        ensures memory { result ≢ Err HostError.NoMemory }
+        ensures cause { Causes (steady self.old) (faults self.old) (faults self.new) result }
+        ensures steady { steady self.new ≡ steady self.old };
+
+    /// Reads a file's bytes from an offset on, as many as there are and fit, into the front of `buf`, whose
+    /// rest stays. EISDIR for a directory, EINVAL for a link. After an error `buf` is as it was. It takes no
+    /// memory.
+    fn read_at(&mut self, ino: u64, offset: u64, buf: &mut [u8]) -> Result<usize, HostError>
+        requires { 0 < hold_count (holds self.old) ino }
+        ensures answer { Reads (read_of (tree self.old) ino offset (length buf.old)) buf.old buf.new result }
         ensures tree { tree self.new ≡ tree self.old }
         ensures holds { holds self.new ≡ holds self.old }
         ensures memory { result ≢ Err HostError.NoMemory }

@@ -10,7 +10,7 @@ use crate::entry::Entry;
 use crate::holds::{hold, lower};
 use crate::host::Host;
 use crate::node::{Node, TOP};
-use crate::nodes::{add_node, entry_after, find_in, refusal, sweep, walk};
+use crate::nodes::{add_node, entry_after, find_in, open_check, refusal, sweep, walk};
 use port_base::errno::{EFBIG, ENOENT};
 use port_base::sink::NoMemory;
 use port_base::table::Table;
@@ -195,6 +195,17 @@ impl Host for TreeHost {
     fn stat(&mut self, ino: u64) -> Result<Attr, HostError> {
         match self.nodes.get(ino) {
             Some(node) => Ok(node.attr(ino)),
+            None => Err(HostError::Errno(ENOENT)),
+        }
+    }
+
+    fn open_check(&mut self, ino: u64, flags: u32) -> Result<(), HostError> {
+        open_check(&self.nodes, ino, flags)
+    }
+
+    fn read_at(&mut self, ino: u64, offset: u64, buf: &mut [u8]) -> Result<usize, HostError> {
+        match self.nodes.get(ino) {
+            Some(node) => node.read_at(offset, buf),
             None => Err(HostError::Errno(ENOENT)),
         }
     }

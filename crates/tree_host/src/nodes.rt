@@ -1,14 +1,17 @@
 //! Records in a table, by inode number.
-ghost use Rattle.std.specs.Prelude.{◌≡◌, ◌≢◌, not, Result, None, ℕ, ◌+◌, ◌-◌, ◌^◌, ◌<◌, OnOk, OnErr, IfOk, IfErr, Err, IsSome, option_map, unwrap_or, false};
+ghost use Rattle.std.specs.Prelude.{◌≡◌, ◌≢◌, ◌==◌, not, Result, Ok, None, ℕ, ◌+◌, ◌-◌, ◌^◌, ◌<◌, OnOk, OnErr, IfOk, IfErr, Err, IsSome, option_map, unwrap_or, false};
+ghost use Rattle.std.specs.List.{slice_split};
 ghost use Rattle.std.specs.FinMap as map;
-ghost use Rattle.tree_model.specs.Tree.{body_at, is_directory_at};
+ghost use Rattle.tree_model.specs.Tree.{body_at, is_directory_at, top};
 ghost use Rattle.tree_model.specs.Finding.{entries_at, ino_among, root_of, path_names};
 ghost use Rattle.tree_model.specs.Making.{change, joined_by, next_cookie, new_name_refused};
 ghost use Rattle.tree_model.specs.Sound.{has_no_links, swept};
 ghost use Rattle.tree_host.specs.Holds.{is_held};
 ghost use Rattle.tree_host.specs.Host.{as_errno, Answers};
 ghost use Rattle.tree_model.specs.Reading.{shown_entry, entry_after_among};
-ghost use Rattle.tree_host.specs.Walking.{part_step, part_end};
+ghost use Rattle.tree_host.specs.Walking.{part_step, part_end, walk_parts};
+ghost use Rattle.tree_model.specs.Opening.{asked, unless, open_refused, found_at};
+ghost use Rattle.tree_model.specs.Attributes.{kind_of};
 ghost use Rattle.tree_host.specs.Kept.{tree_from};
 ghost use Rattle.tree_model.specs.declared.attributes.Limits.{Limits};
 ghost use Rattle.tree_model.specs.declared.attributes.Stamp.{Stamp};
@@ -16,7 +19,7 @@ ghost use Rattle.tree_model.specs.declared.attributes.Stamp.{Stamp};
 use crate::entry::Entry;
 use crate::holds::is_held;
 use crate::node::{Name, Node, TOP};
-use port_base::errno::ENOTDIR;
+use port_base::errno::{ENOENT, ENOTDIR};
 use port_base::table::Table;
 use std::alloc::{AllocError, Global};
 use tree_model::HostError;
@@ -69,6 +72,28 @@ fn walk_part(nodes: &Table<Node>, at: Result<u64, HostError>, part: &[u8]) -> Re
     find_in(nodes, ino, part)
 }
 
+// Where a path from the top leads, whatever stands there.
+fn reach(nodes: &Table<Node>, path: &[u8]) -> Result<u64, HostError>
+    ensures { result ≡ as_errno (walk_parts nodes.now (Ok top) (slice_split (λ b. b == 47) path.now)) }
+{
+    let mut at = Ok(TOP);
+    for part in path.split(|b| *b == b'/') {
+        at = walk_part(nodes, at, part);
+    }
+    at
+}
+
+/// The inode at the end of a path from the top, if there is one.
+pub fn find(nodes: &Table<Node>, path: &[u8]) -> Option<u64>
+    ensures { (next : ℕ) (limits : Limits) (moment : Stamp) →
+        result ≡ found_at (tree_from nodes.now next limits moment) (path_names path.now) }
+{
+    match reach(nodes, path) {
+        Ok(ino) => Some(ino),
+        Err(_) => None,
+    }
+}
+
 fn end_of_walk(nodes: &Table<Node>, at: Result<u64, HostError>) -> Result<u64, HostError>
     ensures { (told : Result ℕ ℕ) → at ≡ as_errno told → result ≡ as_errno (part_end nodes.now told) }
 {
@@ -86,11 +111,20 @@ pub fn walk(nodes: &Table<Node>, path: &[u8]) -> Result<u64, HostError>
         result ≡ as_errno (root_of (tree_from nodes.now next limits moment) (path_names path.now)) }
     ensures errno { IfErr result (λ e. (n : ℕ) × (e ≡ HostError.Errno n)) }
 {
-    let mut at = Ok(TOP);
-    for part in path.split(|b| *b == b'/') {
-        at = walk_part(nodes, at, part);
+    end_of_walk(nodes, reach(nodes, path))
+}
+
+/// Whether an inode may be opened.
+pub fn open_check(nodes: &Table<Node>, ino: u64, flags: u32) -> Result<(), HostError>
+    ensures { result ≡ as_errno (asked (λ b. unless (open_refused flags (kind_of b))) (body_at nodes.now ino)) }
+{
+    let Some(node) = nodes.get(ino) else {
+        return Err(HostError::Errno(ENOENT));
+    };
+    match node.open_refusal(flags) {
+        Some(errno) => Err(HostError::Errno(errno)),
+        None => Ok(()),
     }
-    end_of_walk(nodes, at)
 }
 
 /// The first refusal of a new name in a directory.

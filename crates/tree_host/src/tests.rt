@@ -84,11 +84,20 @@ fn files_are_added_and_read(rt: HostRuntime) -> Result<(), Fail> {
     assert_eq!(rt; host.peek_entry(1, 0), Some((1, 2, b"hello".as_slice())));
     assert_eq!(rt; host.peek_entry(1, 1), Some((2, 3, b"b".as_slice())));
     assert_eq!(rt; host.peek_entry(1, 2), None);
+    assert_eq!(rt; host.find(b"//hello"), Some(2));
+    assert_eq!(rt; host.find(b"/"), Some(1));
+    assert_eq!(rt; host.find(b"/hello/b"), None);
+    assert_eq!(rt; host.find(b"/Hello"), None);
     Ok(())
 }
 
-// Looks a name up, holds what it names twice, asks what it is, and lets go of it.
-fn told<H: Host>(host: &mut H, dir: u64, name: &[u8]) -> Result<Attr, HostError>
+// Looks a name up, holds what it names twice, asks what it is, reads its second half, and lets go of it.
+fn told<H: Host>(
+    host: &mut H,
+    dir: u64,
+    name: &[u8],
+    buf: &mut [u8],
+) -> Result<(Attr, usize), HostError>
     requires held { 0 < hold_count (H.holds host.old) dir }
     requires named { name_fault name.now ≡ None }
     requires room { (i : ℕ) → hold_count (H.holds host.old) i < 2 ^ 64 - 2 }
@@ -96,9 +105,11 @@ fn told<H: Host>(host: &mut H, dir: u64, name: &[u8]) -> Result<Attr, HostError>
     let ino = host.lookup(dir, name)?;
     host.hold_again(ino)?;
     let attr = host.stat(ino)?;
+    host.open_check(ino, 0)?;
+    let count = host.read_at(ino, 2, buf)?;
     host.release(ino);
     host.release(ino);
-    Ok(attr)
+    Ok((attr, count))
 }
 
 #[test]
@@ -121,7 +132,9 @@ fn files_are_held_and_released(rt: HostRuntime) -> Result<(), Fail> {
     assert_eq!(rt; entry.attr(), shown(2, 5));
     let name = b"hello".as_slice();
     assert!(rt; name_fault(name).is_none());
-    assert_eq!(rt; told(&mut host, root, name), Ok(shown(2, 5)));
+    let mut buf = [0; 8];
+    assert_eq!(rt; told(&mut host, root, name, &mut buf), Ok((shown(2, 5), 3)));
+    assert_eq!(rt; buf.as_slice(), b"rld\0\0\0\0\0".as_slice());
     assert_eq!(rt; host.record_after(1), Some(shown(2, 5)));
     Ok(())
 }

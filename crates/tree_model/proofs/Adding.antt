@@ -1,8 +1,7 @@
 -- A good tree with a record more, and an entry for it, is good.
 use Rattle.std.proofs.Common.{◌≡◌, ◌≢◌, ℕ, zero, suc, ◌+◌, ◌<◌, ◌≤◌, Bool, true, false, cond, ◌||◌, List, [], ◌∷◌, ◌++◌, length, refl, sym, ap, ◌∙◌, subst, Option, Some, None, inl, inr, ⊎_elim, arith, IsSome, IsTrue, nat_lt, get_or}
 use Rattle.std.specs.Prelude.{◌==◌, option_map, IfSome, Contains}
-use Rattle.std.proofs.Math.Logic.{∥∥₁_map, ∥∥₁_elim}
-use Rattle.std.proofs.Props.{props}
+use Rattle.std.proofs.Math.Logic.{∥∥₁_map}
 use Rattle.std.proofs.lemmas.Bool.{cases_eq, false≢true}
 use Rattle.std.proofs.lemmas.Bool.Decides.{nat_tests}
 use Rattle.std.proofs.lemmas.List.Elements.{Contains-append_cases}
@@ -15,14 +14,14 @@ use Rattle.tree_model.specs.Making.{with_entries, next_cookie, joined_by}
 use Rattle.tree_model.proofs.Maps.{inserted, insert_keeps}
 use Rattle.tree_model.proofs.Counting.{weigh-insert}
 use Rattle.tree_model.proofs.Naming.{named_is_stored}
-use Rattle.tree_model.proofs.Keeping.{climb_goes_on}
+use Rattle.tree_model.proofs.Keeping.{above_stored}
 use Rattle.tree_model.proofs.Bodies.{shows_links, with_entries-is_directory, with_entries-listed, with_entries-above, same_some}
 
 or_true : (b : Bool) → (b || true) ≡ true
 or_true true = refl
 or_true false = refl
 
-count_names-push : (q : ℕ) (es : List Entry) (e : Entry) → count_names q (es ++ e ∷ []) ≡ count_names q es + cond {A = ℕ} (e.ino == q) 1 0
+pub count_names-push : (q : ℕ) (es : List Entry) (e : Entry) → count_names q (es ++ e ∷ []) ≡ count_names q es + cond {A = ℕ} (e.ino == q) 1 0
 count_names-push q [] e = omega arith
 count_names-push q (f ∷ es) e = let more = count_names-push q es e in omega arith
 
@@ -160,27 +159,6 @@ module _ (t : Tree) (g : IsGoodTree t) (dir : ℕ) (name : List ℕ) (d d' f : R
       (cases_eq i dir))
       c
 
-  -- what is above a linked directory is stored
-  above_stored : (q : ℕ) (x : Record) (es : List Entry) (n up : ℕ) → IsAt rs q x → x.body ≡ Directory es n up → is_linked rs q ≡ true → q ≢ top → IsSome (get rs up)
-  above_stored q x es n up at is live ne = ∥∥₁_elim (g.climbs q x at (ap is_directory is) live) (hlevel props) (λ c. by_climb c.0 c.1) where
-    top_stored : IsSome (get rs top)
-    top_stored = by_top (get rs top) refl where
-      by_top : (o : Option Record) → get rs top ≡ o → IsSome (get rs top)
-      by_top None at = absurd (false≢true (subst (λ o. is_directory_at (option_map (λ (r : Record). r.body) o) ≡ true) at g.top_is_directory))
-      by_top (Some r) at = subst IsSome (sym at) refl
-
-    higher : (s : (r : Record) × (gs : List Entry) × (m : ℕ) × (j : ℕ) × IsAt rs q r × (r.body ≡ Directory gs m j)) → s.3 ≡ up
-    higher s = let same : s.0 ≡ x = same_some s.0 x (sym s.4 ∙ at) in let bodies : Directory s.1 s.2 s.3 ≡ Directory es n up = sym s.5 ∙ ap (λ (r : Record). r.body) same ∙ is in cc
-
-    by_climb : (k : ℕ) → Climbs rs k q → IsSome (get rs up)
-    by_climb zero c = absurd (ne c)
-    by_climb (suc k) c = ⊎_elim
-        (λ is. absurd (ne is))
-        (λ s.
-        let same = higher (s.0, s.1, s.2, s.3, s.4, s.5) in
-        subst (λ j. IsSome (get rs j)) same (⊎_elim (λ is. subst (λ j. IsSome (get rs j)) (sym is) top_stored) (λ had. had) (climb_goes_on rs k s.3 s.6)))
-        c
-
   names_more : (q : ℕ) → names_in q d ≤ names_in q d'
   names_more q =
       let longer : names_in q d' ≡ count_names q (listed d.body ++ entry ∷ []) = ap (count_names q) lists_more in
@@ -243,10 +221,10 @@ module _ (t : Tree) (g : IsGoodTree t) (dir : ℕ) (name : List ℕ) (d d' f : R
           (λ es n up is live ne.
           let old = same_above es n up is in
           let was = sym (same_linked dir apart) ∙ live in
-          still_above dir up (above_stored dir d old.0 old.1 up w.at old.2 was ne) (g.above dir d old.0 old.1 up w.at old.2 was ne))
+          still_above dir up (above_stored t g dir d old.0 old.1 up w.at old.2 was ne) (g.above dir d old.0 old.1 up w.at old.2 was ne))
           (λ q x nn nd at es n up is live ne.
           let was = sym (same_linked q nn) ∙ live in
-          still_above q up (above_stored q x es n up at is was ne) (g.above q x es n up at is was ne))
+          still_above q up (above_stored t g q x es n up at is was ne) (g.above q x es n up at is was ne))
           q x at es n up is live ne;
       climbs = by_place (λ q x. IsTrue (is_directory x.body) → IsTrue (is_linked made q) → ∥ ((n : ℕ) × Climbs made n q) ∥₁)
           (λ is live. ∥∥₁_map (g.climbs dir d w.at w.directory w.live) (λ c. new_climb f.body refl is c.0 c.1))

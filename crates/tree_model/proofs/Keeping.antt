@@ -1,11 +1,14 @@
 -- A good tree stays good where records go that are not linked.
-use Rattle.std.proofs.Common.{◌≡◌, ℕ, zero, suc, ◌<◌, ◌≤◌, Bool, true, false, cond, ◌||◌, refl, sym, ap, ◌∙◌, subst, Option, Some, None, ◌⊎◌, inl, inr, ⊎_elim, arith, IsSome, nat_lt}
+use Rattle.std.proofs.Common.{◌≡◌, ◌≢◌, ℕ, zero, suc, ◌<◌, ◌≤◌, Bool, true, false, cond, ◌||◌, List, refl, sym, ap, ◌∙◌, subst, Option, Some, None, ◌⊎◌, inl, inr, ⊎_elim, arith, IsSome, nat_lt}
 use Rattle.std.specs.Prelude.{◌==◌, option_map, IfSome}
-use Rattle.std.proofs.Math.Logic.{∥∥₁_map}
+use Rattle.std.proofs.Math.Logic.{∥∥₁_map, ∥∥₁_elim}
 use Rattle.std.proofs.lemmas.Bool.{cases_eq, false≢true}
 use Rattle.std.proofs.lemmas.Bool.Decides.{nat_tests}
 use Rattle.std.specs.FinMap.{get, retain_keys}
-use Rattle.tree_model.specs.Tree.{Tree, Record, Records, top, is_directory_at, name_count, names_in, is_linked, count_names, weight, keep, linked}
+use Rattle.std.proofs.Props.{props}
+use Rattle.tree_model.specs.Tree.Body.{Directory}
+use Rattle.tree_model.proofs.Bodies.{same_some}
+use Rattle.tree_model.specs.Tree.{Tree, Record, Records, Entry, top, is_directory, is_directory_at, name_count, names_in, is_linked, count_names, weight, keep, linked}
 use Rattle.tree_model.specs.Good.{IsAt, IsGoodTree, Climbs, links_of}
 use Rattle.tree_model.specs.Sound.{IsKept, AreStored}
 use Rattle.tree_model.proofs.Maps.{retained}
@@ -35,6 +38,27 @@ module _ (t : Tree) (g : IsGoodTree t) where
     by_record : (o : Option Record) → get t.records up ≡ o → IfSome o (λ d. 1 ≤ names_in i d) → IsSome o → is_linked t.records up ≡ true
     by_record None at many had = absurd (false≢true had)
     by_record (Some d) at many had = by_link d at many (is_linked t.records up) refl
+
+  -- what is above a linked directory is stored
+  pub above_stored : (q : ℕ) (x : Record) (es : List Entry) (n up : ℕ) → IsAt t.records q x → x.body ≡ Directory es n up → is_linked t.records q ≡ true → q ≢ top → IsSome (get t.records up)
+  above_stored q x es n up at is live ne = ∥∥₁_elim (g.climbs q x at (ap is_directory is) live) (hlevel props) (λ c. by_climb c.0 c.1) where
+    top_stored : IsSome (get t.records top)
+    top_stored = by_top (get t.records top) refl where
+      by_top : (o : Option Record) → get t.records top ≡ o → IsSome (get t.records top)
+      by_top None at = absurd (false≢true (subst (λ o. is_directory_at (option_map (λ (r : Record). r.body) o) ≡ true) at g.top_is_directory))
+      by_top (Some r) at = subst IsSome (sym at) refl
+
+    higher : (s : (r : Record) × (gs : List Entry) × (m : ℕ) × (j : ℕ) × IsAt t.records q r × (r.body ≡ Directory gs m j)) → s.3 ≡ up
+    higher s = let same : s.0 ≡ x = same_some s.0 x (sym s.4 ∙ at) in let bodies : Directory s.1 s.2 s.3 ≡ Directory es n up = sym s.5 ∙ ap (λ (r : Record). r.body) same ∙ is in cc
+
+    by_climb : (k : ℕ) → Climbs t.records k q → IsSome (get t.records up)
+    by_climb zero c = absurd (ne c)
+    by_climb (suc k) c = ⊎_elim
+        (λ is. absurd (ne is))
+        (λ s.
+        let same = higher (s.0, s.1, s.2, s.3, s.4, s.5) in
+        subst (λ j. IsSome (get t.records j)) same (⊎_elim (λ is. subst (λ j. IsSome (get t.records j)) (sym is) top_stored) (λ had. had) (climb_goes_on t.records k s.3 s.6)))
+        c
 
 module _ (t : Tree) (g : IsGoodTree t) (p : ℕ → Bool) (all : (i : ℕ) → is_linked t.records i ≡ true → p i ≡ true) where
   abbrev rs : Records

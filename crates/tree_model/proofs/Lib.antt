@@ -6,5 +6,8 @@ pub mod Keeping
 pub mod Bodies
 pub mod Adding
 pub mod Files
+pub mod Placing
+pub mod Linking
+pub mod Joining
 pub mod Reading
-mod Examples
+pub mod Sampling

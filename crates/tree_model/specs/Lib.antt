@@ -7,3 +7,6 @@ pub mod Making
 pub mod Sound
 pub mod GoodLaws
 pub mod Reading
+pub mod Opening
+pub mod Samples
+pub mod Placing

@@ -3,9 +3,10 @@ ghost use Rattle.std.specs.Prelude.{◌≡◌, ℕ, ◌+◌, ◌<◌, List, Bool
 ghost use Rattle.std.specs.FinMap as map;
 ghost use Rattle.port_base.specs.Names.{name_fault};
 ghost use Rattle.tree_model.specs.Tree.{Tree, Records, Record, name_count, names_in, weight, linked, keep};
-ghost use Rattle.tree_model.specs.Good.{IsGoodTree, IsGoodLimits, IsGoodStamp};
+ghost use Rattle.tree_model.specs.Good.{IsGoodTree, IsGoodLimits, IsGoodStamp, IsGoodTarget};
 ghost use Rattle.tree_model.specs.Sound.{IsCounted, AreStored};
 ghost use Rattle.tree_model.specs.Making.{new_tree, NewFile, add_file_of};
+ghost use Rattle.tree_model.specs.Placing.{add_directory_of, add_link_of, add_hard_of};
 ghost use Rattle.tree_model.specs.Attributes.{stat_of};
 ghost use Rattle.tree_model.specs.Reading.{record_after_of};
 ghost use Rattle.tree_model.specs.declared.attributes.Attr.{Attr};
@@ -46,6 +47,26 @@ pub fn trees_with_a_file_are_good()
     ensures { (t : Tree) (born : Stamp) (dir : ℕ) (name : List ℕ) (f : NewFile) (ino : ℕ) (u : Tree) →
         IsGoodTree t → IsGoodStamp born → name_fault name ≡ None → f.mode < 4096 →
         add_file_of born t dir name f ≡ Ok (ino, u) → IsGoodTree u }
+{}
+
+/// A good tree stays good where a directory is added.
+pub fn trees_with_a_directory_are_good()
+    ensures { (t : Tree) (born : Stamp) (dir : ℕ) (name : List ℕ) (mode uid gid ino : ℕ) (u : Tree) →
+        IsGoodTree t → IsGoodStamp born → name_fault name ≡ None → mode < 4096 →
+        add_directory_of born t dir name mode uid gid ≡ Ok (ino, u) → IsGoodTree u }
+{}
+
+/// A good tree stays good where a symbolic link is added.
+pub fn trees_with_a_link_are_good()
+    ensures { (t : Tree) (born : Stamp) (dir : ℕ) (name target : List ℕ) (uid gid ino : ℕ) (u : Tree) →
+        IsGoodTree t → IsGoodStamp born → name_fault name ≡ None → IsGoodTarget target →
+        add_link_of born t dir name uid gid target ≡ Ok (ino, u) → IsGoodTree u }
+{}
+
+/// A good tree stays good where a file or a link gets one more name.
+pub fn trees_with_one_more_name_are_good()
+    ensures { (t : Tree) (dir ino : ℕ) (name : List ℕ) (n : ℕ) (u : Tree) →
+        IsGoodTree t → name_fault name ≡ None → add_hard_of t dir name ino ≡ Ok (n, u) → IsGoodTree u }
 {}
 
 /// The record that is told next is stored under its number, which is above the one asked for.

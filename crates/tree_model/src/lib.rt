@@ -2,6 +2,7 @@
 #![tactic(auto)]
 
 mod attributes;
+pub mod examples;
 pub mod laws;
 
 pub use attributes::{Attr, HostError, Kind, Limits, Stamp};

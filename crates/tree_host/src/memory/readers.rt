@@ -6,6 +6,7 @@ ghost use Rattle.tree_host.specs.Kept.{entry_from};
 
 use super::TreeHost;
 use crate::node::Node;
+use crate::nodes::find;
 use tree_model::Attr;
 
 fn peek(node: &Node, cookie: u64) -> Option<(u64, u64, &[u8])>
@@ -21,6 +22,8 @@ impl TreeHost {
     ghost use Rattle.std.specs.Prelude.{◌≡◌, ◌++◌, length, drop, option_map, IsTrue};
     ghost use Rattle.tree_model.specs.Tree.{body_at, is_directory_at};
     ghost use Rattle.tree_model.specs.Reading.{record_after_of, above_of, next_cookie_of, peek_entry_of, is_file_at, bytes_at, part};
+    ghost use Rattle.tree_model.specs.Finding.{path_names};
+    ghost use Rattle.tree_model.specs.Opening.{is_link_at, target_at, found_at};
     ghost use Rattle.tree_host.specs.TreeHosts.{tree};
 
     /// What is told of the record with the least number above `ino`.
@@ -83,5 +86,24 @@ impl TreeHost {
             Some(node) => node.read(offset, buf),
             None => 0,
         }
+    }
+
+    /// The target of a link.
+    pub fn peek_target(&self, ino: u64) -> &[u8]
+        requires { IsTrue (is_link_at (body_at (tree self.now).records ino)) }
+        ensures { result.now ≡ target_at (tree self.now) ino }
+    {
+        match self.nodes.get(ino) {
+            Some(node) => node.target(),
+            None => &[],
+        }
+    }
+
+    /// The inode at the end of a path from the top by exact names, whatever its kind; empty parts between
+    /// slashes lead nowhere else.
+    pub fn find(&self, path: &[u8]) -> Option<u64>
+        ensures { result ≡ found_at (tree self.now) (path_names path.now) }
+    {
+        find(&self.nodes, path)
     }
 }

@@ -1,5 +1,5 @@
 -- Nothing is held at first, then the root once.
-use Rattle.std.proofs.Common.{◌≡◌, ℕ, ◌+◌, ◌<◌, ◌≤◌, ◌-◌, ◌^◌, sym, ap, ◌∙◌, subst, arith}
+use Rattle.std.proofs.Common.{◌≡◌, ℕ, ◌<◌, ◌-◌, ◌^◌, ap, ◌∙◌, arith}
 use Rattle.tree_host.specs.Holds.{Holds, hold_count, held_more}
 use Rattle.std.specs.FinMap.{empty}
 use Rattle.tree_host.proofs.Held.{hold_count-more, hold_count-more_le, hold_count-empty}

@@ -1,0 +1,131 @@
+-- A tree with one file, `hello`: what is told of it follows by computation from what its map has.
+use Rattle.std.proofs.Common.{◌≡◌, ◌≢◌, ℕ, Bool, true, false, cond, List, [], ◌∷◌, refl, sym, ap, ◌∙◌, Option, Some, None, Result, Ok, Err, ⊎_elim, arith}
+use Rattle.std.specs.Prelude.{codes, option_map, option_and_then}
+use Rattle.std.proofs.lemmas.Bool.{cases_eq}
+use Rattle.std.specs.Ordering.{nat_cmp}
+use Rattle.std.specs.FinMap.{get, insert, empty, get-empty, retain_keys}
+use Rattle.port_base.specs.declared.errno.TheConstants.{ENOENT, ENOTDIR, EISDIR}
+use Rattle.tree_model.specs.declared.attributes.Kind.TheVariants as kind
+use Rattle.tree_model.specs.Tree.{Tree, Record, Records, Body, body_at, linked, is_linked}
+use Rattle.tree_model.specs.Tree.Body.{File}
+use Rattle.tree_model.specs.Finding.{lookup_of, path_names, ino_among, entries_of, find}
+use Rattle.tree_model.specs.Attributes.{stat_of, attr_or_missing, kind_of}
+use Rattle.tree_model.specs.Making.{top_record, file_record, joined_by, changed, new_name_refused, add_refused, add_file_of, add_file_unless}
+use Rattle.tree_model.specs.Samples.{born, limits, alone, hello, world, sample}
+use Rattle.tree_model.specs.Opening.{asked, unless, open_refused, open_check_of, read_body, read_of, if_told, walk_to, found_at}
+use Rattle.tree_model.specs.Reading.{peek_entry_of, entry_above, part}
+use Rattle.tree_model.proofs.Maps.{inserted, insert_keeps, retained, same_gets}
+use Rattle.tree_model.proofs.Naming.{entry_is_counted}
+use Rattle.tree_model.proofs.Keeping.{named_is_linked}
+
+-- ---- the map
+
+first_at : get alone.records 1 ≡ Some (top_record born 493 1 2)
+first_at = inserted empty 1 (top_record born 493 1 2)
+
+abbrev directory : Record
+directory = joined_by hello 2 (top_record born 493 1 2)
+
+abbrev records : Records
+records = insert (insert alone.records 2 (file_record born world)) 1 directory
+
+records_are : sample.records ≡ records
+records_are = ap (λ o. changed (joined_by hello 2) o (insert alone.records 2 (file_record born world)) 1) (insert_keeps alone.records 2 (file_record born world) 1 (omega arith) ∙ first_at)
+
+top_at : get sample.records 1 ≡ Some directory
+top_at = ap (λ rs. get rs 1) records_are ∙ inserted (insert alone.records 2 (file_record born world)) 1 directory
+
+file_at : get sample.records 2 ≡ Some (file_record born world)
+file_at = ap (λ rs. get rs 2) records_are ∙ insert_keeps (insert alone.records 2 (file_record born world)) 1 directory 2 (omega arith) ∙ inserted alone.records 2 (file_record born world)
+
+nothing_else : (q : ℕ) → q ≢ 1 → q ≢ 2 → get sample.records q ≡ None
+nothing_else q n1 n2 =
+    ap (λ rs. get rs q) records_are ∙ insert_keeps (insert alone.records 2 (file_record born world)) 1 directory q n1
+    ∙ insert_keeps alone.records 2 (file_record born world) q n2 ∙ insert_keeps empty 1 (top_record born 493 1 2) q n1 ∙ get-empty nat_cmp q
+
+-- ---- what is told
+
+abbrev looked_up : Bool → List ℕ → Option Record → Result ℕ ℕ
+looked_up casefold name o = ino_among casefold name (option_and_then entries_of (option_map (λ (r : Record). r.body) o))
+
+found : lookup_of sample 1 hello ≡ Ok 2
+found = ap (looked_up false hello) top_at
+
+not_found : lookup_of sample 1 (codes "Hello") ≡ Err ENOENT
+not_found = ap (looked_up false (codes "Hello")) top_at
+
+folded : find true sample 1 (codes "HELLO") ≡ Ok 2
+folded = ap (looked_up true (codes "HELLO")) top_at
+
+in_file : lookup_of sample 2 hello ≡ Err ENOTDIR
+in_file = ap (looked_up false hello) file_at
+
+names_of_path : path_names (codes "//a/b/") ≡ codes "a" ∷ codes "b" ∷ []
+names_of_path = refl
+
+told : stat_of sample 2 ≡ Ok (record { ino = 2; kind = kind.File; mode = 420; uid = 5; gid = 6; links = 1; size = 5; atime = born; mtime = born; ctime = born })
+told = ap (attr_or_missing 2) file_at
+
+listed_first : peek_entry_of sample 1 0 ≡ Some (record { cookie = 1; name = hello; ino = 2 })
+listed_first = ap (λ o. option_and_then (entry_above 0) (option_and_then entries_of (option_map (λ (r : Record). r.body) o))) top_at
+
+listed_last : peek_entry_of sample 1 1 ≡ None
+listed_last = ap (λ o. option_and_then (entry_above 1) (option_and_then entries_of (option_map (λ (r : Record). r.body) o))) top_at
+
+a_part : part (codes "world") 1 3 ≡ codes "orl"
+a_part = refl
+
+-- ---- what is added
+
+added : add_file_of born alone 1 hello world ≡ Ok (2, sample)
+added = ap (λ o. add_file_unless (add_refused (new_name_refused true limits.entries 2 hello (option_map (λ (r : Record). r.body) o)) limits.file world) born alone 1 hello world) first_at
+
+-- ---- what is linked
+
+file_is_linked : is_linked sample.records 2 ≡ true
+file_is_linked = named_is_linked sample.records 2 (entry_is_counted sample.records 1 directory (record { cookie = 1; name = hello; ino = 2 }) top_at (0, omega arith, refl))
+
+all_linked : linked sample ≡ sample
+all_linked = ap (λ (rs : Records). let left : Tree = record sample { records = rs } in left) (same_gets (retain_keys sample.records (is_linked sample.records)) sample.records (λ q.
+    retained sample.records (is_linked sample.records) q ∙ ⊎_elim
+    (λ one. ap (λ q. cond (is_linked sample.records q) (get sample.records q) None) one ∙ sym (ap (get sample.records) one))
+    (λ n1. ⊎_elim
+    (λ two. ap (λ q. cond (is_linked sample.records q) (get sample.records q) None) two ∙ ap (λ b. cond b (get sample.records 2) None) file_is_linked ∙ sym (ap (get sample.records) two))
+    (λ n2. ap (cond (is_linked sample.records q) (get sample.records q)) (sym (nothing_else q n1 n2)) ∙ same (is_linked sample.records q) (get sample.records q))
+    (cases_eq q 2))
+    (cases_eq q 1))) where
+      same : (b : Bool) (o : Option Record) → cond b o o ≡ o
+      same true o = refl
+      same false o = refl
+
+-- ---- opening, reading and finding
+
+body_of_top : body_at sample.records 1 ≡ Some directory.body
+body_of_top = ap (option_map (λ (r : Record). r.body)) top_at
+
+body_of_file : body_at sample.records 2 ≡ Some (File (codes "world"))
+body_of_file = ap (option_map (λ (r : Record). r.body)) file_at
+
+abbrev opened : ℕ → Option Body → Result (Unit {0}) ℕ
+opened flags = asked (λ b. unless (open_refused flags (kind_of b)))
+
+pub open_file : (flags : ℕ) → open_check_of sample 2 flags ≡ unless (open_refused flags kind.File)
+open_file flags = ap (opened flags) body_of_file
+
+pub open_top : (flags : ℕ) → open_check_of sample 1 flags ≡ unless (open_refused flags kind.Directory)
+open_top flags = ap (opened flags) body_of_top
+
+pub read_file : (offset size : ℕ) → read_of sample 2 offset size ≡ Ok (part (codes "world") offset size)
+read_file offset size = ap (asked (read_body offset size)) body_of_file
+
+pub read_top : (offset size : ℕ) → read_of sample 1 offset size ≡ Err EISDIR
+read_top offset size = ap (asked (read_body offset size)) body_of_top
+
+pub found_file : found_at sample (hello ∷ []) ≡ Some 2
+found_file = ap if_told found
+
+pub found_none : found_at sample (codes "Hello" ∷ []) ≡ None
+found_none = ap if_told not_found
+
+pub found_below : found_at sample (hello ∷ hello ∷ []) ≡ None
+found_below = ap (λ r. if_told (walk_to sample r (hello ∷ []))) found ∙ ap if_told in_file
