@@ -7,12 +7,13 @@ ghost use Rattle.p9_wire.specs.Values.{QidSpells};
 ghost use Rattle.p9_wire.specs.Qids.{qid_of};
 ghost use Rattle.p9_wire.specs.Frames.{result_view};
 ghost use Rattle.p9_rmsg.specs.Replies.{reply_of};
-ghost use Rattle.p9_rmsg.specs.Replies.Reply.{attach, clunk, getattr, lerror, walk};
+ghost use Rattle.p9_rmsg.specs.Replies.Reply.{attach, clunk, getattr, lerror, lopen, read, walk};
 ghost use Rattle.p9_rmsg.specs.Frames.{reply_frame};
 ghost use Rattle.p9_server.specs.Answering.{reply_told, refusal_told, IsShort, IsSent};
 
 use crate::qids::qid_of;
-use p9_rmsg::{Rattach, Rgetattr, Rlerror, Rmessage, Rwalk};
+use p9_rmsg::{Rattach, Rgetattr, Rlerror, Rlopen, Rmessage, Rread, Rwalk};
+use p9_wire::data::Data;
 use p9_wire::error::WireError;
 use p9_wire::qid::Qid;
 use port_base::errno::EIO;
@@ -148,6 +149,40 @@ pub fn clunk_reply(step: Result<(), HostError>) -> Result<Rmessage, WireError>
 {
     match step {
         Ok(()) => Ok(Rmessage::Clunk),
+        Err(e) => refusal(e),
+    }
+}
+
+// The qid of a fid that was opened; a client may read as much at once as it likes.
+fn open_told(qid: Qid) -> Rmessage
+    ensures reply { reply_of result ≡ lopen (qid_of qid) 0 }
+    ensures short { IsShort (reply_of result) }
+{
+    Rmessage::Lopen(Rlopen { qid, iounit: 0 })
+}
+
+/// The reply to Tlopen.
+pub fn open_reply(step: Result<Qid, HostError>) -> Result<Rmessage, WireError>
+    ensures reply { result_view reply_of result ≡ reply_told (λ q. lopen (qid_of q) 0) step }
+    ensures short { IfOk result (λ m. IsShort (reply_of m)) }
+{
+    match step {
+        Ok(qid) => Ok(open_told(qid)),
+        Err(e) => refusal(e),
+    }
+}
+
+/// The reply to Tread, in a frame of at most `msize` bytes.
+pub fn read_reply(step: Result<Vec<u8>, HostError>, msize: u32) -> Result<Rmessage, WireError>
+    requires roomy { 256 ≤ msize }
+    requires fits { IfOk step (λ bytes. length bytes.items + 11 ≤ msize) }
+    ensures reply { result_view reply_of result ≡ reply_told (λ bytes. read bytes.items) step }
+    ensures fits { IfOk result (λ m. Fits msize (reply_of m)) }
+{
+    match step {
+        Ok(bytes) => Ok(Rmessage::Read(Rread {
+            payload: Data(bytes),
+        })),
         Err(e) => refusal(e),
     }
 }
