@@ -1,7 +1,8 @@
 -- What the machine replies can be read: no reply has data yet that could be too long.
 use Rattle.std.proofs.Common.{◌≡◌, ⊎_elim, ℕ, Bool, true, false, cond, List, [], ◌∷◌, Result, Ok, Err, Some, None, Option, sym, ap, subst, length}
+use Rattle.std.specs.Prelude.{◌==◌, nat_lt, nat_le, not, ◌&&◌}
 use Rattle.std.specs.FinMap as map
-use Rattle.port_base.specs.declared.errno.TheConstants.{EIO}
+use Rattle.port_base.specs.declared.errno.TheConstants.{EIO, EBADF, EINVAL, ENFILE}
 use Rattle.tree_model.specs.Finding.{root_of}
 use Rattle.tree_model.specs.Attributes.{Qid, stat_of}
 use Rattle.tree_model.specs.Settings.{Settings}
@@ -11,7 +12,7 @@ use Rattle.p9_tmsg.specs.Messages.Message.{attach as t_attach, clunk as t_clunk,
 use Rattle.p9_rmsg.specs.Replies.{Reply, IsReadableReply}
 use Rattle.p9_rmsg.specs.Replies.Reply.{lerror as r_lerror, walk as r_walk}
 use Rattle.fid_model.specs.Fids.{ServerState, Fid}
-use Rattle.fid_model.specs.Answers.{answer, core, attached, walk_told, walk_from, walk_names, Walked, got, getattr_by, clunk_by}
+use Rattle.fid_model.specs.Answers.{WALK_LIMIT, answer, core, attached, walk_told, walk_from, walk_names, Walked, got, getattr_by, clunk_by}
 use Rattle.fid_model.specs.Handling.{Outcome, IsHurtReply, IsPartOfWalk}
 
 readable_either : (b : Bool) (x y : Reply × ServerState) → IsReadableReply x.0 → IsReadableReply y.0 → IsReadableReply (cond b x y).0
@@ -30,7 +31,10 @@ walk_told_readable s newfid (q ∷ qids, Err e) = tt
 walk_from_readable : (s : ServerState) (fid newfid : ℕ) (names : List (List ℕ)) (f : Option Fid) → IsReadableReply (walk_from s fid newfid names f).0
 walk_from_readable s fid newfid names None = tt
 walk_from_readable s fid newfid names (Some f) =
-    readable_either _ _ _ tt (readable_either _ _ _ tt (walk_told_readable s newfid (walk_names s.settings.casefold s.tree names f.ino)))
+    let found : Reply × ServerState = walk_told s newfid (walk_names s.settings.casefold s.tree names f.ino) in
+    let all = walk_told_readable s newfid (walk_names s.settings.casefold s.tree names f.ino) in
+    let few = readable_either (nat_lt WALK_LIMIT (length names)) (r_lerror EINVAL, s) found tt all in
+    readable_either (not (newfid == fid) && nat_le s.settings.limit (map.len s.fids)) (r_lerror ENFILE, s) (cond (nat_lt WALK_LIMIT (length names)) (r_lerror EINVAL, s) found) tt few
 
 got_readable : (settings : Settings) (a : Result Attr ℕ) → IsReadableReply (got settings a)
 got_readable settings (Ok a) = tt
@@ -46,8 +50,11 @@ clunk_readable s fid (Some f) = tt
 
 core_readable : (s : ServerState) (m : Message) → IsReadableReply (core s m).0
 core_readable s (t_attach fid afid uname aname n_uname) =
-    readable_either _ _ _ tt (readable_either _ _ _ tt (attached_readable s fid (root_of s.tree s.settings.root)))
-core_readable s (t_walk fid newfid wnames) = readable_either _ _ _ tt (walk_from_readable s fid newfid wnames (map.get s.fids fid))
+    let root : Reply × ServerState = attached s fid (root_of s.tree s.settings.root) in
+    let few = readable_either (nat_le s.settings.limit (map.len s.fids)) (r_lerror ENFILE, s) root tt (attached_readable s fid (root_of s.tree s.settings.root)) in
+    readable_either (map.contains_key s.fids fid) (r_lerror EBADF, s) (cond (nat_le s.settings.limit (map.len s.fids)) (r_lerror ENFILE, s) root) tt few
+core_readable s (t_walk fid newfid wnames) =
+    readable_either (not (newfid == fid) && map.contains_key s.fids newfid) (r_lerror EBADF, s) (walk_from s fid newfid wnames (map.get s.fids fid)) tt (walk_from_readable s fid newfid wnames (map.get s.fids fid))
 core_readable s (t_getattr fid request_mask) = getattr_readable s (map.get s.fids fid)
 core_readable s (t_clunk fid) = clunk_readable s fid (map.get s.fids fid)
 core_readable s _ = tt
@@ -67,4 +74,4 @@ hurt_readable _ r h = absurd h
 
 pub outcome_readable : (s : ServerState) (m : Message) (r : Reply) (s1 : ServerState) (f0 f1 : ℕ) → Outcome s m r s1 f0 f1 → IsReadableReply r
 outcome_readable s m r s1 f0 f1 o =
-    ⊎_elim (λ is. subst IsReadableReply (sym (ap (λ (x : Reply × ServerState). x.0) is)) (core_readable s m)) (λ h. hurt_readable m r h.1.0) o
+    ⊎_elim (λ is. subst IsReadableReply (sym (ap (λ (x : Reply × ServerState). x.0) is)) (core_readable s m)) (λ h. hurt_readable m r h.1) o
