@@ -4,6 +4,7 @@ ghost use Rattle.std.specs.FinMap as map;
 ghost use Rattle.p9_wire.specs.Qids.{qid_of};
 ghost use Rattle.p9_tmsg.specs.Messages.Message.{lopen, read};
 ghost use Rattle.p9_rmsg.specs.Replies.Reply.{lopen as opened, read as was_read};
+ghost use Rattle.tree_model.specs.Opening.{has_flag};
 ghost use Rattle.tree_host.specs.Holds.{hold_count};
 ghost use Rattle.tree_host.specs.Host.{Causes};
 ghost use Rattle.p9_server.specs.Steps.{server_state, Steps, readable_told};
@@ -46,7 +47,7 @@ impl<H: Host> Server<H> {
         ensures fixed { (self.new.msize ≡ self.old.msize) × (self.new.share ≡ self.old.share) }
         ensures asked { self.new.asked ≡ self.old.asked }
     {
-        if flags & TRUNC != 0 {
+        if empties(flags) {
             return Err(HostError::Errno(EOPNOTSUPP));
         }
         let ino = match self.ino_of(fid) {
@@ -88,6 +89,13 @@ impl<H: Host> Server<H> {
             Err(e) => Err(e),
         }
     }
+}
+
+// Whether a file is to be emptied.
+fn empties(flags: u32) -> bool
+    ensures { result ≡ has_flag TRUNC flags }
+{
+    flags & TRUNC != 0
 }
 
 // What is told of an inode that may be opened so.
