@@ -1,18 +1,21 @@
 -- The fid machine: what each message of 9P2000.L answers, and the state that it leaves.
-use Rattle.std.specs.Prelude.{◌≡◌, ℕ, ◌+◌, ◌<◌, ◌≤◌, Bool, true, false, ◌&&◌, not, List, [], ◌∷◌, length, Option, Some, None, Result, Ok, Err, if◌then◌else◌, ◌==◌, nat_lt, nat_le, is_some}
+use Rattle.std.specs.Prelude.{◌≡◌, ℕ, ◌+◌, ◌-◌, ◌<◌, ◌≤◌, min, Bool, true, false, ◌&&◌, not, List, [], ◌∷◌, length, Option, Some, None, Result, Ok, Err, if◌then◌else◌, ◌==◌, nat_lt, nat_le, is_some}
 use Rattle.std.specs.FinMap as map
 use Rattle.port_base.specs.Names.{name_fault}
 use Rattle.port_base.specs.declared.errno.TheConstants.{ENOENT, EBADF, EINVAL, ENFILE, EOPNOTSUPP}
+use Rattle.port_base.specs.declared.oflag.TheConstants.{TRUNC, APPEND}
 use Rattle.tree_model.specs.Tree.{Tree}
 use Rattle.tree_model.specs.Finding.{find, root_of}
 use Rattle.tree_model.specs.Attributes.{Qid, qid_of, stat_of, blocks_of}
+use Rattle.tree_model.specs.Opening.{access, has_flag, open_check_of, read_of}
 use Rattle.tree_model.specs.Settings.{Settings, shown_of}
 use Rattle.tree_model.specs.declared.attributes.Attr.{Attr}
 use Rattle.p9_tmsg.specs.Messages.{Message}
-use Rattle.p9_tmsg.specs.Messages.Message.{attach as t_attach, clunk as t_clunk, getattr as t_getattr, walk as t_walk}
+use Rattle.p9_tmsg.specs.Messages.Message.{attach as t_attach, clunk as t_clunk, getattr as t_getattr, lopen as t_lopen, read as t_read, walk as t_walk}
 use Rattle.p9_rmsg.specs.Replies.{Reply, Attributes}
-use Rattle.p9_rmsg.specs.Replies.Reply.{attach as r_attach, clunk as r_clunk, getattr as r_getattr, lerror as r_lerror, walk as r_walk}
-use Rattle.fid_model.specs.Fids.{Fid, Fids, ServerState, closed, settled}
+use Rattle.p9_rmsg.specs.Replies.Reply.{attach as r_attach, clunk as r_clunk, getattr as r_getattr, lerror as r_lerror, lopen as r_lopen, read as r_read, walk as r_walk}
+use Rattle.fid_model.specs.Fids.{Fid, Fids, OpenState, ServerState, closed, settled}
+use Rattle.fid_model.specs.Fids.OpenState.{Closed, Opened}
 
 -- the most names of a walk
 abbrev pub WALK_LIMIT : ℕ
@@ -111,6 +114,41 @@ abbrev pub getattr_by : ServerState → Option Fid → Reply
 getattr_by s None = r_lerror EBADF
 getattr_by s (Some f) = got s.settings (stat_of s.tree f.ino)
 
+-- ---- opening and reading
+
+-- the fid as it is open by these flags
+abbrev pub opened : Fid → ℕ → Fid
+opened f flags = record f { open_state = Opened (access flags) (has_flag APPEND flags) }
+
+abbrev pub lopen_told : ServerState → ℕ → ℕ → Fid → Result (Unit {0}) ℕ → Reply × ServerState
+lopen_told s fid flags f (Ok u) = (r_lopen (qid_at s.tree f.ino) 0, record s { fids = map.insert s.fids fid (opened f flags) })
+lopen_told s fid flags f (Err e) = (r_lerror e, s)
+
+abbrev pub lopen_by : ServerState → ℕ → ℕ → Option Fid → Reply × ServerState
+lopen_by s fid flags None = (r_lerror EBADF, s)
+lopen_by s fid flags (Some f) = lopen_told s fid flags f (open_check_of s.tree f.ino flags)
+
+-- the fid is open so, also if it was before; that a file is emptied isn't served yet
+abbrev pub lopen_core : ServerState → ℕ → ℕ → Reply × ServerState
+lopen_core s fid flags = if has_flag TRUNC flags then (r_lerror EOPNOTSUPP, s) else lopen_by s fid flags (map.get s.fids fid)
+
+-- the bytes of a reply around its data: size, type, tag and length
+abbrev pub READ_HEAD : ℕ
+READ_HEAD = 11
+
+abbrev pub piece_told : Result (List ℕ) ℕ → Reply
+piece_told (Ok bytes) = r_read bytes
+piece_told (Err e) = r_lerror e
+
+-- what is open for writing alone isn't read
+abbrev pub read_open : Tree → ℕ → ℕ → ℕ → OpenState → Reply
+read_open t ino offset count Closed = r_lerror EBADF
+read_open t ino offset count (Opened access append) = if access == 1 then r_lerror EBADF else piece_told (read_of t ino offset count)
+
+abbrev pub read_by : ServerState → ℕ → ℕ → Option Fid → Reply
+read_by s offset count None = r_lerror EBADF
+read_by s offset count (Some f) = read_open s.tree f.ino offset (min count (s.msize - READ_HEAD)) f.open_state
+
 -- ---- clunk
 
 abbrev pub clunk_by : ServerState → ℕ → Option Fid → Reply × ServerState
@@ -124,6 +162,8 @@ core s (t_attach fid afid uname aname n_uname) = attach_core s fid
 core s (t_walk fid newfid wnames) = walk_core s fid newfid wnames
 core s (t_getattr fid request_mask) = (getattr_by s (map.get s.fids fid), s)
 core s (t_clunk fid) = clunk_by s fid (map.get s.fids fid)
+core s (t_lopen fid flags) = lopen_core s fid flags
+core s (t_read fid offset count) = (read_by s offset count (map.get s.fids fid), s)
 core s _ = (r_lerror EOPNOTSUPP, s)
 
 -- the reply to a message, and the state after it

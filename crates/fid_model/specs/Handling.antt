@@ -9,7 +9,7 @@ use Rattle.p9_wire.specs.declared.error.WireError.{WireError}
 use Rattle.p9_wire.specs.declared.error.WireError.TheVariants.{InvalidInput, InvalidData, UnexpectedEof, Read, Write, NoMemory}
 use Rattle.p9_wire.specs.Reading.{Reads, Found, Refused}
 use Rattle.p9_tmsg.specs.Messages.{Message}
-use Rattle.p9_tmsg.specs.Messages.Message.{attach as t_attach, getattr as t_getattr, walk as t_walk}
+use Rattle.p9_tmsg.specs.Messages.Message.{attach as t_attach, getattr as t_getattr, lopen as t_lopen, read as t_read, walk as t_walk}
 use Rattle.p9_tmsg.specs.Frames.{frame_within}
 use Rattle.p9_rmsg.specs.Replies.{Reply, ReplySpells}
 use Rattle.p9_rmsg.specs.Frames.{reply_frame}
@@ -27,6 +27,8 @@ abbrev pub IsHurtReply : Message → Reply → Type 0
 IsHurtReply (t_attach fid afid uname aname n_uname) reply = reply ≡ r_lerror EIO
 IsHurtReply (t_walk fid newfid wnames) reply = (reply ≡ r_lerror EIO) ⊎ IsPartOfWalk (length wnames) reply
 IsHurtReply (t_getattr fid request_mask) reply = reply ≡ r_lerror EIO
+IsHurtReply (t_lopen fid flags) reply = reply ≡ r_lerror EIO
+IsHurtReply (t_read fid offset count) reply = reply ≡ r_lerror EIO
 IsHurtReply _ reply = ⊥
 
 -- the machine's answer and state; or, only where the count of faults rose, what a fault may answer, and the same state

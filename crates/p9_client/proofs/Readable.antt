@@ -1,18 +1,25 @@
 -- What the machine replies can be read: no reply has data yet that could be too long.
-use Rattle.std.proofs.Common.{◌≡◌, ⊎_elim, ℕ, Bool, true, false, cond, List, [], ◌∷◌, Result, Ok, Err, Some, None, Option, sym, ap, subst, length}
-use Rattle.std.specs.Prelude.{◌==◌, nat_lt, nat_le, not, ◌&&◌}
+use Rattle.std.proofs.Common.{◌≡◌, ⊎_elim, ℕ, ◌≤◌, ◌-◌, drop, arith, Bool, true, false, cond, List, [], ◌∷◌, Result, Ok, Err, Some, None, Option, sym, ap, subst, length}
+use Rattle.std.specs.Prelude.{◌==◌, min, nat_lt, nat_le, not, ◌&&◌}
 use Rattle.std.specs.FinMap as map
-use Rattle.port_base.specs.declared.errno.TheConstants.{EIO, EBADF, EINVAL, ENFILE}
+use Rattle.port_base.specs.declared.errno.TheConstants.{EIO, EBADF, EINVAL, ENFILE, EOPNOTSUPP}
+use Rattle.port_base.specs.declared.oflag.TheConstants.{TRUNC}
+use Rattle.std.proofs.lemmas.List.{length-take}
+use Rattle.tree_model.specs.Tree.{Tree, Body, body_at}
+use Rattle.tree_model.specs.Tree.Body.{File, Directory, Link}
+use Rattle.tree_model.specs.Opening.{asked, has_flag, open_check_of, read_body, read_of}
 use Rattle.tree_model.specs.Finding.{root_of}
 use Rattle.tree_model.specs.Attributes.{Qid, stat_of}
 use Rattle.tree_model.specs.Settings.{Settings}
 use Rattle.tree_model.specs.declared.attributes.Attr.{Attr}
 use Rattle.p9_tmsg.specs.Messages.{Message}
-use Rattle.p9_tmsg.specs.Messages.Message.{attach as t_attach, clunk as t_clunk, getattr as t_getattr, walk as t_walk}
+use Rattle.p9_tmsg.specs.Messages.Message.{attach as t_attach, clunk as t_clunk, getattr as t_getattr, lopen as t_lopen, read as t_read, walk as t_walk}
 use Rattle.p9_rmsg.specs.Replies.{Reply, IsReadableReply}
 use Rattle.p9_rmsg.specs.Replies.Reply.{lerror as r_lerror, walk as r_walk}
-use Rattle.fid_model.specs.Fids.{ServerState, Fid}
-use Rattle.fid_model.specs.Answers.{WALK_LIMIT, answer, core, attached, walk_told, walk_from, walk_names, Walked, got, getattr_by, clunk_by}
+use Rattle.fid_model.specs.Fids.{ServerState, Fid, OpenState}
+use Rattle.fid_model.specs.Fids.OpenState.{Closed, Opened}
+use Rattle.p9_client.specs.Asking.{IsBounded}
+use Rattle.fid_model.specs.Answers.{WALK_LIMIT, READ_HEAD, lopen_told, lopen_by, piece_told, read_open, read_by, answer, core, attached, walk_told, walk_from, walk_names, Walked, got, getattr_by, clunk_by}
 use Rattle.fid_model.specs.Handling.{Outcome, IsHurtReply, IsPartOfWalk}
 
 readable_either : (b : Bool) (x y : Reply × ServerState) → IsReadableReply x.0 → IsReadableReply y.0 → IsReadableReply (cond b x y).0
@@ -48,16 +55,46 @@ clunk_readable : (s : ServerState) (fid : ℕ) (f : Option Fid) → IsReadableRe
 clunk_readable s fid None = tt
 clunk_readable s fid (Some f) = tt
 
-core_readable : (s : ServerState) (m : Message) → IsReadableReply (core s m).0
-core_readable s (t_attach fid afid uname aname n_uname) =
+lopen_told_readable : (s : ServerState) (fid flags : ℕ) (f : Fid) (r : Result (Unit {0}) ℕ) → IsReadableReply (lopen_told s fid flags f r).0
+lopen_told_readable s fid flags f (Ok u) = tt
+lopen_told_readable s fid flags f (Err e) = tt
+
+lopen_readable : (s : ServerState) (fid flags : ℕ) (f : Option Fid) → IsReadableReply (lopen_by s fid flags f).0
+lopen_readable s fid flags None = tt
+lopen_readable s fid flags (Some f) = lopen_told_readable s fid flags f (open_check_of s.tree f.ino flags)
+
+-- a reply to Tread has no more bytes than were asked for
+piece_readable : (most : ℕ) → most ≤ 33554432 → (offset : ℕ) (o : Option Body) → IsReadableReply (piece_told (asked (read_body offset most) o))
+piece_readable most few offset None = tt
+piece_readable most few offset (Some (File bytes)) = omega (arith, few, length-take most (drop offset bytes))
+piece_readable most few offset (Some (Directory es next above)) = tt
+piece_readable most few offset (Some (Link target)) = tt
+
+one_readable : (b : Bool) (x y : Reply) → IsReadableReply x → IsReadableReply y → IsReadableReply (cond b x y)
+one_readable true x y h k = h
+one_readable false x y h k = k
+
+read_open_readable : (t : Tree) (ino offset most : ℕ) → most ≤ 33554432 → (s : OpenState) → IsReadableReply (read_open t ino offset most s)
+read_open_readable t ino offset most few Closed = tt
+read_open_readable t ino offset most few (Opened access append) = one_readable (access == 1) (r_lerror EBADF) (piece_told (read_of t ino offset most)) tt (piece_readable most few offset (body_at t.records ino))
+
+read_readable : (s : ServerState) (offset count : ℕ) → count ≤ 33554432 → (f : Option Fid) → IsReadableReply (read_by s offset count f)
+read_readable s offset count few None = tt
+read_readable s offset count few (Some f) = read_open_readable s.tree f.ino offset (min count (s.msize - READ_HEAD)) (omega (arith, few)) f.open_state
+
+core_readable : (s : ServerState) (m : Message) → IsBounded m → IsReadableReply (core s m).0
+core_readable s (t_lopen fid flags) b =
+    readable_either (has_flag TRUNC flags) (r_lerror EOPNOTSUPP, s) (lopen_by s fid flags (map.get s.fids fid)) tt (lopen_readable s fid flags (map.get s.fids fid))
+core_readable s (t_read fid offset count) b = read_readable s offset count b (map.get s.fids fid)
+core_readable s (t_attach fid afid uname aname n_uname) b =
     let root : Reply × ServerState = attached s fid (root_of s.tree s.settings.root) in
     let few = readable_either (nat_le s.settings.limit (map.len s.fids)) (r_lerror ENFILE, s) root tt (attached_readable s fid (root_of s.tree s.settings.root)) in
     readable_either (map.contains_key s.fids fid) (r_lerror EBADF, s) (cond (nat_le s.settings.limit (map.len s.fids)) (r_lerror ENFILE, s) root) tt few
-core_readable s (t_walk fid newfid wnames) =
+core_readable s (t_walk fid newfid wnames) b =
     readable_either (not (newfid == fid) && map.contains_key s.fids newfid) (r_lerror EBADF, s) (walk_from s fid newfid wnames (map.get s.fids fid)) tt (walk_from_readable s fid newfid wnames (map.get s.fids fid))
-core_readable s (t_getattr fid request_mask) = getattr_readable s (map.get s.fids fid)
-core_readable s (t_clunk fid) = clunk_readable s fid (map.get s.fids fid)
-core_readable s _ = tt
+core_readable s (t_getattr fid request_mask) b = getattr_readable s (map.get s.fids fid)
+core_readable s (t_clunk fid) b = clunk_readable s fid (map.get s.fids fid)
+core_readable s _ b = tt
 
 part_readable : (names : ℕ) (r : Reply) → IsPartOfWalk names r → IsReadableReply r
 part_readable names (r_walk qids) h = tt
@@ -70,8 +107,10 @@ hurt_readable : (m : Message) (r : Reply) → IsHurtReply m r → IsReadableRepl
 hurt_readable (t_attach fid afid uname aname n_uname) r h = refused_readable r h
 hurt_readable (t_walk fid newfid wnames) r h = ⊎_elim (λ is. refused_readable r is) (λ part. part_readable (length wnames) r part) h
 hurt_readable (t_getattr fid request_mask) r h = refused_readable r h
+hurt_readable (t_lopen fid flags) r h = refused_readable r h
+hurt_readable (t_read fid offset count) r h = refused_readable r h
 hurt_readable _ r h = absurd h
 
-pub outcome_readable : (s : ServerState) (m : Message) (r : Reply) (s1 : ServerState) (f0 f1 : ℕ) → Outcome s m r s1 f0 f1 → IsReadableReply r
-outcome_readable s m r s1 f0 f1 o =
-    ⊎_elim (λ is. subst IsReadableReply (sym (ap (λ (x : Reply × ServerState). x.0) is)) (core_readable s m)) (λ h. hurt_readable m r h.1) o
+pub outcome_readable : (s : ServerState) (m : Message) (r : Reply) (s1 : ServerState) (f0 f1 : ℕ) → IsBounded m → Outcome s m r s1 f0 f1 → IsReadableReply r
+outcome_readable s m r s1 f0 f1 b o =
+    ⊎_elim (λ is. subst IsReadableReply (sym (ap (λ (x : Reply × ServerState). x.0) is)) (core_readable s m b)) (λ h. hurt_readable m r h.1) o

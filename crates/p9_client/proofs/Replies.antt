@@ -45,7 +45,7 @@ replied s0 s1 good f0 f1 m sent rest old new is ask empty bytes grew r =
       reply = r.reply;
       spelled = grew ∙ ap (λ (l : List ℕ). l ++ bytes) empty ∙ r.spelled;
       spells = r.spells;
-      readable = outcome_readable s0 m r.reply s1 f0 f1 (subst (λ b. BodyOutcome s0 b r.reply s1 f0 f1) body r.outcome);
+      readable = outcome_readable s0 m r.reply s1 f0 f1 ask.bounded (subst (λ b. BodyOutcome s0 b r.reply s1 f0 f1) body r.outcome);
       long = long_enough new (reply_kind r.reply) r.tag (reply_spelling r.reply) (grew ∙ ap (λ (l : List ℕ). l ++ bytes) empty ∙ r.spelled);
       outcome = subst (λ b. BodyOutcome s0 b r.reply s1 f0 f1) body r.outcome;
     }

@@ -1,15 +1,22 @@
 -- What asking a server promises.
 use Rattle.std.specs.Prelude.{◌≡◌, ◌⊎◌, ℕ, ◌+◌, ◌<◌, ◌≤◌, List, length}
 use Rattle.p9_tmsg.specs.Messages.{Message, MessageSpells, message_spelling, IsReadableMessage}
+use Rattle.p9_tmsg.specs.Messages.Message.{read as t_read}
 use Rattle.p9_rmsg.specs.Replies.{Reply, ReplySpells, IsReadableReply}
 use Rattle.p9_rmsg.specs.Frames.{reply_frame}
 use Rattle.fid_model.specs.Fids.{ServerState}
 use Rattle.fid_model.specs.Handling.{Outcome}
 
+-- the reply's data is no longer than a client reads
+abbrev pub IsBounded : Message → Type 0
+IsBounded (t_read fid offset count) = count ≤ 33554432
+IsBounded _ = Unit {0}
+
 -- the message has a frame that the server takes
 pub record IsAskable (s : ServerState) (m : Message) : Type 0 where
   pub spells : MessageSpells m
   pub readable : IsReadableMessage m
+  pub bounded : IsBounded m
   pub short : 7 + length (message_spelling m) ≤ s.msize
 
 -- these bytes are the reply to a message

@@ -1,5 +1,5 @@
 -- A step's answer is the reply to its message.
-use Rattle.std.proofs.Common.{◌≡◌, ℕ, ◌+◌, ◌≤◌, Bool, List, [], ◌∷◌, length, map, refl, sym, ap, ◌∙◌, subst, Result, Ok, Err, IfOk, arith}
+use Rattle.std.proofs.Common.{◌≡◌, ◌⊎◌, inl, inr, ℕ, ◌+◌, ◌≤◌, Bool, List, [], ◌∷◌, length, map, refl, sym, ap, ◌∙◌, subst, Result, Ok, Err, IfOk, arith}
 use Rattle.port_base.specs.declared.errno.TheConstants.{EINVAL}
 use Rattle.tree_model.specs.declared.attributes.HostError.{HostError}
 use Rattle.tree_model.specs.declared.attributes.HostError.TheVariants as host
@@ -7,42 +7,64 @@ use Rattle.p9_wire.specs.declared.error.WireError.{WireError}
 use Rattle.p9_wire.specs.declared.error.WireError.TheVariants.{NoMemory}
 use Rattle.p9_wire.specs.Frames.{result_view}
 use Rattle.p9_tmsg.specs.Messages.{Message}
-use Rattle.p9_tmsg.specs.Messages.Message.{getattr}
+use Rattle.p9_tmsg.specs.Messages.Message.{getattr, attach}
 use Rattle.p9_rmsg.specs.Replies.{Reply, reply_of}
 use Rattle.p9_rmsg.specs.Replies.Reply.{lerror}
 use Rattle.p9_rmsg.specs.declared.message.Rmessage.{Rmessage}
 use Rattle.fid_model.specs.Fids.{ServerState}
 use Rattle.fid_model.specs.Handling.{Outcome, Steadily}
 use Rattle.p9_server.specs.Steps.{Steps}
-use Rattle.p9_server.specs.Answering.{refusal_told, reply_told, IsShort, Answered}
+use Rattle.p9_server.specs.Answering.{refusal_told, reply_told, IsShort, Fits, IsSized, Answered}
 
 same_reply : (r : Rmessage) (told : Reply) → ◌≡◌ {A = Result Reply WireError} (Ok (reply_of r)) (Ok told) → reply_of r ≡ told
 same_reply r told e = cc
 
+-- a short reply fits every frame
+pub short_sized : (s0 s1 : ServerState) (r : Reply) → 256 ≤ s0.msize → IsShort r → IsSized s0 s1 r
+short_sized s0 s1 r roomy short = record { fits = record { spells = short.spells; short = (let few = short.short in omega arith) }; room = inl short }
+
 module _ {A : Type 0} (m : Message) (reply : A → Reply) (s0 s1 : ServerState) (steady : Bool) (f0 f1 : ℕ) where
-  replied : (told : Reply) (r : Rmessage) → Outcome s0 m told s1 f0 f1 → ◌≡◌ {A = Result Reply WireError} (Ok (reply_of r)) (Ok told) → IsShort (reply_of r) → f0 ≤ f1 → Steadily steady f0 f1 → s1.settings ≡ s0.settings
+  replied : (told : Reply) (r : Rmessage) → Outcome s0 m told s1 f0 f1 → ◌≡◌ {A = Result Reply WireError} (Ok (reply_of r)) (Ok told) → IsSized s0 s1 (reply_of r) → f0 ≤ f1 → Steadily steady f0 f1 → s1.settings ≡ s0.settings
       → Answered (Ok m) s0 s1 steady f0 f1 (Ok r)
-  replied told r outcome is short rises steadily fixed = record {
-    answer = (subst (λ (x : Reply). Outcome s0 m x s1 f0 f1) (sym (same_reply r told is)) outcome, short);
+  replied told r outcome is sized rises steadily fixed = record {
+    answer = (subst (λ (x : Reply). Outcome s0 m x s1 f0 f1) (sym (same_reply r told is)) outcome, sized);
     rises = rises;
     steadily = steadily;
     fixed = fixed;
   }
 
-  pub answered : (step : Result A HostError) (result : Result Rmessage WireError) → Steps m reply s0 s1 steady f0 f1 step → result_view reply_of result ≡ reply_told reply step → IfOk result (λ r. IsShort (reply_of r)) → s1.settings ≡ s0.settings
+  pub answered_sized : (step : Result A HostError) (result : Result Rmessage WireError) → Steps m reply s0 s1 steady f0 f1 step → result_view reply_of result ≡ reply_told reply step → IfOk result (λ r. IsSized s0 s1 (reply_of r)) → s1.settings ≡ s0.settings
       → Answered (Ok m) s0 s1 steady f0 f1 result
-  answered (Ok a) (Ok r) s is short fixed = replied (reply a) r s.answer is short s.rises s.steadily fixed
-  answered (Ok a) (Err e) s is short fixed = absurd (cc)
-  answered (Err (host.Errno n)) (Ok r) s is short fixed = replied (lerror n) r s.answer is short s.rises s.steadily fixed
-  answered (Err (host.Errno n)) (Err e) s is short fixed = absurd (cc)
-  answered (Err host.Fault) (Ok r) s is short fixed = replied (lerror 5) r s.answer is short s.rises s.steadily fixed
-  answered (Err host.Fault) (Err e) s is short fixed = absurd (cc)
-  answered (Err host.NoMemory) (Ok r) s is short fixed = absurd (cc)
-  answered (Err host.NoMemory) (Err e) s is short fixed = record { answer = (let same : e ≡ NoMemory = cc in same, s.answer); rises = s.rises; steadily = s.steadily; fixed = fixed }
+  answered_sized (Ok a) (Ok r) s is sized fixed = replied (reply a) r s.answer is sized s.rises s.steadily fixed
+  answered_sized (Ok a) (Err e) s is sized fixed = absurd (cc)
+  answered_sized (Err (host.Errno n)) (Ok r) s is sized fixed = replied (lerror n) r s.answer is sized s.rises s.steadily fixed
+  answered_sized (Err (host.Errno n)) (Err e) s is sized fixed = absurd (cc)
+  answered_sized (Err host.Fault) (Ok r) s is sized fixed = replied (lerror 5) r s.answer is sized s.rises s.steadily fixed
+  answered_sized (Err host.Fault) (Err e) s is sized fixed = absurd (cc)
+  answered_sized (Err host.NoMemory) (Ok r) s is sized fixed = absurd (cc)
+  answered_sized (Err host.NoMemory) (Err e) s is sized fixed = record { answer = (let same : e ≡ NoMemory = cc in same, s.answer); rises = s.rises; steadily = s.steadily; fixed = fixed }
+
+  if_short : (result : Result Rmessage WireError) → 256 ≤ s0.msize → IfOk result (λ r. IsShort (reply_of r)) → IfOk result (λ r. IsSized s0 s1 (reply_of r))
+  if_short (Ok r) roomy short = short_sized s0 s1 (reply_of r) roomy short
+  if_short (Err e) roomy short = tt
+
+  -- a short reply
+  pub answered : (step : Result A HostError) (result : Result Rmessage WireError) → 256 ≤ s0.msize → Steps m reply s0 s1 steady f0 f1 step → result_view reply_of result ≡ reply_told reply step → IfOk result (λ r. IsShort (reply_of r)) → s1.settings ≡ s0.settings
+      → Answered (Ok m) s0 s1 steady f0 f1 result
+  answered step result roomy s is short fixed = answered_sized step result s is (if_short result roomy short) fixed
+
+  if_fits : (result : Result Rmessage WireError) → s1 ≡ s0 → IfOk result (λ r. Fits s0.msize (reply_of r)) → IfOk result (λ r. IsSized s0 s1 (reply_of r))
+  if_fits (Ok r) same fits = record { fits = fits; room = inr same }
+  if_fits (Err e) same fits = tt
+
+  -- a reply of any length, which leaves the state
+  pub answered_long : (step : Result A HostError) (result : Result Rmessage WireError) → s1 ≡ s0 → Steps m reply s0 s1 steady f0 f1 step → result_view reply_of result ≡ reply_told reply step → IfOk result (λ r. Fits s0.msize (reply_of r))
+      → Answered (Ok m) s0 s1 steady f0 f1 result
+  answered_long step result same s is fits = answered_sized step result s is (if_fits result same fits) (ap (λ (x : ServerState). x.settings) same)
 
 -- a malformed body
-pub answered_malformed : (fault : WireError) (s : ServerState) (steady : Bool) (f : ℕ) (r : Rmessage) → reply_of r ≡ lerror EINVAL → IsShort (reply_of r) → Answered (Err fault) s s steady f f (Ok r)
-answered_malformed fault s steady f r is short = record { answer = ((is, refl), short); rises = omega arith; steadily = λ on. refl; fixed = refl }
+pub answered_malformed : (fault : WireError) (s : ServerState) (steady : Bool) (f : ℕ) (r : Rmessage) → 256 ≤ s.msize → reply_of r ≡ lerror EINVAL → IsShort (reply_of r) → Answered (Err fault) s s steady f f (Ok r)
+answered_malformed fault s steady f r roomy is short = record { answer = ((is, refl), short_sized s s (reply_of r) roomy short); rises = omega arith; steadily = λ on. refl; fixed = refl }
 
 -- no step depends on the fields that the server ignores
 pub any_mask : {A : Type 0} (reply : A → Reply) (s0 s1 : ServerState) (steady : Bool) (f0 f1 fid mask : ℕ) (r : Result A HostError) → Steps (getattr fid 0) reply s0 s1 steady f0 f1 r → Steps (getattr fid mask) reply s0 s1 steady f0 f1 r
@@ -50,6 +72,12 @@ any_mask reply s0 s1 steady f0 f1 fid mask (Ok a) s = record { answer = s.answer
 any_mask reply s0 s1 steady f0 f1 fid mask (Err (host.Errno n)) s = record { answer = s.answer; rises = s.rises; steadily = s.steadily }
 any_mask reply s0 s1 steady f0 f1 fid mask (Err host.Fault) s = record { answer = s.answer; rises = s.rises; steadily = s.steadily }
 any_mask reply s0 s1 steady f0 f1 fid mask (Err host.NoMemory) s = record { answer = s.answer; rises = s.rises; steadily = s.steadily }
+
+pub any_user : {A : Type 0} (reply : A → Reply) (s0 s1 : ServerState) (steady : Bool) (f0 f1 fid afid : ℕ) (uname aname : List ℕ) (n_uname : ℕ) (r : Result A HostError) → Steps (attach fid 0 [] [] 0) reply s0 s1 steady f0 f1 r → Steps (attach fid afid uname aname n_uname) reply s0 s1 steady f0 f1 r
+any_user reply s0 s1 steady f0 f1 fid afid uname aname n_uname (Ok a) s = record { answer = s.answer; rises = s.rises; steadily = s.steadily }
+any_user reply s0 s1 steady f0 f1 fid afid uname aname n_uname (Err (host.Errno n)) s = record { answer = s.answer; rises = s.rises; steadily = s.steadily }
+any_user reply s0 s1 steady f0 f1 fid afid uname aname n_uname (Err host.Fault) s = record { answer = s.answer; rises = s.rises; steadily = s.steadily }
+any_user reply s0 s1 steady f0 f1 fid afid uname aname n_uname (Err host.NoMemory) s = record { answer = s.answer; rises = s.rises; steadily = s.steadily }
 
 pub names_are : (names : List (List ℕ)) → names ≡ map (λ (s : List ℕ). s) names
 names_are [] = refl

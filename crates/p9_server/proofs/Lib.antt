@@ -15,3 +15,5 @@ pub mod Replying
 pub mod RootLaws
 pub mod Emptying
 pub mod Unserved
+pub mod Opening
+pub mod Reading

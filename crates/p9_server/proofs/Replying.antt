@@ -26,6 +26,12 @@ kept_appends (Some xs) None c bytes h k = absurd h
 kept_appends (Some xs) (Some ys) None bytes h k = k
 kept_appends (Some xs) (Some ys) (Some zs) bytes h k = k ∙ ap (λ (l : List ℕ). l ++ bytes) h
 
+pub kept_twice : (a b c : Option (List ℕ)) → Keeps a b → Keeps b c → Keeps a c
+kept_twice None b c h k = tt
+kept_twice (Some xs) None c h k = absurd h
+kept_twice (Some xs) (Some ys) None h k = absurd k
+kept_twice (Some xs) (Some ys) (Some zs) h k = k ∙ h
+
 module _ (s0 s1 : ServerState) (f0 f1 : ℕ) (l0 l1 w0 w1 w2 : Option (List ℕ)) (in0 in1 out0 out1 out2 : ℕ) where
   -- a frame that can't be read
   pub unread : (e : WireError) → ReadsFrame s0.msize l0 l1 in0 in1 (Err e) → Handled {X = Unit {0}} s0 s0 f0 f0 l0 l1 w0 w0 in0 in1 out0 out0 (Err e)
@@ -55,7 +61,7 @@ module _ (s0 s1 : ServerState) (f0 f1 : ℕ) (l0 l1 w0 w1 w2 : Option (List ℕ)
           (record { rises = a.rises; fixed = a.fixed; answer = (read.frame.0, room, a.answer.1, kept) })
 
       -- the reply, or a front of it
-      module _ (r : Rmessage) (a : Answered (result_view message_of frame.msg) s0 s1 steady f0 f1 (Ok r)) (roomy : 256 ≤ s0.msize) where
+      module _ (r : Rmessage) (a : Answered (result_view message_of frame.msg) s0 s1 steady f0 f1 (Ok r)) where
         replied : Replied s0 s1 f0 f1 l0 l1 (reply_frame frame.tag (reply_of r))
         replied = record {
           tag = frame.tag;
@@ -63,8 +69,8 @@ module _ (s0 s1 : ServerState) (f0 f1 : ℕ) (l0 l1 w0 w1 w2 : Option (List ℕ)
           reply = reply_of r;
           read = read.frame.1;
           spelled = refl;
-          spells = a.answer.1.spells;
-          short = let few = reply_length frame.tag (reply_of r) a.answer.1 in omega arith;
+          spells = a.answer.1.fits.spells;
+          short = let all = reply_length frame.tag (reply_of r) in let few = a.answer.1.fits.short in omega arith;
           outcome = a.answer.0;
         }
 

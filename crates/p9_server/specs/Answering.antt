@@ -1,5 +1,5 @@
 -- The reply to a message, from what a step gives.
-use Rattle.std.specs.Prelude.{◌≡◌, ℕ, ◌≤◌, Bool, List, length, Result, Ok, Err}
+use Rattle.std.specs.Prelude.{◌≡◌, ◌⊎◌, ℕ, ◌+◌, ◌≤◌, Bool, List, length, Result, Ok, Err}
 use Rattle.std.specs.declared.option.Option.{Option}
 use Rattle.std.specs.Io.KnownBytes.{Appends}
 use Rattle.port_base.specs.Faults.{Faulted}
@@ -34,8 +34,18 @@ pub record IsShort (r : Reply) : Type 0 where
   pub spells : ReplySpells r
   pub short : length (reply_spelling r) ≤ BODY_LIMIT
 
+-- the reply is spelled in a frame of at most so many bytes
+pub record Fits (msize : ℕ) (r : Reply) : Type 0 where
+  pub spells : ReplySpells r
+  pub short : 7 + length (reply_spelling r) ≤ msize
+
+-- a long reply, which there may be no memory for, comes only where nothing was changed
+pub record IsSized (s0 s1 : ServerState) (r : Reply) : Type 0 where
+  pub fits : Fits s0.msize r
+  pub room : IsShort r ⊎ (s1 ≡ s0)
+
 abbrev pub AnsweredBy : Result Message WireError → ServerState → ServerState → ℕ → ℕ → Result Rmessage WireError → Type 0
-AnsweredBy body s0 s1 f0 f1 (Ok m) = BodyOutcome s0 body (reply_of m) s1 f0 f1 × IsShort (reply_of m)
+AnsweredBy body s0 s1 f0 f1 (Ok m) = BodyOutcome s0 body (reply_of m) s1 f0 f1 × IsSized s0 s1 (reply_of m)
 AnsweredBy body s0 s1 f0 f1 (Err e) = (e ≡ NoMemory) × (s1 ≡ s0)
 
 -- what a body says is answered, or, for want of memory, nothing is changed

@@ -7,3 +7,4 @@ pub mod Answering
 pub mod GoodServer
 pub mod Handling
 pub mod Configs
+pub mod Opening

@@ -12,6 +12,7 @@ use Rattle.p9_rmsg.specs.Replies.Reply.{lerror}
 use Rattle.fid_model.specs.Fids.{ServerState, Fids, Fid}
 use Rattle.fid_model.specs.Answers.{WALK_LIMIT}
 use Rattle.fid_model.specs.Handling.{Outcome, Steadily}
+use Rattle.p9_server.specs.OpenModes.{is_readable}
 
 abbrev pub server_state : Tree → Fids → ℕ → Settings → ServerState
 server_state tree fids msize settings = record { tree = tree; fids = fids; msize = msize; settings = settings }
@@ -33,6 +34,11 @@ pub record Steps {A : Type 0} (m : Message) (reply : A → Reply) (s0 s1 : Serve
 abbrev pub ino_told : Option Fid → Result ℕ HostError
 ino_told None = Err (Errno EBADF)
 ino_told (Some f) = Ok f.ino
+
+-- the inode of a fid that is open to be read
+abbrev pub readable_told : Option Fid → Result ℕ HostError
+readable_told None = Err (Errno EBADF)
+readable_told (Some f) = if is_readable f.open_state then Ok f.ino else Err (Errno EBADF)
 
 -- the same, where there may be none
 abbrev pub ino_before : Option Fid → Option ℕ

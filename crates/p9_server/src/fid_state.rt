@@ -1,7 +1,10 @@
 //! What a fid names.
 ghost use Rattle.std.specs.Prelude.{◌≡◌};
 ghost use Rattle.fid_model.specs.Fids.{closed};
+ghost use Rattle.fid_model.specs.Answers.{opened};
+ghost use Rattle.p9_server.specs.OpenModes.{is_readable};
 
+use port_base::oflag::APPEND;
 use std::marker::Model;
 
 /// Whether a fid is open, and how.
@@ -35,6 +38,29 @@ impl FidState {
         FidState {
             ino,
             mode: OpenMode::Closed,
+        }
+    }
+
+    /// A fid that is open as the flags of `open(2)` say.
+    pub fn opened(ino: u64, flags: u32) -> Self
+        ensures { result ≡ opened (closed ino) flags }
+    {
+        FidState {
+            ino,
+            mode: OpenMode::Opened {
+                access: flags % 4,
+                append: flags & APPEND != 0,
+            },
+        }
+    }
+
+    /// Whether it is open, and not for writing alone.
+    pub fn is_readable(&self) -> bool
+        ensures { result ≡ is_readable self.now.open_state }
+    {
+        match &self.mode {
+            OpenMode::Closed => false,
+            OpenMode::Opened { access, .. } => *access != 1,
         }
     }
 

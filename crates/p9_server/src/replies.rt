@@ -1,25 +1,28 @@
 //! The replies to messages, from what the server's steps give.
-ghost use Rattle.std.specs.Prelude.{◌≡◌, ◌≤◌, ◌<◌, ◌^◌, Err, length, map, IfOk};
+ghost use Rattle.std.specs.Prelude.{◌≡◌, ◌+◌, ◌≤◌, ◌<◌, ◌^◌, Err, length, map, IfOk, IfErr, OnOk};
+ghost use Rattle.std.specs.Io.KnownBytes.{Keeps};
 ghost use Rattle.tree_model.specs.Attributes.{blocks_of};
 ghost use Rattle.fid_model.specs.Answers.{attributes_of};
 ghost use Rattle.std.specs.List.{AllByRecursion};
 ghost use Rattle.p9_wire.specs.Values.{QidSpells};
 ghost use Rattle.p9_wire.specs.Qids.{qid_of};
 ghost use Rattle.p9_wire.specs.Frames.{result_view};
-ghost use Rattle.p9_rmsg.specs.Replies.{reply_of};
-ghost use Rattle.p9_rmsg.specs.Replies.Reply.{attach, clunk, getattr, lerror, walk};
+ghost use Rattle.p9_rmsg.specs.Replies.{reply_of, reply_spelling, ReplySpells};
+ghost use Rattle.p9_rmsg.specs.Replies.Reply.{attach, clunk, getattr, lerror, lopen, read, walk};
 ghost use Rattle.p9_rmsg.specs.Frames.{reply_frame};
-ghost use Rattle.p9_server.specs.Answering.{reply_told, refusal_told, IsShort, IsSent};
+ghost use Rattle.p9_server.specs.Answering.{reply_told, refusal_told, IsShort, Fits, IsSent};
 
 use crate::qids::qid_of;
-use p9_rmsg::{Rattach, Rgetattr, Rlerror, Rmessage, Rwalk};
+use p9_rmsg::{Rattach, Rgetattr, Rlerror, Rlopen, Rmessage, Rread, Rwalk};
+use p9_wire::data::Data;
 use p9_wire::error::WireError;
+use p9_wire::frame::frame_size;
 use p9_wire::qid::Qid;
 use port_base::errno::EIO;
 use port_base::sink::{Sink, SinkFault};
 use tree_model::{Attr, HostError};
 
-/// The room for a reply, in bytes: none is longer.
+/// The room for a reply, in bytes: none that changes anything is longer.
 pub const REPLY_ROOM: usize = 256;
 
 /// The valid fields of Rgetattr: all basic ones, mode to blocks (`P9_GETATTR_BASIC`).
@@ -152,10 +155,66 @@ pub fn clunk_reply(step: Result<(), HostError>) -> Result<Rmessage, WireError>
     }
 }
 
+// The qid of a fid that was opened; a client may read as much at once as it likes.
+fn open_told(qid: Qid) -> Rmessage
+    ensures reply { reply_of result ≡ lopen (qid_of qid) 0 }
+    ensures short { IsShort (reply_of result) }
+{
+    Rmessage::Lopen(Rlopen { qid, iounit: 0 })
+}
+
+/// The reply to Tlopen.
+pub fn open_reply(step: Result<Qid, HostError>) -> Result<Rmessage, WireError>
+    ensures reply { result_view reply_of result ≡ reply_told (λ q. lopen (qid_of q) 0) step }
+    ensures short { IfOk result (λ m. IsShort (reply_of m)) }
+{
+    match step {
+        Ok(qid) => Ok(open_told(qid)),
+        Err(e) => refusal(e),
+    }
+}
+
+/// The reply to Tread, in a frame of at most `msize` bytes.
+pub fn read_reply(step: Result<Vec<u8>, HostError>, msize: u32) -> Result<Rmessage, WireError>
+    requires roomy { 256 ≤ msize }
+    requires fits { IfOk step (λ bytes. length bytes.items + 11 ≤ msize) }
+    ensures reply { result_view reply_of result ≡ reply_told (λ bytes. read bytes.items) step }
+    ensures fits { IfOk result (λ m. Fits msize (reply_of m)) }
+{
+    match step {
+        Ok(bytes) => Ok(Rmessage::Read(Rread {
+            payload: Data(bytes),
+        })),
+        Err(e) => refusal(e),
+    }
+}
+
+/// Makes room for a reply that is longer than what there is room for.
+pub fn reserve_long<K: Sink>(reply: &Rmessage, writer: &mut K) -> Result<(), WireError>
+    requires spells { ReplySpells (reply_of reply.now) }
+    requires short { 7 + length (reply_spelling (reply_of reply.now)) < 2 ^ 32 }
+    requires room { REPLY_ROOM ≤ K.room writer.old }
+    ensures room { OnOk result (7 + length (reply_spelling (reply_of reply.now)) ≤ K.room writer.new) }
+    ensures memory { IfErr result (λ e. (e ≡ WireError.NoMemory) × ¬ IsShort (reply_of reply.now)) }
+    ensures sent { Keeps (K.sent writer.old) (K.sent writer.new) }
+    ensures faults { K.faults writer.new ≡ K.faults writer.old }
+    ensures kept { K.kept writer.new ≡ K.kept writer.old }
+{
+    let length = frame_size(reply) as usize;
+    if length <= REPLY_ROOM {
+        return Ok(());
+    }
+    match writer.reserve(length) {
+        Ok(()) => Ok(()),
+        Err(_) => Err(WireError::NoMemory),
+    }
+}
+
 /// Sends a reply, for which there is room.
 pub fn send_reply<K: Sink>(reply: &Rmessage, tag: u16, writer: &mut K) -> Result<(), WireError>
-    requires short { IsShort (reply_of reply.now) }
-    requires room { REPLY_ROOM ≤ K.room writer.old }
+    requires spells { ReplySpells (reply_of reply.now) }
+    requires short { 7 + length (reply_spelling (reply_of reply.now)) < 2 ^ 32 }
+    requires room { 7 + length (reply_spelling (reply_of reply.now)) ≤ K.room writer.old }
     ensures sent { IsSent (reply_frame tag (reply_of reply.now)) (K.sent writer.old) (K.sent writer.new) (K.faults writer.old) (K.faults writer.new) result }
     ensures kept { K.kept writer.new ≡ K.kept writer.old }
 {

@@ -6,6 +6,7 @@ ghost use Rattle.p9_server.specs.Holding.{IsSound};
 mod answer;
 mod attach;
 mod nine;
+mod open;
 mod setup;
 mod walk;
 

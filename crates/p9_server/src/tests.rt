@@ -5,9 +5,10 @@ ghost use Rattle.tree_host.specs.TreeHosts.{holds};
 
 use crate::{Config, ConfigError, Nine, Refused, Server};
 use port_base::memory::{MemSink, SliceSource};
+use port_base::names::name_fault;
 use std::alloc::Global;
 use std::test::Fail;
-use tree_host::TreeHost;
+use tree_host::{NewItem, TreeHost};
 use tree_model::{Limits, Stamp};
 
 fn small_host(alloc: Global) -> Result<TreeHost, Fail>
@@ -93,6 +94,92 @@ fn a_server_answers_frames(rt: HostRuntime) -> Result<(), Fail> {
     server.clear_fids();
     assert_eq!(rt; server.fid_count(), 0);
     let _host = server.into_host();
+    Ok(())
+}
+
+// A server of a host with the one file `f`, with the bytes `hello`, which is inode 2.
+fn server_of_a_file(alloc: Global) -> Result<Server<TreeHost>, Fail> {
+    let mut host = small_host(alloc)?;
+    if name_fault(b"f").is_some() {
+        return Err(Fail::from("no name"));
+    }
+    let item = NewItem::File {
+        mode: 0o644,
+        uid: 0,
+        gid: 0,
+        bytes: b"hello",
+    };
+    host.add(1, b"f", item)?;
+    let Ok(config) = Config::standard(alloc) else {
+        return Err(Fail::from("no memory"));
+    };
+    match Server::with_config(alloc, host, config) {
+        Ok(server) => Ok(server),
+        Err(_) => Err(Fail::from("no server")),
+    }
+}
+
+#[test]
+fn a_file_is_opened_and_read(rt: HostRuntime) -> Result<(), Fail> {
+    let alloc = rt.alloc();
+    let mut server = server_of_a_file(alloc)?;
+    let exchanges: [(&[u8], &[u8]); 11] = [
+        // an attach of fid 1
+        (
+            b"\x17\0\0\0\x68\0\0\x01\0\0\0\xff\xff\xff\xff\0\0\0\0\0\0\0\0",
+            b"\x14\0\0\0\x69\0\0\x80\0\x10\x5e\x5f\x01\0\0\0\0\0\0\0",
+        ),
+        // a walk to `f`, as fid 2
+        (
+            b"\x14\0\0\0\x6e\x01\0\x01\0\0\0\x02\0\0\0\x01\0\x01\0f",
+            b"\x16\0\0\0\x6f\x01\0\x01\0\0\0\x10\x5e\x5f\x02\0\0\0\0\0\0\0",
+        ),
+        // a walk on to `nope` tells one qid, and makes no fid 3
+        (
+            b"\x1a\0\0\0\x6e\x01\0\x01\0\0\0\x03\0\0\0\x02\0\x01\0f\x04\0nope",
+            b"\x16\0\0\0\x6f\x01\0\x01\0\0\0\x10\x5e\x5f\x02\0\0\0\0\0\0\0",
+        ),
+        (
+            b"\x0b\0\0\0\x78\x02\0\x03\0\0\0",
+            b"\x0b\0\0\0\x07\x02\0\x09\0\0\0",
+        ),
+        // a fid that isn't open isn't read
+        (
+            b"\x17\0\0\0\x74\x03\0\x02\0\0\0\0\0\0\0\0\0\0\0\x05\0\0\0",
+            b"\x0b\0\0\0\x07\x03\0\x09\0\0\0",
+        ),
+        // an open that empties the file, an open to read, an open of a directory to write
+        (
+            b"\x0f\0\0\0\x0c\x04\0\x02\0\0\0\0\x02\0\0",
+            b"\x0b\0\0\0\x07\x04\0\x5f\0\0\0",
+        ),
+        (
+            b"\x0f\0\0\0\x0c\x05\0\x02\0\0\0\0\0\0\0",
+            b"\x18\0\0\0\x0d\x05\0\0\0\x10\x5e\x5f\x02\0\0\0\0\0\0\0\0\0\0\0",
+        ),
+        (
+            b"\x0f\0\0\0\x0c\x06\0\x01\0\0\0\x01\0\0\0",
+            b"\x0b\0\0\0\x07\x06\0\x15\0\0\0",
+        ),
+        // three bytes from 1 on, and all that is left from 5 on
+        (
+            b"\x17\0\0\0\x74\x07\0\x02\0\0\0\x01\0\0\0\0\0\0\0\x03\0\0\0",
+            b"\x0e\0\0\0\x75\x07\0\x03\0\0\0ell",
+        ),
+        (
+            b"\x17\0\0\0\x74\x08\0\x02\0\0\0\x05\0\0\0\0\0\0\0\xff\xff\xff\xff",
+            b"\x0b\0\0\0\x75\x08\0\0\0\0\0",
+        ),
+        // a message that isn't served yet
+        (
+            b"\x0b\0\0\0\x08\x09\0\x01\0\0\0",
+            b"\x0b\0\0\0\x07\x09\0\x5f\0\0\0",
+        ),
+    ];
+    for (frame, want) in exchanges {
+        let reply = reply_to(alloc, &mut server, frame)?;
+        assert_eq!(rt; reply.as_bytes(), want);
+    }
     Ok(())
 }
 

@@ -6,7 +6,9 @@ ghost use Rattle.p9_server.specs.Steps.{server_state};
 ghost use Rattle.p9_server.specs.Answering.{Answered};
 
 use super::Server;
-use crate::replies::{attach_reply, clunk_reply, getattr_reply, refused, walk_reply};
+use crate::replies::{
+    attach_reply, clunk_reply, getattr_reply, open_reply, read_reply, refused, walk_reply,
+};
 use p9_rmsg::Rmessage;
 use p9_tmsg::Tmessage;
 use p9_wire::error::WireError;
@@ -25,6 +27,8 @@ impl<H: Host> Server<H> {
             Tmessage::Walk(m) => walk_reply(self.walk(m.fid, m.newfid, &m.wnames)),
             Tmessage::GetAttr(m) => getattr_reply(self.get_attr(m.fid)),
             Tmessage::Clunk(m) => clunk_reply(self.clunk(m.fid)),
+            Tmessage::Lopen(m) => open_reply(self.open(m.fid, m.flags)),
+            Tmessage::Read(m) => read_reply(self.read(m.fid, m.offset, m.count), self.msize),
             _ => Ok(refused(EOPNOTSUPP)),
         }
     }

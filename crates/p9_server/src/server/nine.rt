@@ -6,7 +6,7 @@ ghost use Rattle.p9_server.specs.Handling.{ReadsFrame};
 
 use super::Server;
 use crate::naming::release_all;
-use crate::replies::{REPLY_ROOM, send_reply};
+use crate::replies::{REPLY_ROOM, reserve_long, send_reply};
 use fid_model::Nine;
 use p9_tmsg::Tframe;
 use p9_wire::error::WireError;
@@ -68,7 +68,10 @@ impl<H: Host> Nine for Server<H> {
             Err(e) => return Err(e),
         }
         match self.answer(frame.msg) {
-            Ok(reply) => send_reply(&reply, frame.tag, writer),
+            Ok(reply) => match reserve_long(&reply, writer) {
+                Ok(()) => send_reply(&reply, frame.tag, writer),
+                Err(e) => Err(e),
+            },
             Err(e) => Err(e),
         }
     }

@@ -1,16 +1,19 @@
 -- A frame, its answer, and the reply.
 use Rattle.p9_server.specs.Steps.{server_state}
-use Rattle.p9_server.proofs.Replying.{answered_sent}
+use Rattle.p9_server.proofs.Replying.{answered_sent, kept_twice}
+use Rattle.std.proofs.Common.{◌∙◌}
 use Rattle.p9_server.proofs.server.nine.ServerNine.handle_message.Goals as goal
 
-pub returns-in-Ok-answer-clause-handled : goal.returns-in-Ok-answer-clause-handled
-returns-in-Ok-answer-clause-handled g c =
+pub returns-in-Ok-reserve_long-clause-handled : goal.returns-in-Ok-reserve_long-clause-handled
+returns-in-Ok-reserve_long-clause-handled g c =
     let s = c.args.self.now in
     let n = c.answer.new.self in
     answered_sent (server_state (g.H.Host.tree s.host) s.fids s.msize s.share) (server_state (g.H.Host.tree n.host) n.fids n.msize n.share) (g.H.Host.faults s.host) (g.H.Host.faults n.host)
     (g.S.Source.left c.args.reader.now) (g.S.Source.left c.read_frame.new.reader)
-    (g.K.Sink.sent c.args.writer.now) (g.K.Sink.sent c.reserve_reply.new.writer) (g.K.Sink.sent c.send_reply.new.writer)
+    (g.K.Sink.sent c.args.writer.now) (g.K.Sink.sent c.reserve_long.new.writer) (g.K.Sink.sent c.send_reply.new.writer)
     (g.S.Source.faults c.args.reader.now) (g.S.Source.faults c.read_frame.new.reader)
-    (g.K.Sink.faults c.args.writer.now) (g.K.Sink.faults c.reserve_reply.new.writer) (g.K.Sink.faults c.send_reply.new.writer)
-    c.in-Ok.frame c.in-Ok.ensures.frame c.reserve_reply.ensures.sent c.reserve_reply.ensures.faults (g.H.Host.steady s.host)
-    c.in-Ok-answer.reply c.in-Ok-answer.ensures.answered s.sound.roomy c.send_reply.result c.send_reply.ensures.sent
+    (g.K.Sink.faults c.args.writer.now) (g.K.Sink.faults c.reserve_long.new.writer) (g.K.Sink.faults c.send_reply.new.writer)
+    c.in-Ok.frame c.in-Ok.ensures.frame
+    (kept_twice (g.K.Sink.sent c.args.writer.now) (g.K.Sink.sent c.reserve_reply.new.writer) (g.K.Sink.sent c.reserve_long.new.writer) c.reserve_reply.ensures.sent c.reserve_long.ensures.sent)
+    (c.reserve_long.ensures.faults ∙ c.reserve_reply.ensures.faults) (g.H.Host.steady s.host)
+    c.in-Ok-answer.reply c.in-Ok-answer.ensures.answered c.send_reply.result c.send_reply.ensures.sent
