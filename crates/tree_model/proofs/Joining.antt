@@ -110,9 +110,9 @@ module _ (t : Tree) (g : IsGoodTree t) (dir ino : ℕ) (name : List ℕ) (w : Is
       let d = g.records dir w.d w.at in
       let x = g.records ino w.x w.there in
       subst (λ (rs : Records). IsGoodTree (record t { records = rs })) (sym records_are)
-          (linked_in_good t g dir ino name w.d (joined_by name ino w.d) w.x (one_link_more w.x) is_linked_in
-          (record { body = good_joined w.d.body name ino w.directory d.body fine w.new; mode = d.mode; links = d.links; atime = d.atime; mtime = d.mtime; ctime = d.ctime })
-          (record { body = x.body; mode = x.mode; links = (let l = g.limits.3 in let few = w.few in omega arith); atime = x.atime; mtime = x.mtime; ctime = x.ctime }))
+      (linked_in_good t g dir ino name w.d (joined_by name ino w.d) w.x (one_link_more w.x) is_linked_in
+      (record { body = good_joined w.d.body name ino w.directory d.body fine w.new; mode = d.mode; links = d.links; atime = d.atime; mtime = d.mtime; ctime = d.ctime })
+      (record { body = x.body; mode = x.mode; links = (let l = g.limits.3 in let few = w.few in omega arith); atime = x.atime; mtime = x.mtime; ctime = x.ctime }))
 
   pub with_link_kept : (held : ℕ → Bool) → IsKept t.records held → IsKept (with_link t dir name ino).records held
   with_link_kept held k = subst (λ (rs : Records). IsKept rs held) (sym records_are) (linked_kept t g dir ino name w.d (joined_by name ino w.d) w.x (one_link_more w.x) is_linked_in held k)
