@@ -122,7 +122,7 @@ fn files_are_held_and_released(rt: HostRuntime) -> Result<(), Fail> {
     let moment = Stamp { sec: 9, nsec: 0 };
     let mut host = TreeHost::new(rt.alloc(), limits, moment, BORN, 0o755, 1, 2)?;
     assert_eq!(rt; add(&rt, &mut host, b"hello", b"world"), Ok(2));
-    host.fail_at(&[7, 1])?;
+    host.fail_at(&[8, 1])?;
     let root = host.attach_path(b"/")?;
     assert_eq!(rt; root, 1);
     let struck = host.stat(root);

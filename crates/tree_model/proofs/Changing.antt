@@ -2,7 +2,7 @@
 use Rattle.std.proofs.Common.{◌≡◌, ◌≢◌, ℕ, refl, sym, ap, ◌∙◌, Option, Some, None, ⊎_elim}
 use Rattle.std.specs.Prelude.{option_map}
 use Rattle.std.proofs.lemmas.Bool.{cases_eq}
-use Rattle.std.specs.FinMap.{get, insert}
+use Rattle.std.specs.FinMap.{get}
 use Rattle.tree_model.specs.Tree.{Record, Records}
 use Rattle.tree_model.specs.Making.{changed, change}
 use Rattle.tree_model.proofs.Maps.{inserted, insert_keeps, same_gets}

@@ -10,5 +10,7 @@ pub mod Files
 pub mod Placing
 pub mod Linking
 pub mod Joining
+pub mod Altering
+pub mod Attributing
 pub mod Reading
 pub mod Sampling

@@ -4,7 +4,7 @@ use Rattle.std.specs.Prelude.{codes, option_map, option_and_then}
 use Rattle.std.proofs.lemmas.Bool.{cases_eq}
 use Rattle.std.specs.Ordering.{nat_cmp}
 use Rattle.std.specs.FinMap.{get, insert, empty, get-empty, retain_keys}
-use Rattle.port_base.specs.declared.errno.TheConstants.{ENOENT, ENOTDIR, EISDIR}
+use Rattle.port_base.specs.declared.errno.TheConstants.{ENOENT, ENOTDIR, EISDIR, EFBIG}
 use Rattle.tree_model.specs.declared.attributes.Kind.TheVariants as kind
 use Rattle.tree_model.specs.Tree.{Tree, Record, Records, Body, body_at, linked, is_linked}
 use Rattle.tree_model.specs.Tree.Body.{File}
@@ -13,6 +13,8 @@ use Rattle.tree_model.specs.Attributes.{stat_of, attr_or_missing, kind_of}
 use Rattle.tree_model.specs.Making.{top_record, file_record, joined_by, changed, new_name_refused, add_refused, add_file_of, add_file_unless}
 use Rattle.tree_model.specs.Samples.{born, limits, alone, hello, world, sample}
 use Rattle.tree_model.specs.Opening.{asked, unless, open_refused, open_check_of, read_body, read_of, if_told, walk_to, found_at}
+use Rattle.tree_model.specs.Placing.{placed, placed_unless, link_refused, linked_unless, add_hard_of}
+use Rattle.tree_model.specs.Attributing.{changing, rewritten_at, resized, refused_at, refused_unless_file, set_len_of}
 use Rattle.tree_model.specs.Reading.{peek_entry_of, entry_above, part}
 use Rattle.tree_model.proofs.Maps.{inserted, insert_keeps, retained, same_gets}
 use Rattle.tree_model.proofs.Naming.{entry_is_counted}
@@ -129,3 +131,29 @@ found_none = ap if_told not_found
 
 pub found_below : found_at sample (hello ∷ hello ∷ []) ≡ None
 found_below = ap (λ r. if_told (walk_to sample r (hello ∷ []))) found ∙ ap if_told in_file
+
+-- ---- adding and changing
+
+abbrev refused_in : List ℕ → ℕ → Option Body → Option ℕ
+refused_in name dir = new_name_refused (is_linked sample.records dir) limits.entries 3 name
+
+pub placed_in_top : (name : List ℕ) (r : Record) → placed sample 1 name r ≡ placed_unless (refused_in name 1 (Some directory.body)) sample 1 name r
+placed_in_top name r = ap (λ o. placed_unless (refused_in name 1 o) sample 1 name r) body_of_top
+
+pub placed_in_file : (name : List ℕ) (r : Record) → placed sample 2 name r ≡ Err ENOTDIR
+placed_in_file name r = ap (λ o. placed_unless (refused_in name 2 o) sample 2 name r) body_of_file
+
+abbrev refused_name : List ℕ → Option Body → Option Record → Option ℕ
+refused_name name = link_refused true limits name
+
+pub named_in_top : (name : List ℕ) → add_hard_of sample 1 name 2 ≡ linked_unless (refused_name name (Some directory.body) (Some (file_record born world))) sample 1 name 2
+named_in_top name = ap (λ o. linked_unless (refused_name name o (get sample.records 2)) sample 1 name 2) body_of_top ∙ ap (λ o. linked_unless (refused_name name (Some directory.body) o) sample 1 name 2) file_at
+
+pub top_not_named : (name : List ℕ) → add_hard_of sample 1 name 1 ≡ linked_unless (refused_name name (Some directory.body) (Some directory)) sample 1 name 1
+top_not_named name = ap (λ o. linked_unless (refused_name name o (get sample.records 1)) sample 1 name 1) body_of_top ∙ ap (λ o. linked_unless (refused_name name (Some directory.body) o) sample 1 name 1) top_at
+
+pub too_long : set_len_of sample 2 9 ≡ Err EFBIG
+too_long = ap (λ o. changing tt (rewritten_at born (resized 9)) 2 sample (refused_at (refused_unless_file (Some EFBIG)) o)) body_of_file
+
+pub no_file : set_len_of sample 1 0 ≡ Err EISDIR
+no_file = ap (λ o. changing tt (rewritten_at born (resized 0)) 1 sample (refused_at (refused_unless_file None) o)) body_of_top

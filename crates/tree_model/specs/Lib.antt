@@ -10,3 +10,4 @@ pub mod Reading
 pub mod Opening
 pub mod Samples
 pub mod Placing
+pub mod Attributing

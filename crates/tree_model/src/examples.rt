@@ -1,8 +1,11 @@
 //! Definitions computed on a small tree: a top directory with the file `hello`, inode 2, of five bytes.
 ghost use Rattle.std.specs.Prelude.{◌≡◌, Ok, Err, Some, None, [], ◌∷◌, codes};
-ghost use Rattle.port_base.specs.declared.errno.TheConstants.{EEXIST, ENOTDIR, EISDIR, EINVAL, ELOOP};
+ghost use Rattle.port_base.specs.declared.errno.TheConstants.{EPERM, EEXIST, ENOTDIR, EISDIR, EINVAL, EFBIG, ELOOP, EOPNOTSUPP};
 ghost use Rattle.tree_model.specs.declared.attributes.Kind.TheVariants as kind;
-ghost use Rattle.tree_model.specs.Samples.{sample, hello};
+ghost use Rattle.tree_model.specs.Samples.{born, sample, hello};
+ghost use Rattle.tree_model.specs.Tree.Body.{Link};
+ghost use Rattle.tree_model.specs.Placing.{add_directory_of, add_link_of, add_hard_of, with_record, with_link, directory_record, link_record};
+ghost use Rattle.tree_model.specs.Attributing.{resized, written, set_len_of, refused_for_link};
 ghost use Rattle.tree_model.specs.Opening.{open_check_of, open_refused, read_of, found_at};
 
 /// Opens of the file and of the directory, and the kinds that flags refuse.
@@ -32,4 +35,26 @@ pub fn finding()
     ensures top { found_at sample [] ≡ Some 1 }
     ensures missing { found_at sample (codes "Hello" ∷ []) ≡ None }
     ensures below { found_at sample (hello ∷ hello ∷ []) ≡ None }
+{}
+
+/// Records and names that are added beside the file, and what is refused.
+pub fn adding()
+    ensures directory { add_directory_of born sample 1 (codes "d") 493 0 0 ≡ Ok (3, with_record sample 1 (codes "d") (directory_record born 493 0 0 1)) }
+    ensures link { add_link_of born sample 1 (codes "l") 0 0 hello ≡ Ok (3, with_record sample 1 (codes "l") (link_record born 0 0 hello)) }
+    ensures there { add_directory_of born sample 1 hello 493 0 0 ≡ Err EEXIST }
+    ensures below_file { add_directory_of born sample 2 (codes "d") 493 0 0 ≡ Err ENOTDIR }
+    ensures name { add_hard_of sample 1 (codes "b") 2 ≡ Ok (2, with_link sample 1 (codes "b") 2) }
+    ensures name_there { add_hard_of sample 1 hello 2 ≡ Err EEXIST }
+    ensures name_of_directory { add_hard_of sample 1 (codes "b") 1 ≡ Err EPERM }
+{}
+
+/// Bytes that are cut, filled and written over, and what is refused.
+pub fn changing()
+    ensures cut { resized 2 (codes "hello") ≡ codes "he" }
+    ensures filled { resized 4 (codes "hi") ≡ 104 ∷ 105 ∷ 0 ∷ 0 ∷ [] }
+    ensures over { written 1 (codes "XY") (codes "hello") ≡ codes "hXYlo" }
+    ensures gap { written 3 (codes "z") (codes "a") ≡ 97 ∷ 0 ∷ 0 ∷ 122 ∷ [] }
+    ensures long { set_len_of sample 2 9 ≡ Err EFBIG }
+    ensures directory { set_len_of sample 1 0 ≡ Err EISDIR }
+    ensures link { refused_for_link (Link hello) ≡ Some EOPNOTSUPP }
 {}

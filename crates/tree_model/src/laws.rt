@@ -1,5 +1,5 @@
 //! Laws over trees. Each function makes no call: its contract is the law.
-ghost use Rattle.std.specs.Prelude.{◌≡◌, ℕ, ◌+◌, ◌<◌, List, Bool, Ok, Some, None};
+ghost use Rattle.std.specs.Prelude.{◌≡◌, ℕ, ◌+◌, ◌<◌, List, Bool, Option, Ok, Some, None};
 ghost use Rattle.std.specs.FinMap as map;
 ghost use Rattle.port_base.specs.Names.{name_fault};
 ghost use Rattle.tree_model.specs.Tree.{Tree, Records, Record, name_count, names_in, weight, linked, keep};
@@ -8,6 +8,7 @@ ghost use Rattle.tree_model.specs.Sound.{IsCounted, AreStored};
 ghost use Rattle.tree_model.specs.Making.{new_tree, NewFile, add_file_of};
 ghost use Rattle.tree_model.specs.Placing.{add_directory_of, add_link_of, add_hard_of};
 ghost use Rattle.tree_model.specs.Attributes.{stat_of};
+ghost use Rattle.tree_model.specs.Attributing.{set_mode_of, set_owner_of, touch_ctime_of};
 ghost use Rattle.tree_model.specs.Reading.{record_after_of};
 ghost use Rattle.tree_model.specs.declared.attributes.Attr.{Attr};
 ghost use Rattle.tree_model.specs.declared.attributes.Stamp.{Stamp};
@@ -67,6 +68,21 @@ pub fn trees_with_a_link_are_good()
 pub fn trees_with_one_more_name_are_good()
     ensures { (t : Tree) (dir ino : ℕ) (name : List ℕ) (n : ℕ) (u : Tree) →
         IsGoodTree t → name_fault name ≡ None → add_hard_of t dir name ino ≡ Ok (n, u) → IsGoodTree u }
+{}
+
+/// A good tree stays good where a mode changes.
+pub fn trees_with_another_mode_are_good()
+    ensures { (t u : Tree) (ino mode : ℕ) → IsGoodTree t → set_mode_of t ino mode ≡ Ok (tt, u) → IsGoodTree u }
+{}
+
+/// A good tree stays good where owners change.
+pub fn trees_with_other_owners_are_good()
+    ensures { (t u : Tree) (ino : ℕ) (uid gid : Option ℕ) → IsGoodTree t → set_owner_of t ino uid gid ≡ Ok (tt, u) → IsGoodTree u }
+{}
+
+/// A good tree stays good where a ctime is stamped.
+pub fn trees_with_another_ctime_are_good()
+    ensures { (t u : Tree) (ino : ℕ) → IsGoodTree t → touch_ctime_of t ino ≡ Ok (tt, u) → IsGoodTree u }
 {}
 
 /// The record that is told next is stored under its number, which is above the one asked for.

@@ -23,8 +23,8 @@ attach_path-requires-clause-room g c i =
     let zero = no_holds c.fail_at.new.self.holds (c.fail_at.ensures.holds ∙ c.add.ensures ∙ c.in_ok-host.ensures.holds) i in
     omega (arith, zero)
 
-pub stat-requires : goal.stat-requires
-stat-requires g c = one c.fail_at.new.self.holds c.attach_path.new.self.holds c.in_ok-root.root c.in_ok-root.ensures.held
+pub stat-struck-requires : goal.stat-struck-requires
+stat-struck-requires g c = one c.fail_at.new.self.holds c.attach_path.new.self.holds c.in_ok-root.root c.in_ok-root.ensures.held
 
 pub entry_after-requires : goal.entry_after-requires
 entry_after-requires g c = one c.fail_at.new.self.holds c.stat-struck.new.self.holds c.in_ok-root.root (c.stat-struck.ensures.holds ∙ c.in_ok-root.ensures.held)
