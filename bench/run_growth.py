@@ -6,7 +6,8 @@ usage: run_growth.py PROGRAM [--files N ..] [--requests N ..] [--repeat N]
 PROGRAM is what `rt run` leaves in crates/mount9/out/mount9. Each input is a header of so many files of 100
 bytes, an INIT, and so many requests: a LOOKUP of a name, then a GETATTR of the node that it gave, in turn over
 1,000 names that lie evenly in the directory. So half of the requests walk the directory, and from the second
-round on the node is known. The time is the least of the repeats; the peak is the greatest resident size.
+round on the node is known. The time is the processor's, the least of the repeats; the peak is the greatest
+resident size.
 """
 import argparse
 import os
@@ -14,7 +15,6 @@ import struct
 import subprocess
 import sys
 import tempfile
-import time
 
 NAMES = 1000
 SIZE = 100
@@ -61,12 +61,11 @@ def requests(files, count):
 
 
 def measure(program, path):
-    """Seconds, peak KiB, status and the output's last line, of one run."""
+    """Seconds of the processor, peak KiB, status and the output's last line, of one run."""
     with open(path, "rb") as source, tempfile.TemporaryFile() as sink:
-        start = time.perf_counter()
         child = subprocess.Popen([program, "serve", "target=/mnt", "root=/"], stdin=source, stdout=sink)
         _, status, usage = os.wait4(child.pid, 0)
-        seconds = time.perf_counter() - start
+        seconds = usage.ru_utime + usage.ru_stime
         child.returncode = os.waitstatus_to_exitcode(status)
         sink.seek(0)
         last = sink.read().rstrip(b"\n").rsplit(b"\n", 1)[-1].decode()
@@ -91,10 +90,10 @@ def main():
     parser.add_argument("program")
     parser.add_argument("--files", type=int, nargs="+", default=[1000, 8000])
     parser.add_argument("--requests", type=int, nargs="+", default=[0, 1000, 2000, 4000])
-    parser.add_argument("--repeat", type=int, default=3)
+    parser.add_argument("--repeat", type=int, default=5)
     options = parser.parse_args()
     program = os.path.abspath(options.program)
-    print("| files | requests | input KiB | seconds | peak MiB | microseconds a request |")
+    print("| files | requests | input KiB | processor seconds | peak MiB | microseconds a request |")
     print("|---:|---:|---:|---:|---:|---:|")
     for files in options.files:
         base = None
