@@ -5,3 +5,4 @@ mod Names
 mod Settled
 mod Attaching
 pub mod Only
+mod Opening

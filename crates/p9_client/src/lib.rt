@@ -3,3 +3,4 @@
 
 pub mod calls;
 mod exchange;
+pub mod files;
