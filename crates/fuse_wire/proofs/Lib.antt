@@ -1,6 +1,6 @@
 mod Appending
 pub mod Cutting
-mod Examples
+pub mod Sampling
 mod Filling
 pub mod Fronts
 pub mod Naming

@@ -5,3 +5,4 @@ pub mod Head
 pub mod Reply
 pub mod Request
 pub mod Taking
+pub mod Samples

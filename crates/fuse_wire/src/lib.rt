@@ -2,6 +2,7 @@
 #![tactic(auto)]
 
 pub mod attr;
+pub mod examples;
 mod fields;
 pub mod frames;
 pub mod head;

@@ -2,4 +2,4 @@ pub mod Steps
 pub mod Hurting
 pub mod Begun
 pub mod First
-mod Example
+pub mod Sampling

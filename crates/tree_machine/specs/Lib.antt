@@ -5,3 +5,4 @@ pub mod Play
 pub mod Good
 pub mod Messages
 pub mod Faults
+pub mod Samples

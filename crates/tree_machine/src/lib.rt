@@ -2,4 +2,5 @@
 //! laws over runs.
 #![tactic(auto)]
 
+pub mod examples;
 pub mod laws;

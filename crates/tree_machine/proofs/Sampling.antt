@@ -39,23 +39,7 @@ use Rattle.port_base.specs.Names.{name_fault}
 use Rattle.tree_machine.proofs.First.{first_entry}
 use Rattle.tree_machine.proofs.Begun.{one_node}
 use Rattle.tree_machine.specs.Step.{step, asked, answer_bytes, core_of}
-
--- a tree of one file, `/hello`, with the bytes `hello` and a line feed
-abbrev tree : Tree
-tree = with_file (record { sec = 1600000000; nsec = 0 })
-    (new_tree (record { file = 1048576; entries = 65536; links = 65000 }) (record { sec = 1700000000; nsec = 5 }) (record { sec = 1600000000; nsec = 0 }) 493 0 0)
-    top (codes "hello") (record { mode = 420; uid = 1000; gid = 1000; bytes = codes "hello\n" })
-
-abbrev settings : Settings
-settings = record { root = []; uid_map = empty; gid_map = empty; casefold = false; limit = 1024 }
-
-abbrev init_frame : List ℕ
-init_frame = (104 ∷ 0 ∷ 0 ∷ 0 ∷ 26 ∷ 0 ∷ 0 ∷ 0 ∷ 1 ∷ []) ++ (replicate 31 0 ++ ((7 ∷ 0 ∷ 0 ∷ 0 ∷ 31 ∷ 0 ∷ 0 ∷ 0 ∷ 0 ∷ 0 ∷ 2 ∷ 0 ∷ []) ++ replicate 52 0))
-
-abbrev init_reply : List ℕ
-init_reply =
-    (80 ∷ 0 ∷ 0 ∷ 0 ∷ 0 ∷ 0 ∷ 0 ∷ 0 ∷ 1 ∷ 0 ∷ 0 ∷ 0 ∷ 0 ∷ 0 ∷ 0 ∷ 0 ∷ 7 ∷ 0 ∷ 0 ∷ 0 ∷ 31 ∷ 0 ∷ 0 ∷ 0 ∷ 0 ∷ 0 ∷ 2 ∷ 0 ∷ 0 ∷ 0 ∷ 0 ∷ 0 ∷
-    12 ∷ 0 ∷ 9 ∷ 0 ∷ 0 ∷ 0 ∷ 1 ∷ 0 ∷ 1 ∷ 0 ∷ 0 ∷ 0 ∷ []) ++ replicate 36 0
+use Rattle.tree_machine.specs.Samples.{tree, settings, init_frame, init_reply, started, lookup_frame, entry_reply_bytes, getattr_frame, with_hello, attr_reply_bytes}
 
 -- INIT of minor 31 is granted
 pub init_answered : (step settings (begun tree 1) init_frame).0 ≡ init_reply
@@ -64,14 +48,8 @@ init_answered = refl
 
 -- ---- a look-up
 
-abbrev started : MachineState
-started = record (begun tree 1) { phase = Started }
-
 abbrev root_node : Node
 root_node = record { ino = 1; count = 1 }
-
-abbrev lookup_frame : List ℕ
-lookup_frame = (46 ∷ 0 ∷ 0 ∷ 0 ∷ 1 ∷ 0 ∷ 0 ∷ 0 ∷ 2 ∷ 0 ∷ 0 ∷ 0 ∷ 0 ∷ 0 ∷ 0 ∷ 0 ∷ 1 ∷ []) ++ (replicate 23 0 ++ (codes "hello" ++ 0 ∷ []))
 
 abbrev file : Record
 file = file_record (record { sec = 1600000000; nsec = 0 }) (record { mode = 420; uid = 1000; gid = 1000; bytes = codes "hello\n" })
@@ -144,13 +122,6 @@ looked =
     ∙ ap (λ (o : Option (ℕ × Node)). (entered settings tree 2 (node_given started 2 o)).0) (unknown_by (node_of started 2) refl)
     ∙ ap (entry_reply 2) shown_is
 
-abbrev entry_reply_bytes : List ℕ
-entry_reply_bytes =
-    (144 ∷ 0 ∷ 0 ∷ 0 ∷ 0 ∷ 0 ∷ 0 ∷ 0 ∷ 2 ∷ 0 ∷ 0 ∷ 0 ∷ 0 ∷ 0 ∷ 0 ∷ 0 ∷ 2 ∷ []) ++ (replicate 15 0 ++ ((1 ∷ 0 ∷ 0 ∷ 0 ∷ 0 ∷ 0 ∷ 0 ∷ 0 ∷ 1 ∷ []) ++ (replicate 15 0
-    ++ ((2 ∷ 0 ∷ 0 ∷ 0 ∷ 0 ∷ 0 ∷ 0 ∷ 0 ∷ 6 ∷ 0 ∷ 0 ∷ 0 ∷ 0 ∷ 0 ∷ 0 ∷ 0 ∷ 1 ∷ 0 ∷ 0 ∷ 0 ∷ 0 ∷ 0 ∷ 0 ∷ 0 ∷ [])
-    ++ ((0 ∷ 16 ∷ 94 ∷ 95 ∷ 0 ∷ 0 ∷ 0 ∷ 0 ∷ 0 ∷ 16 ∷ 94 ∷ 95 ∷ 0 ∷ 0 ∷ 0 ∷ 0 ∷ 0 ∷ 16 ∷ 94 ∷ 95 ∷ []) ++ (replicate 16 0
-    ++ (164 ∷ 129 ∷ 0 ∷ 0 ∷ 1 ∷ 0 ∷ 0 ∷ 0 ∷ 232 ∷ 3 ∷ 0 ∷ 0 ∷ 232 ∷ 3 ∷ 0 ∷ 0 ∷ 0 ∷ 0 ∷ 0 ∷ 0 ∷ 0 ∷ 16 ∷ 0 ∷ 0 ∷ 0 ∷ 0 ∷ 0 ∷ 0 ∷ [])))))))
-
 entry_spelled : answer_bytes lookup_frame (EntryOf 2 shown) ≡ entry_reply_bytes
 unfolding u32_at u64_at reply reply_head entry_body attr_bytes u32s u64s shown
 entry_spelled = refl
@@ -171,19 +142,6 @@ lookup_answered =
     ∙ ap (answer_bytes lookup_frame) looked ∙ entry_spelled
 
 -- ---- attributes of the node that the look-up gave
-
-abbrev getattr_frame : List ℕ
-getattr_frame = (56 ∷ 0 ∷ 0 ∷ 0 ∷ 3 ∷ 0 ∷ 0 ∷ 0 ∷ 3 ∷ 0 ∷ 0 ∷ 0 ∷ 0 ∷ 0 ∷ 0 ∷ 0 ∷ 2 ∷ []) ++ replicate 39 0
-
-abbrev with_hello : MachineState
-with_hello = record started { nodes = insert started.nodes 2 (record { ino = 2; count = 1 }); next = 3 }
-
-abbrev attr_reply_bytes : List ℕ
-attr_reply_bytes =
-    (120 ∷ 0 ∷ 0 ∷ 0 ∷ 0 ∷ 0 ∷ 0 ∷ 0 ∷ 3 ∷ 0 ∷ 0 ∷ 0 ∷ 0 ∷ 0 ∷ 0 ∷ 0 ∷ 1 ∷ []) ++ (replicate 15 0
-    ++ ((2 ∷ 0 ∷ 0 ∷ 0 ∷ 0 ∷ 0 ∷ 0 ∷ 0 ∷ 6 ∷ 0 ∷ 0 ∷ 0 ∷ 0 ∷ 0 ∷ 0 ∷ 0 ∷ 1 ∷ 0 ∷ 0 ∷ 0 ∷ 0 ∷ 0 ∷ 0 ∷ 0 ∷ [])
-    ++ ((0 ∷ 16 ∷ 94 ∷ 95 ∷ 0 ∷ 0 ∷ 0 ∷ 0 ∷ 0 ∷ 16 ∷ 94 ∷ 95 ∷ 0 ∷ 0 ∷ 0 ∷ 0 ∷ 0 ∷ 16 ∷ 94 ∷ 95 ∷ []) ++ (replicate 16 0
-    ++ (164 ∷ 129 ∷ 0 ∷ 0 ∷ 1 ∷ 0 ∷ 0 ∷ 0 ∷ 232 ∷ 3 ∷ 0 ∷ 0 ∷ 232 ∷ 3 ∷ 0 ∷ 0 ∷ 0 ∷ 0 ∷ 0 ∷ 0 ∷ 0 ∷ 16 ∷ 0 ∷ 0 ∷ 0 ∷ 0 ∷ 0 ∷ 0 ∷ [])))))
 
 getattr_asked : asked Started getattr_frame ≡ Ok (getattr None)
 unfolding u32_at u64_at request_of request_in getattr_of

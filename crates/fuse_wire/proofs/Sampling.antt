@@ -1,0 +1,94 @@
+-- Worked examples: requests, replies and cuts, byte for byte.
+use Rattle.std.proofs.Common.{◌≡◌, ℕ, ◌+◌, List, [], ◌∷◌, ◌++◌, length, replicate, Some, None, Ok, Err, codes, refl}
+use Rattle.fuse_wire.specs.declared.attr.FileAttr.{FileAttr}
+use Rattle.fuse_wire.specs.Fields.{u32_at, u64_at}
+use Rattle.fuse_wire.specs.Request.{request_of, request_in, name_at, only_name, init_of, lookup_of, getattr_of}
+use Rattle.fuse_wire.specs.Request.Request.{init, lookup, getattr}
+use Rattle.fuse_wire.specs.Reply.{u32s, u64s, reply, reply_head, attr_bytes, entry_body, attr_body, init_body}
+use Rattle.fuse_wire.specs.Samples.{file, framed, least, init_bytes, entry_bytes, attr_reply}
+use Rattle.fuse_wire.specs.Cuts.{cut, front, is_allowed}
+use Rattle.fuse_wire.specs.Cuts.End.{done, turns_spent, torn, bad_length}
+
+-- ---- replies to INIT, LOOKUP and GETATTR of a small file
+
+pub begun : reply 1 0 (init_body 31 131072) ≡ init_bytes
+unfolding reply reply_head init_body u32s u64s
+begun = refl
+
+pub entered : reply 2 0 (entry_body 2 file) ≡ entry_bytes
+unfolding reply reply_head entry_body attr_bytes u32s u64s
+entered = refl
+
+pub shown : reply 3 0 (attr_body file) ≡ attr_reply
+unfolding reply reply_head attr_body attr_bytes u32s u64s
+shown = refl
+
+-- ENOENT is told as its negative in 32 bits
+pub refused : reply 7 2 [] ≡ 16 ∷ 0 ∷ 0 ∷ 0 ∷ 254 ∷ 255 ∷ 255 ∷ 255 ∷ 7 ∷ 0 ∷ 0 ∷ 0 ∷ 0 ∷ 0 ∷ 0 ∷ 0 ∷ []
+unfolding reply reply_head u32s u64s
+refused = refl
+
+-- ---- requests
+
+pub asks_init : request_of (framed 26 (u32s (7 ∷ 31 ∷ 131072 ∷ 3 ∷ []) ++ replicate 48 0)) ≡ Ok (init 7 31 131072 3)
+unfolding framed request_of request_in init_of u32_at u64_at u32s u64s
+asks_init = refl
+
+pub asks_lookup : request_of (framed 1 (codes "hello" ++ 0 ∷ [])) ≡ Ok (lookup (codes "hello"))
+unfolding framed request_of request_in lookup_of only_name name_at u32_at u64_at u32s u64s
+asks_lookup = refl
+
+pub asks_lookup_empty : request_of (framed 1 (0 ∷ [])) ≡ Ok (lookup [])
+unfolding framed request_of request_in lookup_of only_name name_at u32_at u64_at u32s u64s
+asks_lookup_empty = refl
+
+pub asks_getattr : request_of (framed 3 (replicate 8 0 ++ u64s (5 ∷ []))) ≡ Ok (getattr None)
+unfolding framed request_of request_in getattr_of u32_at u64_at u32s u64s
+asks_getattr = refl
+
+pub asks_getattr_of_handle : request_of (framed 3 (u32s (1 ∷ 0 ∷ []) ++ u64s (5 ∷ []))) ≡ Ok (getattr (Some 5))
+unfolding framed request_of request_in getattr_of u32_at u64_at u32s u64s
+asks_getattr_of_handle = refl
+
+-- a name without its zero byte, one with a zero byte inside, and a body that is too long: EINVAL
+pub name_unended : request_of (framed 1 (codes "hello")) ≡ Err 22
+unfolding framed request_of request_in lookup_of only_name name_at u32_at u64_at u32s u64s
+name_unended = refl
+
+pub name_ended_twice : request_of (framed 1 (codes "hel" ++ (0 ∷ (codes "lo" ++ 0 ∷ [])))) ≡ Err 22
+unfolding framed request_of request_in lookup_of only_name name_at u32_at u64_at u32s u64s
+name_ended_twice = refl
+
+pub getattr_too_long : request_of (framed 3 (replicate 17 0)) ≡ Err 22
+unfolding framed request_of request_in getattr_of u32_at u64_at u32s u64s
+getattr_too_long = refl
+
+-- an opcode that isn't served, whatever the body: ENOSYS
+pub unserved : request_of (framed 77 []) ≡ Err 38
+unfolding framed request_of request_in u32_at u64_at u32s u64s
+unserved = refl
+
+-- ---- cuts
+
+-- a frame, and then three bytes
+pub ends_torn : cut 9 (least ++ 1 ∷ 2 ∷ 3 ∷ []) ≡ record { frames = least ∷ []; end = torn }
+unfolding least framed cut front is_allowed u32_at u32s u64s
+ends_torn = refl
+
+-- two frames, the second of which lacks its last byte
+pub ends_short : cut 9 (least ++ (46 ∷ replicate 44 0)) ≡ record { frames = least ∷ []; end = torn }
+unfolding least framed cut front is_allowed u32_at u32s u64s
+ends_short = refl
+
+pub ends_done : cut 9 (least ++ least) ≡ record { frames = least ∷ least ∷ []; end = done }
+unfolding least framed cut front is_allowed u32_at u32s u64s
+ends_done = refl
+
+pub ends_spent : cut 1 (least ++ 1 ∷ []) ≡ record { frames = least ∷ []; end = turns_spent }
+unfolding least framed cut front is_allowed u32_at u32s u64s
+ends_spent = refl
+
+-- a length of 39 is none
+pub ends_bad : cut 9 (39 ∷ replicate 38 0) ≡ record { frames = []; end = bad_length }
+unfolding cut front is_allowed u32_at
+ends_bad = refl
