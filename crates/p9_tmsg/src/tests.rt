@@ -4,6 +4,8 @@ use p9_wire::data::Data;
 use p9_wire::error::WireError;
 use p9_wire::format::WireFormat;
 use port_base::memory::{MemSink, SliceSource};
+use std::alloc::Global;
+use std::process::Abort;
 use std::test::Fail;
 
 // A frame of every type with the tag 0x0102, and its message.
@@ -119,22 +121,27 @@ const FRAMES: [(&[u8], &[u8]); 28] = [
     ),
 ];
 
+// These bytes are read as the message that prints so, and it is spelled by them.
+fn is_spelled(rt: &impl Abort, alloc: Global, bytes: &[u8], text: &[u8]) -> Result<(), Fail> {
+    let mut source = SliceSource::new(bytes);
+    let frame = Tframe::decode(alloc, &mut source)?;
+    assert!(rt; source.is_at_end());
+    assert_eq!(rt; frame.tag, 0x0102);
+    match &frame.msg {
+        Ok(message) => assert_eq!(rt; format!(in alloc; "{message:?}")?.as_bytes(), text),
+        Err(_) => assert!(rt; false),
+    }
+    let mut sink = MemSink::new(alloc);
+    frame.encode(&mut sink)?;
+    assert_eq!(rt; sink.as_bytes(), bytes);
+    Ok(())
+}
+
 #[test]
 fn each_type_has_its_bytes(rt: HostRuntime) -> Result<(), Fail> {
     let alloc = rt.alloc();
     for (bytes, text) in FRAMES {
-        let mut source = SliceSource::new(bytes);
-        let frame = Tframe::decode(alloc, &mut source)?;
-        assert!(rt; source.is_at_end(), "{bytes:?}");
-        assert_eq!(rt; frame.tag, 0x0102, "{bytes:?}");
-        match &frame.msg {
-            Ok(message) => assert_eq!(rt; format!(in alloc; "{message:?}")?.as_bytes(), text),
-            Err(fault) => assert!(rt; false, "{bytes:?} is {fault:?}"),
-        }
-        let mut sink = MemSink::new(alloc);
-        frame.encode(&mut sink)?;
-        assert_eq!(rt; sink.as_bytes(), bytes, "{bytes:?}");
-        assert_eq!(rt; frame.byte_size() as usize, bytes.len(), "{bytes:?}");
+        is_spelled(&rt, alloc, bytes, text)?;
     }
     Ok(())
 }
@@ -163,21 +170,27 @@ const MALFORMED: [(&[u8], WireError); 8] = [
     ),
 ];
 
+// These bytes are read to their end as a frame whose body has this fault, and which doesn't fit.
+fn is_malformed(rt: &impl Abort, alloc: Global, bytes: &[u8], want: WireError) -> Result<(), Fail> {
+    let mut source = SliceSource::new(bytes);
+    let frame = Tframe::decode(alloc, &mut source)?;
+    assert!(rt; source.is_at_end());
+    assert_eq!(rt; frame.tag, 1);
+    assert_eq!(rt; frame.msg.as_ref().err(), Some(&want));
+    let mut sink = MemSink::new(alloc);
+    assert_eq!(rt;
+        frame.encode(&mut sink).err(),
+        Some(WireError::InvalidInput)
+    );
+    assert!(rt; sink.as_bytes().is_empty());
+    Ok(())
+}
+
 #[test]
 fn malformed_bodies_are_told_and_drained(rt: HostRuntime) -> Result<(), Fail> {
     let alloc = rt.alloc();
     for (bytes, want) in MALFORMED {
-        let mut source = SliceSource::new(bytes);
-        let frame = Tframe::decode(alloc, &mut source)?;
-        assert!(rt; source.is_at_end(), "{bytes:?}");
-        assert_eq!(rt; frame.tag, 1, "{bytes:?}");
-        assert_eq!(rt; frame.msg.as_ref().err(), Some(&want), "{bytes:?}");
-        let mut sink = MemSink::new(alloc);
-        assert_eq!(rt;
-            frame.encode(&mut sink).err(),
-            Some(WireError::InvalidInput)
-        );
-        assert!(rt; sink.as_bytes().is_empty());
+        is_malformed(&rt, alloc, bytes, want)?;
     }
     Ok(())
 }
@@ -205,31 +218,44 @@ fn sizes_have_bounds(rt: HostRuntime) -> Result<(), Fail> {
     Ok(())
 }
 
+// A frame that is longer than what is read at once.
+fn long_frame(alloc: Global) -> Result<Tframe, Fail> {
+    let payload = Data(vec![in alloc; 5u8; 200000]?);
+    Ok(Tframe {
+        tag: 3,
+        msg: Ok(Tmessage::Write(Twrite {
+            fid: 1,
+            offset: 2,
+            payload,
+        })),
+    })
+}
+
+fn spelled(alloc: Global, frame: &Tframe) -> Result<MemSink, Fail> {
+    let mut sink = MemSink::new(alloc);
+    frame.encode(&mut sink)?;
+    Ok(sink)
+}
+
+fn long_bytes(alloc: Global) -> Result<MemSink, Fail> {
+    let frame = long_frame(alloc)?;
+    spelled(alloc, &frame)
+}
+
+// The bytes of what these bytes are read as.
+fn spelled_again(alloc: Global, bytes: &[u8]) -> Result<MemSink, Fail> {
+    let mut source = SliceSource::new(bytes);
+    let frame = Tframe::decode(alloc, &mut source)?;
+    spelled(alloc, &frame)
+}
+
 #[test]
 fn a_long_frame_comes_in_pieces(rt: HostRuntime) -> Result<(), Fail> {
     let alloc = rt.alloc();
-    let message = Tmessage::Write(Twrite {
-        fid: 1,
-        offset: 2,
-        payload: Data(vec![in alloc; 5u8; 200000]?),
-    });
-    let frame = Tframe {
-        tag: 3,
-        msg: Ok(message),
-    };
-    let mut sink = MemSink::new(alloc);
-    frame.encode(&mut sink)?;
-    assert_eq!(rt; sink.as_bytes().len(), 200023);
-    let mut source = SliceSource::new(sink.as_bytes());
-    let again = Tframe::decode(alloc, &mut source)?;
-    match &again.msg {
-        Ok(Tmessage::Write(write)) => {
-            assert_eq!(rt; write.fid, 1);
-            assert_eq!(rt; write.offset, 2);
-            assert!(rt; write.payload == Data(vec![in alloc; 5u8; 200000]?));
-        }
-        _ => assert!(rt; false),
-    }
+    let bytes = long_bytes(alloc)?;
+    assert_eq!(rt; bytes.as_bytes().len(), 200023);
+    let again = spelled_again(alloc, bytes.as_bytes())?;
+    assert!(rt; again.as_bytes() == bytes.as_bytes());
     Ok(())
 }
 
