@@ -13,10 +13,10 @@ use Rattle.tree_machine.specs.Messages.{gone}
 use Rattle.tree_machine.specs.Good.{IsGoodMachine}
 use Rattle.tree_machine.proofs.Nodes.{recounted, node_gone, len_fewer}
 
-abbrev with_count : MachineState → ℕ → ℕ → Node → MachineState
+abbrev pub with_count : MachineState → ℕ → ℕ → Node → MachineState
 with_count m node number n = record m { nodes = insert m.nodes node (record { ino = n.ino; count = n.count - number }) }
 
-abbrev without : MachineState → ℕ → MachineState
+abbrev pub without : MachineState → ℕ → MachineState
 without m node = record m { nodes = remove m.nodes node }
 
 ne_test : (a b : ℕ) → (a == b) ≡ false → a ≢ b

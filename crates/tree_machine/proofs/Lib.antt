@@ -10,3 +10,4 @@ pub mod First
 pub mod Sampling
 pub mod FileSampling
 pub mod Pieces
+pub mod Batches

@@ -4,7 +4,7 @@ ghost use Rattle.tree_model.specs.Tree.{Tree};
 ghost use Rattle.tree_model.specs.Good.{IsGoodTree};
 ghost use Rattle.tree_model.specs.Finding.{root_of};
 ghost use Rattle.tree_model.specs.Settings.{Settings};
-ghost use Rattle.tree_machine.specs.State.{MachineState, begun};
+ghost use Rattle.tree_machine.specs.State.{MachineState, begun, settled};
 ghost use Rattle.tree_machine.specs.Forgetting.{forgotten, all_forgotten};
 ghost use Rattle.tree_machine.specs.Messages.{pieces, gone};
 ghost use Rattle.tree_machine.specs.Step.{step};
@@ -38,9 +38,12 @@ pub fn readings_go_piece_by_piece()
     ensures more { (piece asked there : ℕ) → 1 ≤ piece → piece < asked → piece ≤ there → there ≤ asked → pieces piece asked there ≡ 1 + pieces piece (asked - piece) (there - piece) }
 {}
 
-/// The nodes that go with a batch are those of its first pair and those of the others.
-#[tactic(auto, using(crate::proofs::Forgetting::gone_then))]
+/// The nodes that go with a batch are those of its first pair and those of the others; and the records that nothing
+/// names may go before the pairs, too: the same is left.
+#[tactic(auto, using(crate::proofs::Forgetting::gone_then, crate::proofs::Batches::settled_between, crate::proofs::Batches::gone_between))]
 pub fn batches_go_pair_by_pair()
-    ensures { (m : MachineState) (p : ℕ × ℕ) (ps : List (ℕ × ℕ)) →
+    ensures counted { (m : MachineState) (p : ℕ × ℕ) (ps : List (ℕ × ℕ)) →
         gone m (all_forgotten m (p ∷ ps)) ≡ gone m (forgotten m p.0 p.1) + gone (forgotten m p.0 p.1) (all_forgotten (forgotten m p.0 p.1) ps) }
+    ensures kept { (m : MachineState) (ps : List (ℕ × ℕ)) → IsGoodTree m.tree → settled (all_forgotten (settled m) ps) ≡ settled (all_forgotten m ps) }
+    ensures kept_counted { (m : MachineState) (ps : List (ℕ × ℕ)) → gone (settled m) (all_forgotten (settled m) ps) ≡ gone m (all_forgotten m ps) }
 {}
