@@ -1,16 +1,15 @@
 -- A batch goes pair by pair: the records may go after each pair, or after the last.
-use Rattle.std.proofs.Common.{◌≡◌, ℕ, ◌+◌, ◌-◌, ◌<◌, ◌≤◌, Bool, true, false, cond, ◌||◌, List, [], ◌∷◌, refl, sym, ap, ◌∙◌, Option, Some, None, arith, nat_lt, nat_le}
+use Rattle.std.proofs.Common.{◌≡◌, ℕ, ◌+◌, ◌-◌, ◌≤◌, Bool, true, false, cond, ◌||◌, List, [], ◌∷◌, refl, sym, ap, ◌∙◌, Option, Some, None, arith, nat_lt, nat_le}
 use Rattle.std.specs.Prelude.{◌==◌}
 use Rattle.std.proofs.lemmas.Bool.Decides.{nat_tests}
-use Rattle.std.specs.Ordering.{nat_cmp}
-use Rattle.std.specs.FinMap.{FinMap, get, insert, remove, retain_keys, entries}
-use Rattle.tree_model.specs.Tree.{Tree, Record, Records, is_linked, weigh, weight, keep}
+use Rattle.std.specs.FinMap.{get, entries}
+use Rattle.tree_model.specs.Tree.{Tree, Records, is_linked, weigh, weight, keep}
 use Rattle.tree_model.specs.Good.{IsGoodTree}
 use Rattle.tree_model.proofs.Maps.{retained, same_gets}
 use Rattle.tree_model.proofs.Counting.{weigh-insert, weigh-remove}
 use Rattle.tree_model.proofs.Keeping.{retained-is_linked}
-use Rattle.tree_machine.specs.State.{MachineState, Node, Handle, is_named, node_weight, handle_weight, settled, ROOT_NODE}
-use Rattle.tree_machine.specs.Forgetting.{less_by, less_where, forgotten, all_forgotten}
+use Rattle.tree_machine.specs.State.{MachineState, Node, is_named, node_weight, settled, ROOT_NODE}
+use Rattle.tree_machine.specs.Forgetting.{less_where, forgotten, all_forgotten}
 use Rattle.tree_machine.specs.Messages.{gone}
 use Rattle.tree_machine.proofs.Forgetting.{with_count, without}
 

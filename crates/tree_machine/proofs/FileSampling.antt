@@ -4,7 +4,7 @@ use Rattle.std.specs.Prelude.{codes, drop, min, is_some, option_map, nat_le, ◌
 use Rattle.std.specs.Ordering.{nat_cmp}
 use Rattle.std.specs.Cmp.{nat_cmp_total}
 use Rattle.std.specs.FinMap.{FinMap, get, remove, empty, len, len-insert, len-empty, get-empty}
-use Rattle.port_base.specs.declared.errno.TheConstants.{EISDIR, ENFILE}
+use Rattle.port_base.specs.declared.errno.TheConstants.{EBADF, EISDIR, ENFILE, ENOSYS, ESTALE}
 use Rattle.tree_model.specs.Tree.{Record, body_at, is_directory_at}
 use Rattle.tree_model.specs.Attributes.{kind_of}
 use Rattle.tree_model.specs.Opening.{asked as asked_of, unless, open_refused, open_check_of, read_body}
@@ -21,8 +21,8 @@ use Rattle.tree_machine.specs.Forgetting.{less_where, forgotten, all_forgotten, 
 use Rattle.tree_machine.specs.Step.{step, asked, answer_bytes, core_of}
 use Rattle.tree_machine.specs.Messages.{messages, request_messages, open_node_messages, opened_messages, read_messages, one_where, gone}
 use Rattle.tree_machine.specs.Samples.{tree, settings, started, with_hello}
-use Rattle.tree_machine.specs.FileSamples.{open_frame, open_reply, with_open, read_frame, read_reply, release_frame, release_reply, with_closed, forget_frame, with_none, batch_frame}
-use Rattle.tree_machine.proofs.Sampling.{file, file_at, root_node}
+use Rattle.tree_machine.specs.FileSamples.{open_frame, open_reply, with_open, read_frame, read_reply, release_frame, release_reply, with_closed, forget_frame, with_none, thrice_given, batch_frame}
+use Rattle.tree_machine.proofs.Sampling.{file, file_at, root_node, top_at}
 use Rattle.tree_machine.proofs.Forgetting.{gone_one}
 
 abbrev hello_node : Node
@@ -36,6 +36,11 @@ hello_known = inserted started.nodes 2 hello_node
 
 hello_unknown : get started.nodes 2 ≡ None
 hello_unknown = insert_keeps empty 1 root_node 2 (λ h. absurd (omega (arith, h))) ∙ get-empty {X = Node} nat_cmp 2
+
+nine_unknown : get with_hello.nodes 9 ≡ None
+nine_unknown =
+    insert_keeps started.nodes 2 hello_node 9 (λ h. absurd (omega (arith, h)))
+    ∙ insert_keeps empty 1 root_node 9 (λ h. absurd (omega (arith, h))) ∙ get-empty {X = Node} nat_cmp 9
 
 is_open : get with_open.handles 3 ≡ Some hello_handle
 is_open = inserted with_hello.handles 3 hello_handle
@@ -87,6 +92,37 @@ open_counted =
     ∙ ap (λ (o : Option Node). open_node_messages settings with_hello 0 o) hello_known
     ∙ ap (λ (b : Bool). cond {A = ℕ} b 0 (cond (is_directory_at (body_at tree.records 2)) 0 (opened_messages (open_check_of tree 2 0)))) open_limit
     ∙ ap (λ (o : Option Record). cond {A = ℕ} (is_directory_at (option_map (λ (r : Record). r.body) o)) 0 (opened_messages (asked_of (λ b. unless (open_refused 0 (kind_of b))) (option_map (λ (r : Record). r.body) o)))) file_at
+
+-- flags that aren't served come first, then a node that isn't there, then a directory
+pub open_flagged : (core settings with_hello 9 (Ok (open_file 1))).0 ≡ Refused ENOSYS
+open_flagged = refl
+
+pub open_cut : (core settings with_hello 9 (Ok (open_file 512))).0 ≡ Refused ENOSYS
+open_cut = refl
+
+pub open_unknown : (core settings with_hello 9 (Ok (open_file 0))).0 ≡ Refused ESTALE
+open_unknown = ap (λ (o : Option Node). (open_node settings with_hello 0 o).0) nine_unknown
+
+root_known : get with_hello.nodes 1 ≡ Some root_node
+root_known = insert_keeps started.nodes 2 hello_node 1 (λ h. absurd (omega (arith, h))) ∙ inserted empty 1 root_node
+
+pub open_directory : (core settings with_hello 1 (Ok (open_file 0))).0 ≡ Refused EISDIR
+open_directory =
+    ap (λ (o : Option Node). (open_node settings with_hello 0 o).0) root_known
+    ∙ ap (λ (b : Bool). (cond {A = Reply × MachineState} b (Refused ENFILE, with_hello) (cond (is_directory_at (body_at tree.records 1)) (Refused EISDIR, with_hello) (opened with_hello 1 0 (open_check_of tree 1 0)))).0) open_limit
+    ∙ ap (λ (o : Option Record). (cond {A = Reply × MachineState} (is_directory_at (option_map (λ (r : Record). r.body) o)) (Refused EISDIR, with_hello) (opened with_hello 1 0 (open_check_of tree 1 0))).0) top_at
+
+nine_closed : get with_open.handles 9 ≡ None
+nine_closed = insert_keeps with_hello.handles 3 hello_handle 9 (λ h. absurd (omega (arith, h))) ∙ get-empty {X = Handle} nat_cmp 9
+
+pub read_unknown : (core settings with_open 2 (Ok (read 9 0 4 0 None))).0 ≡ Refused EBADF
+read_unknown = ap (read_core with_open 0 4) nine_closed
+
+pub flush_unknown : (core settings with_open 2 (Ok (flush 9))).0 ≡ Refused EBADF
+flush_unknown = ap flush_core nine_closed
+
+pub release_unknown : core settings with_open 2 (Ok (release 9)) ≡ (Refused EBADF, with_open)
+release_unknown = ap (release_core with_open 9) nine_closed
 
 -- ---- READ
 
@@ -200,11 +236,6 @@ batch_pairs : pairs_of (drop 48 batch_frame) ≡ three_pairs
 unfolding u64_at
 batch_pairs = refl
 
-nine_unknown : get with_hello.nodes 9 ≡ None
-nine_unknown =
-    insert_keeps started.nodes 2 hello_node 9 (λ h. absurd (omega (arith, h)))
-    ∙ insert_keeps empty 1 root_node 9 (λ h. absurd (omega (arith, h))) ∙ get-empty {X = Node} nat_cmp 9
-
 batch_gone : all_forgotten with_hello three_pairs ≡ with_none
 batch_gone = ap (λ (o : Option Node). forgotten (forgotten (less_where with_hello 9 1 o) 1 5) 2 1) nine_unknown ∙ gone_again
 
@@ -224,3 +255,13 @@ pub batch_counted : messages 4341 settings with_hello batch_frame ≡ 1
 batch_counted =
     ap (λ r. request_messages 4341 settings with_hello (head_of batch_frame).nodeid r) batch_asked
     ∙ ap (gone with_hello) (batch_by (drop 48 batch_frame) batch_pairs) ∙ one_gone
+
+-- ---- a node that was given three times
+
+three_known : get thrice_given.nodes 2 ≡ Some (record { ino = 2; count = 3 })
+three_known = inserted started.nodes 2 (record { ino = 2; count = 3 })
+
+pub counted_down : get (forgotten thrice_given 2 2).nodes 2 ≡ Some (record { ino = 2; count = 1 })
+counted_down =
+    ap (λ (o : Option Node). get (less_where thrice_given 2 2 o).nodes 2) three_known
+    ∙ inserted thrice_given.nodes 2 (record { ino = 2; count = 1 })

@@ -2,6 +2,8 @@ pub mod Settling
 pub mod Nodes
 pub mod Looking
 pub mod Handles
+pub mod Opening
+pub mod Releasing
 pub mod Forgetting
 pub mod Steps
 pub mod Hurting

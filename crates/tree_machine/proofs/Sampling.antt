@@ -55,7 +55,7 @@ file = file_record (record { sec = 1600000000; nsec = 0 }) (record { mode = 420;
 abbrev first_records : Records
 first_records = (new_tree (record { file = 1048576; entries = 65536; links = 65000 }) (record { sec = 1700000000; nsec = 5 }) (record { sec = 1600000000; nsec = 0 }) 493 0 0).records
 
-abbrev top_record : Record
+abbrev pub top_record : Record
 top_record = record { body = Directory [] 1 1; mode = 493; uid = 0; gid = 0; links = 2; atime = record { sec = 1600000000; nsec = 0 }; mtime = record { sec = 1600000000; nsec = 0 }; ctime = record { sec = 1600000000; nsec = 0 } }
 
 abbrev with_file_alone : Records
@@ -67,7 +67,7 @@ top_first = insert_keeps first_records 2 file 1 (λ h. absurd (omega (arith, h))
 records_are : tree.records ≡ insert with_file_alone 1 (joined_by (codes "hello") 2 top_record)
 records_are = ap (λ o. changed (joined_by (codes "hello") 2) o with_file_alone 1) top_first
 
-top_at : get tree.records 1 ≡ Some (joined_by (codes "hello") 2 top_record)
+pub top_at : get tree.records 1 ≡ Some (joined_by (codes "hello") 2 top_record)
 top_at = ap (λ (rs : Records). get rs 1) records_are ∙ inserted with_file_alone 1 (joined_by (codes "hello") 2 top_record)
 
 pub file_at : get tree.records 2 ≡ Some file

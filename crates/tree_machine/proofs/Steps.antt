@@ -15,7 +15,8 @@ use Rattle.tree_machine.proofs.Settling.{Gives, choice}
 pub use Rattle.tree_machine.proofs.Settling.{settles}
 pub use Rattle.tree_machine.proofs.Nodes.{given_good}
 use Rattle.tree_machine.proofs.Looking.{lookup_good}
-use Rattle.tree_machine.proofs.Handles.{open_good, release_good}
+use Rattle.tree_machine.proofs.Opening.{open_good}
+use Rattle.tree_machine.proofs.Releasing.{release_good}
 use Rattle.tree_machine.proofs.Forgetting.{forgotten_good, all_forgotten_good}
 
 module _ (s : Settings) where

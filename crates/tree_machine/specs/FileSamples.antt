@@ -45,6 +45,10 @@ forget_frame = (48 ∷ 0 ∷ 0 ∷ 0 ∷ 2 ∷ 0 ∷ 0 ∷ 0 ∷ 7 ∷ 0 ∷ 0 �
 abbrev pub with_none : MachineState
 with_none = record with_hello { nodes = started.nodes }
 
+-- node 2 was given three times
+abbrev pub thrice_given : MachineState
+thrice_given = record with_hello { nodes = insert started.nodes 2 (record { ino = 2; count = 3 }) }
+
 -- a batch of three pairs: a node that isn't there, the root, and node 2
 abbrev pub batch_frame : List ℕ
 batch_frame =

@@ -1,11 +1,15 @@
 //! The first example, computed. Each function makes no call: its contract is the example.
-ghost use Rattle.std.specs.Prelude.{◌≡◌, Ok, None, [], codes};
+ghost use Rattle.std.specs.Prelude.{◌≡◌, true, false, Ok, Some, None, [], codes};
+ghost use Rattle.std.specs.FinMap as map;
+ghost use Rattle.port_base.specs.declared.errno.TheConstants.{EBADF, EISDIR, ENOSYS, ESTALE};
 ghost use Rattle.tree_machine.specs.State.{begun};
-ghost use Rattle.fuse_wire.specs.Request.{read, flush};
+ghost use Rattle.fuse_wire.specs.Request.{open_file, read, flush, release};
 ghost use Rattle.tree_machine.specs.Core.{core};
-ghost use Rattle.tree_machine.specs.Core.Reply.{BytesOf, Done};
-ghost use Rattle.tree_machine.specs.FileSamples.{open_frame, open_reply, with_open, read_frame, read_reply, release_frame, release_reply, with_closed, forget_frame, with_none, batch_frame};
+ghost use Rattle.tree_machine.specs.Core.Reply.{Refused, BytesOf, Done};
+ghost use Rattle.tree_machine.specs.Forgetting.{forgotten};
+ghost use Rattle.tree_machine.specs.FileSamples.{open_frame, open_reply, with_open, read_frame, read_reply, release_frame, release_reply, with_closed, forget_frame, with_none, thrice_given, batch_frame};
 ghost use Rattle.tree_machine.specs.Messages.{messages, pieces};
+ghost use Rattle.tree_machine.specs.Play.{is_served};
 ghost use Rattle.tree_machine.specs.Step.{step, core_of};
 ghost use Rattle.tree_machine.specs.Samples.{tree, settings, init_frame, init_reply, started, lookup_frame, entry_reply_bytes, getattr_frame, with_hello, attr_reply_bytes};
 
@@ -33,6 +37,25 @@ pub fn hello_is_opened()
     ensures reply { (step settings with_hello open_frame).0 ≡ open_reply }
     ensures state { (core_of settings with_hello open_frame).1 ≡ with_open }
     ensures messages { messages 4341 settings with_hello open_frame ≡ 2 }
+{}
+
+/// OPEN's refusals in order: flags that aren't served, a node that isn't there, a directory.
+#[tactic(auto, using(crate::proofs::FileSampling::open_flagged, crate::proofs::FileSampling::open_cut, crate::proofs::FileSampling::open_unknown, crate::proofs::FileSampling::open_directory))]
+pub fn opens_are_refused()
+    ensures written { (core settings with_hello 9 (Ok (open_file 1))).0 ≡ Refused ENOSYS }
+    ensures cut { (core settings with_hello 9 (Ok (open_file 512))).0 ≡ Refused ENOSYS }
+    ensures unknown { (core settings with_hello 9 (Ok (open_file 0))).0 ≡ Refused ESTALE }
+    ensures directory { (core settings with_hello 1 (Ok (open_file 0))).0 ≡ Refused EISDIR }
+    ensures to_read { is_served (open_file 0) ≡ true }
+    ensures to_write { is_served (open_file 2) ≡ false }
+{}
+
+/// What a handle is asked that isn't open.
+#[tactic(auto, using(crate::proofs::FileSampling::read_unknown, crate::proofs::FileSampling::flush_unknown, crate::proofs::FileSampling::release_unknown))]
+pub fn unknown_handles_are_refused()
+    ensures read { (core settings with_open 2 (Ok (read 9 0 4 0 None))).0 ≡ Refused EBADF }
+    ensures flush { (core settings with_open 2 (Ok (flush 9))).0 ≡ Refused EBADF }
+    ensures release { core settings with_open 2 (Ok (release 9)) ≡ (Refused EBADF, with_open) }
 {}
 
 /// READ of the handle gives bytes from an offset on, at most so many, and no more than are there.
@@ -63,6 +86,12 @@ pub fn hello_is_forgotten()
     ensures batch_silent { (step settings with_hello batch_frame).0 ≡ [] }
     ensures batch_state { (core_of settings with_hello batch_frame).1 ≡ with_none }
     ensures batch_messages { messages 4341 settings with_hello batch_frame ≡ 1 }
+{}
+
+/// A node that was given three times is counted down by two.
+#[tactic(auto, using(crate::proofs::FileSampling::counted_down))]
+pub fn nodes_are_counted_down()
+    ensures { map.get (forgotten thrice_given 2 2).nodes 2 ≡ Some (record { ino = 2; count = 1 }) }
 {}
 
 /// How many pieces a reading takes: of all that was asked for, of less, of nothing.
