@@ -13,3 +13,4 @@ pub mod Sampling
 pub mod FileSampling
 pub mod Pieces
 pub mod Batches
+pub mod Pairs

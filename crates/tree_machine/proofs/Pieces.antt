@@ -20,7 +20,7 @@ fewer piece asked there less = ap (λ b. cond b (there / piece + 1) (max 1 (div_
 whole : (piece asked there : ℕ) → asked ≤ there → pieces piece asked there ≡ max 1 (div_ceil asked piece)
 whole piece asked there all = ap (λ b. cond b (there / piece + 1) (max 1 (div_ceil asked piece))) (lt_false there asked all)
 
-div_more : (a piece : ℕ) → 1 ≤ piece → piece ≤ a → a / piece ≡ (a - piece) / piece + 1
+pub div_more : (a piece : ℕ) → 1 ≤ piece → piece ≤ a → a / piece ≡ (a - piece) / piece + 1
 div_more a piece some long =
     let split : a ≡ (a - piece) + piece = omega (arith, long) in
     ap (λ k. k / piece) split ∙ add-div_right (a - piece) {k = piece} (omega (arith, some))

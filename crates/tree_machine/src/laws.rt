@@ -1,11 +1,11 @@
 //! Laws over runs of the machine. Each function makes no call: its contract is the law.
-ghost use Rattle.std.specs.Prelude.{◌≡◌, ◌+◌, ◌-◌, ◌<◌, ◌≤◌, min, ℕ, List, ◌∷◌, Ok};
+ghost use Rattle.std.specs.Prelude.{◌≡◌, ◌+◌, ◌-◌, ◌<◌, ◌≤◌, min, ℕ, List, [], ◌∷◌, length, take, drop, Ok};
 ghost use Rattle.tree_model.specs.Tree.{Tree};
 ghost use Rattle.tree_model.specs.Good.{IsGoodTree};
 ghost use Rattle.tree_model.specs.Finding.{root_of};
 ghost use Rattle.tree_model.specs.Settings.{Settings};
 ghost use Rattle.tree_machine.specs.State.{MachineState, begun, settled};
-ghost use Rattle.tree_machine.specs.Forgetting.{forgotten, all_forgotten};
+ghost use Rattle.tree_machine.specs.Forgetting.{forgotten, all_forgotten, pair_of, pairs_of};
 ghost use Rattle.tree_machine.specs.Messages.{pieces, gone};
 ghost use Rattle.tree_machine.specs.Step.{step};
 ghost use Rattle.tree_machine.specs.Play.{play_from};
@@ -46,4 +46,11 @@ pub fn batches_go_pair_by_pair()
         gone m (all_forgotten m (p ∷ ps)) ≡ gone m (forgotten m p.0 p.1) + gone (forgotten m p.0 p.1) (all_forgotten (forgotten m p.0 p.1) ps) }
     ensures kept { (m : MachineState) (ps : List (ℕ × ℕ)) → IsGoodTree m.tree → settled (all_forgotten (settled m) ps) ≡ settled (all_forgotten m ps) }
     ensures kept_counted { (m : MachineState) (ps : List (ℕ × ℕ)) → gone (settled m) (all_forgotten (settled m) ps) ≡ gone m (all_forgotten m ps) }
+{}
+
+/// The pairs of a batch: none in fewer than 16 bytes; else that of the first 16, and those of the rest.
+#[tactic(auto, using(crate::proofs::Pairs::no_pair, crate::proofs::Pairs::one_pair))]
+pub fn batches_hold_pairs()
+    ensures none { (bytes : List ℕ) → length bytes < 16 → pairs_of bytes ≡ [] }
+    ensures more { (bytes : List ℕ) → 16 ≤ length bytes → pairs_of bytes ≡ pair_of (take 16 bytes) ∷ pairs_of (drop 16 bytes) }
 {}
