@@ -98,7 +98,9 @@ pub fn nodes_are_counted_down()
 pub fn pieces_are_counted()
     ensures whole { pieces 4341 131072 131072 ≡ 31 }
     ensures even { pieces 4341 8682 8682 ≡ 2 }
+    ensures whole_at_two { pieces 65549 131072 131072 ≡ 2 }
     ensures short { pieces 4341 131072 6 ≡ 1 }
+    ensures short_third { pieces 4341 131072 10000 ≡ 3 }
     ensures full_and_short { pieces 4341 131072 4341 ≡ 2 }
     ensures none { pieces 4341 0 0 ≡ 1 }
 {}
