@@ -2,3 +2,5 @@ pub mod Results
 pub mod Held
 pub mod Adding
 pub mod Striking
+pub mod Writing
+pub mod Making

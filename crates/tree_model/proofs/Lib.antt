@@ -12,5 +12,6 @@ pub mod Linking
 pub mod Joining
 pub mod Altering
 pub mod Attributing
+pub mod Rewriting
 pub mod Reading
 pub mod Sampling
