@@ -13,5 +13,8 @@ pub mod Joining
 pub mod Altering
 pub mod Attributing
 pub mod Rewriting
+pub mod Parting
+pub mod Unlinking
+pub mod Leaving
 pub mod Reading
 pub mod Sampling

@@ -9,6 +9,7 @@ ghost use Rattle.tree_model.specs.Making.{new_tree, NewFile, add_file_of};
 ghost use Rattle.tree_model.specs.Placing.{add_directory_of, add_link_of, add_hard_of};
 ghost use Rattle.tree_model.specs.Attributes.{stat_of};
 ghost use Rattle.tree_model.specs.Attributing.{set_mode_of, set_owner_of, touch_ctime_of, set_times_of, set_len_of, write_of};
+ghost use Rattle.tree_model.specs.Unlinking.{unlink_of};
 ghost use Rattle.tree_model.specs.Reading.{record_after_of};
 ghost use Rattle.tree_model.specs.declared.attributes.Attr.{Attr};
 ghost use Rattle.tree_model.specs.declared.attributes.Stamp.{Stamp};
@@ -99,6 +100,11 @@ pub fn trees_with_another_length_are_good()
 /// A good tree stays good where bytes are written.
 pub fn trees_with_written_bytes_are_good()
     ensures { (t u : Tree) (ino offset count : ℕ) (new : List ℕ) → IsGoodTree t → write_of t ino offset new ≡ Ok (count, u) → IsGoodTree u }
+{}
+
+/// A good tree stays good where a name of a file or a link is taken away, whatever is held.
+pub fn trees_without_a_name_are_good()
+    ensures { (held : ℕ → Bool) (t u : Tree) (dir : ℕ) (name : List ℕ) → IsGoodTree t → unlink_of held t dir name ≡ Ok (tt, u) → IsGoodTree u }
 {}
 
 /// The record that is told next is stored under its number, which is above the one asked for.
