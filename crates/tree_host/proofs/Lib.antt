@@ -4,3 +4,4 @@ pub mod Adding
 pub mod Striking
 pub mod Writing
 pub mod Making
+pub mod Leaving

@@ -8,6 +8,7 @@ ghost use Rattle.std.specs.Result.{result_map_both};
 ghost use Rattle.tree_model.specs.Attributes.{stat_of, statfs_of};
 ghost use Rattle.tree_model.specs.Attributing.{touch_ctime_of, set_mode_of, set_owner_of, set_times_of, set_len_of, write_of};
 ghost use Rattle.tree_model.specs.Reading.{entry_after_of};
+ghost use Rattle.tree_model.specs.Unlinking.{unlink_of};
 ghost use Rattle.tree_model.specs.Opening.{open_check_of, read_of, readlink_of};
 ghost use Rattle.tree_host.specs.Holds.{Holds, hold_count, is_held, held_more, held_less};
 ghost use Rattle.tree_host.specs.Scripts.{Plan, Follows};
@@ -187,6 +188,19 @@ pub trait Host {
         ensures answer { Answers (entry_after_of (tree self.old) dir cookie) result }
         ensures tree { tree self.new ≡ tree self.old }
         ensures holds { holds self.new ≡ holds self.old }
+        ensures cause { Causes (steady self.old) (faults self.old) (faults self.new) result }
+        ensures steady { steady self.new ≡ steady self.old }
+        ensures plan { Follows (plan self.old) (plan self.new) result };
+
+    /// Takes the entry of a name away; what it names has a link less, its ctime becomes the moment, and so do the
+    /// directory's mtime and ctime. What no entry and no hold names is gone then. ENOTDIR for what is no
+    /// directory, ENOENT where no entry has the name, EISDIR where it names a directory. It takes no memory.
+    fn unlink(&mut self, dir: u64, name: &[u8]) -> Result<(), HostError>
+        requires held { 0 < hold_count (holds self.old) dir }
+        requires named { name_fault name.now ≡ None }
+        ensures leaves { Leaves (unlink_of (is_held (holds self.old)) (tree self.old) dir name.now) (tree self.old) (tree self.new) result }
+        ensures holds { holds self.new ≡ holds self.old }
+        ensures memory { result ≢ Err HostError.NoMemory }
         ensures cause { Causes (steady self.old) (faults self.old) (faults self.new) result }
         ensures steady { steady self.new ≡ steady self.old }
         ensures plan { Follows (plan self.old) (plan self.new) result };

@@ -17,7 +17,9 @@ use crate::entry::Entry;
 use crate::holds::{hold, lower};
 use crate::host::Host;
 use crate::node::{Node, TOP};
-use crate::nodes::{entry_after, find_in, open_check, read_link, sweep, walk};
+use crate::nodes::{
+    entry_after, find_file, find_in, open_check, read_link, remove_entry, sweep, walk,
+};
 use crate::script::Script;
 use port_base::errno::ENOENT;
 use port_base::sink::NoMemory;
@@ -278,6 +280,17 @@ impl Host for TreeHost {
             return Err(HostError::Fault);
         }
         entry_after(self.alloc, &self.nodes, dir, cookie)
+    }
+
+    fn unlink(&mut self, dir: u64, name: &[u8]) -> Result<(), HostError> {
+        if self.script.strikes(&mut self.faults) {
+            return Err(HostError::Fault);
+        }
+        let ino = find_file(&self.nodes, dir, name)?;
+        remove_entry(&mut self.nodes, dir, name, ino, self.moment);
+        let holds = &self.holds;
+        sweep(&mut self.nodes, holds, ino);
+        Ok(())
     }
 
     fn readlink(&mut self, ino: u64) -> Result<Vec<u8>, HostError> {

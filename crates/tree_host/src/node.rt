@@ -11,6 +11,7 @@ ghost use Rattle.tree_host.specs.Stored.{body_of};
 mod changing;
 mod making;
 mod opening;
+mod unlinking;
 
 pub use changing::fitting;
 use port_base::errno::{EEXIST, ENOENT, ENOSPC, ENOTDIR};
