@@ -64,10 +64,10 @@ good_parted (File bytes) name e is good named = absurd (false≢true is)
 good_parted (Link target) name e is good named = absurd (false≢true is)
 good_parted (Directory es next above) name e is good named =
     let at = goes_at name es e named in (
-    CookiesRise-without name 1 es next good.0,
-    subst (All (λ e. name_fault e.name ≡ None)) (sym at.2) (All-remove (λ e. name_fault e.name ≡ None) es at.0 good.1),
-    subst (AllPairs (λ e f. e.name ≢ f.name)) (sym at.2) (all_pairs_remove (λ e f. e.name ≢ f.name) es at.0 at.1 good.2),
-  )
+      CookiesRise-without name 1 es next good.0,
+      subst (All (λ e. name_fault e.name ≡ None)) (sym at.2) (All-remove (λ e. name_fault e.name ≡ None) es at.0 good.1),
+      subst (AllPairs (λ e f. e.name ≢ f.name)) (sym at.2) (all_pairs_remove (λ e f. e.name ≢ f.name) es at.0 at.1 good.2),
+    )
 
 -- ---- by the place of the name
 

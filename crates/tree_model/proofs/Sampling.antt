@@ -7,7 +7,7 @@ use Rattle.std.specs.FinMap.{get, insert, empty, get-empty, retain_keys}
 use Rattle.port_base.specs.declared.errno.TheConstants.{ENOENT, ENOTDIR, EISDIR, EINVAL, EFBIG}
 use Rattle.tree_model.specs.declared.attributes.Kind.TheVariants as kind
 use Rattle.tree_model.specs.declared.attributes.TimeSet.{TimeSet}
-use Rattle.tree_model.specs.Tree.{Tree, Record, Records, Body, body_at, linked, is_linked}
+use Rattle.tree_model.specs.Tree.{Tree, Record, Records, Body, body_at, is_directory_at, linked, keep, is_linked}
 use Rattle.tree_model.specs.Tree.Body.{File}
 use Rattle.tree_model.specs.Finding.{lookup_of, path_names, ino_among, entries_of, find}
 use Rattle.tree_model.specs.Attributes.{stat_of, attr_or_missing, kind_of}
@@ -16,6 +16,7 @@ use Rattle.tree_model.specs.Samples.{born, limits, alone, hello, world, sample}
 use Rattle.tree_model.specs.Opening.{asked, unless, open_refused, open_check_of, read_body, read_of, readlink_body, readlink_of, if_told, walk_to, found_at}
 use Rattle.tree_model.specs.Placing.{placed, placed_unless, link_refused, linked_unless, add_hard_of}
 use Rattle.tree_model.specs.Attributing.{changing, rewritten_at, resized, refused_at, refused_unless_file, set_len_of, write_of, write_refused, fitting, overwritten_at, set_times_of, times_refused, retimed, with_changed}
+use Rattle.tree_model.specs.Unlinking.{unless_directory, unlinked_at, without_entry, unlink_of}
 use Rattle.tree_model.specs.Reading.{peek_entry_of, entry_above, part}
 use Rattle.tree_model.proofs.Maps.{inserted, insert_keeps, retained, same_gets, rewritten}
 use Rattle.tree_model.proofs.Naming.{entry_is_counted}
@@ -178,3 +179,23 @@ write_none = write_file 9 [] ∙ ap (λ (rs : Records). let left : Tree = record
 
 pub time_file : (atime mtime : TimeSet) → set_times_of sample 2 atime mtime ≡ changing tt (retimed atime mtime born) 2 sample (times_refused atime mtime (File (codes "world")))
 time_file atime mtime = ap (λ o. changing tt (retimed atime mtime born) 2 sample (refused_at (times_refused atime mtime) o)) body_of_file
+
+-- ---- what goes
+
+abbrev gone : (ℕ → Bool) → ℕ → List ℕ → Result ℕ ℕ → Result (Unit {0} × Tree) ℕ
+gone held dir name r = unlinked_at held sample dir name (unless_directory sample.records r)
+
+pub file_gone : (held : ℕ → Bool) → unlink_of held sample 1 hello ≡ Ok (tt, keep held (without_entry sample 1 hello 2))
+file_gone held = ap (gone held 1 hello) found ∙ ap (λ o. unlinked_at held sample 1 hello (cond (is_directory_at o) (Err EISDIR) (Ok 2))) body_of_file
+
+b_missing : lookup_of sample 1 (codes "b") ≡ Err ENOENT
+b_missing = ap (looked_up false (codes "b")) top_at
+
+pub none_gone : (held : ℕ → Bool) → unlink_of held sample 1 (codes "b") ≡ Err ENOENT
+none_gone held = ap (gone held 1 (codes "b")) b_missing
+
+pub none_below : (held : ℕ → Bool) → unlink_of held sample 2 hello ≡ Err ENOTDIR
+none_below held = ap (gone held 2 hello) in_file
+
+pub top_stays : unless_directory sample.records (Ok 1) ≡ Err EISDIR
+top_stays = ap (λ o. cond {A = Result ℕ ℕ} (is_directory_at o) (Err EISDIR) (Ok 1)) body_of_top
