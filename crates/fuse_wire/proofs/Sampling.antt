@@ -2,9 +2,9 @@
 use Rattle.std.proofs.Common.{◌≡◌, ℕ, ◌+◌, List, [], ◌∷◌, ◌++◌, length, replicate, Some, None, Ok, Err, codes, refl}
 use Rattle.fuse_wire.specs.declared.attr.FileAttr.{FileAttr}
 use Rattle.fuse_wire.specs.Fields.{u32_at, u64_at}
-use Rattle.fuse_wire.specs.Request.{request_of, request_in, name_at, only_name, init_of, lookup_of, getattr_of}
-use Rattle.fuse_wire.specs.Request.Request.{init, lookup, getattr}
-use Rattle.fuse_wire.specs.Reply.{u32s, u64s, reply, reply_head, attr_bytes, entry_body, attr_body, init_body}
+use Rattle.fuse_wire.specs.Request.{request_of, request_in, name_at, only_name, init_of, lookup_of, getattr_of, open_of, read_of, handle_of, forget_of, batch_forget_of}
+use Rattle.fuse_wire.specs.Request.Request.{init, lookup, getattr, open_file, read, flush, release, forget, batch_forget}
+use Rattle.fuse_wire.specs.Reply.{u32s, u64s, reply, reply_head, attr_bytes, entry_body, attr_body, init_body, opened_body}
 use Rattle.fuse_wire.specs.Samples.{file, framed, least, init_bytes, entry_bytes, attr_reply}
 use Rattle.fuse_wire.specs.Cuts.{cut, front, is_allowed}
 use Rattle.fuse_wire.specs.Cuts.End.{done, turns_spent, torn, bad_length}
@@ -62,6 +62,39 @@ name_ended_twice = refl
 pub getattr_too_long : request_of (framed 3 (replicate 17 0)) ≡ Err 22
 unfolding framed request_of request_in getattr_of u32_at u64_at u32s u64s
 getattr_too_long = refl
+
+pub asks_open : request_of (framed 14 (u32s (32768 ∷ 0 ∷ []))) ≡ Ok (open_file 32768)
+unfolding framed request_of request_in open_of u32_at u64_at u32s u64s
+asks_open = refl
+
+pub asks_read : request_of (framed 15 (u64s (2 ∷ 4 ∷ []) ++ (u32s (9 ∷ 2 ∷ []) ++ (u64s (7 ∷ []) ++ u32s (1 ∷ 0 ∷ []))))) ≡ Ok (read 2 4 9 1 (Some 7))
+unfolding framed request_of request_in read_of u32_at u64_at u32s u64s
+asks_read = refl
+
+pub asks_flush : request_of (framed 25 (u64s (2 ∷ 0 ∷ 0 ∷ []))) ≡ Ok (flush 2)
+unfolding framed request_of request_in handle_of u32_at u64_at u32s u64s
+asks_flush = refl
+
+pub asks_release : request_of (framed 18 (u64s (2 ∷ 0 ∷ 0 ∷ []))) ≡ Ok (release 2)
+unfolding framed request_of request_in handle_of u32_at u64_at u32s u64s
+asks_release = refl
+
+pub asks_forget : request_of (framed 2 (u64s (3 ∷ []))) ≡ Ok (forget 3)
+unfolding framed request_of request_in forget_of u32_at u64_at u32s u64s
+asks_forget = refl
+
+pub asks_batch_forget : request_of (framed 42 (u32s (1 ∷ 0 ∷ []) ++ u64s (2 ∷ 3 ∷ []))) ≡ Ok (batch_forget (u64s (2 ∷ 3 ∷ [])))
+unfolding framed request_of request_in batch_forget_of u32_at u64_at u32s u64s
+asks_batch_forget = refl
+
+-- two pairs are told, and one is there
+pub batch_too_short : request_of (framed 42 (u32s (2 ∷ 0 ∷ []) ++ u64s (2 ∷ 3 ∷ []))) ≡ Err 22
+unfolding framed request_of request_in batch_forget_of u32_at u64_at u32s u64s
+batch_too_short = refl
+
+pub opened : reply 4 0 (opened_body 2) ≡ 32 ∷ 0 ∷ 0 ∷ 0 ∷ 0 ∷ 0 ∷ 0 ∷ 0 ∷ 4 ∷ 0 ∷ 0 ∷ 0 ∷ 0 ∷ 0 ∷ 0 ∷ 0 ∷ 2 ∷ 0 ∷ 0 ∷ 0 ∷ 0 ∷ 0 ∷ 0 ∷ 0 ∷ 0 ∷ 0 ∷ 0 ∷ 0 ∷ 0 ∷ 0 ∷ 0 ∷ 0 ∷ []
+unfolding reply reply_head opened_body u32s u64s
+opened = refl
 
 -- an opcode that isn't served, whatever the body: ENOSYS
 pub unserved : request_of (framed 77 []) ≡ Err 38

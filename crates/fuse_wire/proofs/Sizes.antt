@@ -1,7 +1,7 @@
 -- How long the bodies of replies are.
 use Rattle.std.proofs.Common.{◌≡◌, ℕ, length, refl}
 use Rattle.fuse_wire.specs.declared.attr.FileAttr.{FileAttr}
-use Rattle.fuse_wire.specs.Reply.{u32s, u64s, attr_bytes, entry_body, attr_body, init_body}
+use Rattle.fuse_wire.specs.Reply.{u32s, u64s, attr_bytes, entry_body, attr_body, init_body, opened_body}
 
 pub length-attr_bytes : (attr : FileAttr) → length (attr_bytes attr) ≡ 88
 unfolding attr_bytes u32s u64s
@@ -18,3 +18,7 @@ length-attr_body attr = refl
 pub length-init_body : (minor max_readahead : ℕ) → length (init_body minor max_readahead) ≡ 64
 unfolding init_body u32s
 length-init_body minor max_readahead = refl
+
+pub length-opened_body : (handle : ℕ) → length (opened_body handle) ≡ 16
+unfolding opened_body u32s u64s
+length-opened_body handle = refl

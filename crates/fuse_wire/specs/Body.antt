@@ -1,7 +1,7 @@
 -- A request that was read, without where its bytes lie.
 use Rattle.std.specs.Prelude.{◌≡◌, ℕ, List, Result, Ok, Err}
 use Rattle.fuse_wire.specs.Head.{head_of}
-use Rattle.fuse_wire.specs.Request.{Request, init, lookup, getattr, request_of}
+use Rattle.fuse_wire.specs.Request.{Request, init, lookup, getattr, open_file, read, flush, release, forget, batch_forget, request_of}
 use Rattle.fuse_wire.specs.declared.ids.Errno.{Errno}
 use Rattle.fuse_wire.specs.declared.request.Body.{Body}
 use Rattle.fuse_wire.specs.declared.request.Body.TheVariants as body
@@ -11,6 +11,12 @@ abbrev pub plain : Body → Request
 plain (body.Init major minor max_readahead flags) = init major minor max_readahead flags
 plain (body.Lookup name) = lookup name.now
 plain (body.GetAttr handle) = getattr handle
+plain (body.OpenFile flags) = open_file flags
+plain (body.Read fh offset size flags lock) = read fh offset size flags lock
+plain (body.Flush fh) = flush fh
+plain (body.Release fh) = release fh
+plain (body.Forget nlookup) = forget nlookup
+plain (body.BatchForget pairs) = batch_forget pairs.now
 
 -- the body that is told, or the error
 abbrev pub Gives : Result Body Errno → Result Request ℕ → Type 0

@@ -43,3 +43,7 @@ unfoldable pub init_body : ℕ → ℕ → List ℕ
 init_body minor max_readahead =
     u32s (FUSE_KERNEL_VERSION ∷ minor ∷ max_readahead ∷ 0 ∷ [])
     ++ (to_le_bytes w16 MAX_BACKGROUND ++ (to_le_bytes w16 CONGESTION_THRESHOLD ++ (u32s (MAX_WRITE ∷ TIME_GRAN ∷ []) ++ replicate 36 0)))
+
+-- `fuse_open_out`: the handle, no flags, and 4 bytes
+unfoldable pub opened_body : ℕ → List ℕ
+opened_body handle = u64s (handle ∷ []) ++ u32s (0 ∷ 0 ∷ [])

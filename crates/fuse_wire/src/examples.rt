@@ -1,8 +1,8 @@
 //! Requests, replies and cuts, byte for byte. Each function makes no call: its contract is the example.
 ghost use Rattle.std.specs.Prelude.{◌≡◌, ◌++◌, [], ◌∷◌, replicate, codes, Some, None, Ok, Err};
 ghost use Rattle.fuse_wire.specs.Request.{request_of};
-ghost use Rattle.fuse_wire.specs.Request.Request.{init, lookup, getattr};
-ghost use Rattle.fuse_wire.specs.Reply.{u32s, u64s, reply, entry_body, attr_body, init_body};
+ghost use Rattle.fuse_wire.specs.Request.Request.{init, lookup, getattr, open_file, read, flush, release, forget, batch_forget};
+ghost use Rattle.fuse_wire.specs.Reply.{u32s, u64s, reply, entry_body, attr_body, init_body, opened_body};
 ghost use Rattle.fuse_wire.specs.Samples.{file, framed, least, init_bytes, entry_bytes, attr_reply};
 ghost use Rattle.fuse_wire.specs.Cuts.{cut};
 ghost use Rattle.fuse_wire.specs.Cuts.End.{done, turns_spent, torn, bad_length};
@@ -24,6 +24,19 @@ pub fn requests()
     ensures unnamed { request_of (framed 1 (0 ∷ [])) ≡ Ok (lookup []) }
     ensures node { request_of (framed 3 (replicate 8 0 ++ u64s (5 ∷ []))) ≡ Ok (getattr None) }
     ensures handle { request_of (framed 3 (u32s (1 ∷ 0 ∷ []) ++ u64s (5 ∷ []))) ≡ Ok (getattr (Some 5)) }
+{}
+
+/// What frames ask on open files, and what forgets ask.
+#[tactic(auto, using(crate::proofs::Sampling::asks_open, crate::proofs::Sampling::asks_read, crate::proofs::Sampling::asks_flush, crate::proofs::Sampling::asks_release, crate::proofs::Sampling::asks_forget, crate::proofs::Sampling::asks_batch_forget, crate::proofs::Sampling::batch_too_short, crate::proofs::Sampling::opened))]
+pub fn files_and_forgets()
+    ensures open { request_of (framed 14 (u32s (32768 ∷ 0 ∷ []))) ≡ Ok (open_file 32768) }
+    ensures read { request_of (framed 15 (u64s (2 ∷ 4 ∷ []) ++ (u32s (9 ∷ 2 ∷ []) ++ (u64s (7 ∷ []) ++ u32s (1 ∷ 0 ∷ []))))) ≡ Ok (read 2 4 9 1 (Some 7)) }
+    ensures flush { request_of (framed 25 (u64s (2 ∷ 0 ∷ 0 ∷ []))) ≡ Ok (flush 2) }
+    ensures release { request_of (framed 18 (u64s (2 ∷ 0 ∷ 0 ∷ []))) ≡ Ok (release 2) }
+    ensures forget { request_of (framed 2 (u64s (3 ∷ []))) ≡ Ok (forget 3) }
+    ensures batch { request_of (framed 42 (u32s (1 ∷ 0 ∷ []) ++ u64s (2 ∷ 3 ∷ []))) ≡ Ok (batch_forget (u64s (2 ∷ 3 ∷ []))) }
+    ensures short { request_of (framed 42 (u32s (2 ∷ 0 ∷ []) ++ u64s (2 ∷ 3 ∷ []))) ≡ Err 22 }
+    ensures opened { reply 4 0 (opened_body 2) ≡ 32 ∷ 0 ∷ 0 ∷ 0 ∷ 0 ∷ 0 ∷ 0 ∷ 0 ∷ 4 ∷ 0 ∷ 0 ∷ 0 ∷ 0 ∷ 0 ∷ 0 ∷ 0 ∷ 2 ∷ 0 ∷ 0 ∷ 0 ∷ 0 ∷ 0 ∷ 0 ∷ 0 ∷ 0 ∷ 0 ∷ 0 ∷ 0 ∷ 0 ∷ 0 ∷ 0 ∷ 0 ∷ [] }
 {}
 
 /// A name without its zero byte, one with a zero byte inside and a body that is too long are EINVAL; an opcode that

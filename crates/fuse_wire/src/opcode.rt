@@ -4,6 +4,14 @@
 pub const FUSE_LOOKUP: u32 = 1;
 /// Asks for attributes.
 pub const FUSE_GETATTR: u32 = 3;
+/// Opens a file.
+pub const FUSE_OPEN: u32 = 14;
+/// Reads a file.
+pub const FUSE_READ: u32 = 15;
+/// Ends a handle.
+pub const FUSE_RELEASE: u32 = 18;
+/// One of the descriptors of a handle was closed.
+pub const FUSE_FLUSH: u32 = 25;
 /// Begins a session.
 pub const FUSE_INIT: u32 = 26;
 
@@ -16,6 +24,9 @@ pub const FUSE_BATCH_FORGET: u32 = 42;
 
 /// A flag of GETATTR: a handle is given.
 pub const FUSE_GETATTR_FH: u32 = 1;
+
+/// A flag of READ: the owner of a lock is given.
+pub const FUSE_READ_LOCKOWNER: u32 = 2;
 
 /// The protocol's major number.
 pub const FUSE_KERNEL_VERSION: u32 = 7;

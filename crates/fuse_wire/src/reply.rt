@@ -1,9 +1,9 @@
 //! Replies.
 ghost use Rattle.std.specs.Prelude.{◌≡◌, ◌+◌, ◌*◌, ◌≤◌, ◌<◌, ◌^◌, ◌++◌, [], length, vec_len, vec_capacity};
-ghost use Rattle.fuse_wire.specs.Reply.{u32s, u64s, negated, reply_head, reply, attr_bytes, entry_body, attr_body, init_body};
+ghost use Rattle.fuse_wire.specs.Reply.{u32s, u64s, negated, reply_head, reply, attr_bytes, entry_body, attr_body, init_body, opened_body};
 
 use crate::attr::FileAttr;
-use crate::ids::{Errno, INodeNo, RequestId};
+use crate::ids::{Errno, FileHandle, INodeNo, RequestId};
 use crate::opcode::FUSE_KERNEL_VERSION;
 
 /// The size of a reply's head (`fuse_out_header` of `fuse.h`), in bytes.
@@ -14,6 +14,11 @@ pub const INIT_OUT_SIZE: usize = 64;
 pub const ENTRY_OUT_SIZE: usize = 128;
 /// The size of shown attributes (`fuse_attr_out` of `fuse.h`), in bytes.
 pub const ATTR_OUT_SIZE: usize = 104;
+
+/// The size of a handle that is given (`fuse_open_out` of `fuse.h`), in bytes.
+pub const OPEN_OUT_SIZE: usize = 16;
+/// The most bytes that a reply has behind its head.
+pub const MAX_BYTES: usize = 131072;
 
 /// The most requests that run in the background, told by INIT.
 pub const MAX_BACKGROUND: u16 = 12;
@@ -155,4 +160,32 @@ pub fn reply_attr(out: &mut Vec<u8>, unique: RequestId, attr: &FileAttr)
     put_u64s(out, &[VALID_SECS]);
     put_u32s(out, &[0, 0]);
     put_attr(out, attr);
+}
+
+/// Appends the reply to a request that is granted without more, 16 bytes.
+pub fn reply_empty(out: &mut Vec<u8>, unique: RequestId)
+    requires { vec_len out.old + OUT_HEADER_SIZE ≤ vec_capacity out.old }
+    ensures { out.new.items ≡ out.old.items ++ reply unique.0 0 [] }
+{
+    put_head(out, unique, 0, 0);
+}
+
+/// Appends the reply that has these bytes, at most 131072.
+pub fn reply_bytes(out: &mut Vec<u8>, unique: RequestId, bytes: &[u8])
+    requires short { length bytes.now ≤ MAX_BYTES }
+    requires room { vec_len out.old + (OUT_HEADER_SIZE + length bytes.now) ≤ vec_capacity out.old }
+    ensures { out.new.items ≡ out.old.items ++ reply unique.0 0 bytes.now }
+{
+    put_head(out, unique, 0, bytes.len() as u32);
+    put(out, bytes);
+}
+
+/// Appends the reply that gives a handle, 32 bytes.
+pub fn reply_opened(out: &mut Vec<u8>, unique: RequestId, handle: FileHandle)
+    requires { vec_len out.old + (OUT_HEADER_SIZE + OPEN_OUT_SIZE) ≤ vec_capacity out.old }
+    ensures { out.new.items ≡ out.old.items ++ reply unique.0 0 (opened_body handle.0) }
+{
+    put_head(out, unique, 0, OPEN_OUT_SIZE as u32);
+    put_u64s(out, &[handle.0]);
+    put_u32s(out, &[0, 0]);
 }

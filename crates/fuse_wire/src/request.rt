@@ -2,18 +2,34 @@
 ghost use Rattle.std.specs.Prelude.{◌≡◌, ◌<◌, ◌≤◌, length, position, IfSome};
 ghost use Rattle.std.specs.Option.{option_map};
 ghost use Rattle.fuse_wire.specs.Body.{plain, Gives, Reads};
-ghost use Rattle.fuse_wire.specs.Request.{is_zero, name_at, only_name, init_of, lookup_of, getattr_of, request_in, request_of};
+ghost use Rattle.fuse_wire.specs.Request.{is_zero, name_at, only_name, init_of, lookup_of, getattr_of, open_of, read_of, handle_of, forget_of, batch_forget_of, flush, release, request_in, request_of};
 
 use crate::fields::{given, u32_at, u64_at};
 use crate::head::{Head, IN_HEADER_SIZE};
 use crate::ids::Errno;
-use crate::opcode::{FUSE_GETATTR, FUSE_GETATTR_FH, FUSE_INIT, FUSE_LOOKUP};
+use crate::opcode::{
+    FUSE_BATCH_FORGET, FUSE_FLUSH, FUSE_FORGET, FUSE_GETATTR, FUSE_GETATTR_FH, FUSE_INIT,
+    FUSE_LOOKUP, FUSE_OPEN, FUSE_READ, FUSE_READ_LOCKOWNER, FUSE_RELEASE,
+};
 use port_base::errno::{EINVAL, ENOSYS};
 
 /// The size of what INIT tells (`fuse_init_in` of `fuse.h` up to its flags), in bytes.
 pub const INIT_IN_SIZE: usize = 16;
 /// The size of GETATTR's body (`fuse_getattr_in` of `fuse.h`), in bytes.
 pub const GETATTR_IN_SIZE: usize = 16;
+
+/// The size of OPEN's body (`fuse_open_in` of `fuse.h`), in bytes.
+pub const OPEN_IN_SIZE: usize = 8;
+/// The size of READ's body (`fuse_read_in` of `fuse.h`), in bytes.
+pub const READ_IN_SIZE: usize = 40;
+/// The size of RELEASE's and of FLUSH's body (`fuse_release_in`, `fuse_flush_in` of `fuse.h`), in bytes.
+pub const RELEASE_IN_SIZE: usize = 24;
+/// The size of FORGET's body (`fuse_forget_in` of `fuse.h`), in bytes.
+pub const FORGET_IN_SIZE: usize = 8;
+/// The size of BATCH_FORGET's body before its pairs (`fuse_batch_forget_in` of `fuse.h`), in bytes.
+pub const BATCH_FORGET_IN_SIZE: usize = 8;
+/// The size of a pair of BATCH_FORGET (`fuse_forget_one` of `fuse.h`), in bytes.
+pub const FORGET_ONE_SIZE: usize = 16;
 
 /// What a request asks, behind its head. Its names are parts of the frame.
 #[derive(Clone, Copy, Debug, PartialEq, Eq)]
@@ -32,6 +48,34 @@ pub enum Body<'a> {
     /// Asks for the attributes of a handle's file, or of the node.
     GetAttr {
         handle: Option<u64>,
+    },
+    /// Opens the node, a file, by the flags of `open(2)`.
+    OpenFile {
+        flags: u32,
+    },
+    /// Reads at most `size` bytes of a handle's file from `offset` on.
+    Read {
+        fh: u64,
+        offset: u64,
+        size: u32,
+        flags: u32,
+        lock: Option<u64>,
+    },
+    /// A descriptor of a handle was closed.
+    Flush {
+        fh: u64,
+    },
+    /// Ends a handle.
+    Release {
+        fh: u64,
+    },
+    /// Counts the node down.
+    Forget {
+        nlookup: u64,
+    },
+    /// Counts nodes down: 16 bytes a pair of a node id and how much less.
+    BatchForget {
+        pairs: &'a [u8],
     },
 }
 
@@ -106,6 +150,87 @@ fn getattr_of(body: &[u8]) -> Option<Body<'_>>
     Some(Body::GetAttr { handle })
 }
 
+#[tactic(auto, unfolding(crate::specs::Request::open_of))]
+fn open_of(body: &[u8]) -> Option<Body<'_>>
+    ensures { option_map plain result ≡ open_of body.now }
+{
+    if body.len() != OPEN_IN_SIZE {
+        return None;
+    }
+    Some(Body::OpenFile {
+        flags: u32_at(body, 0),
+    })
+}
+
+#[tactic(auto, unfolding(crate::specs::Request::read_of))]
+fn read_of(body: &[u8]) -> Option<Body<'_>>
+    ensures { option_map plain result ≡ read_of body.now }
+{
+    if body.len() != READ_IN_SIZE {
+        return None;
+    }
+    let lock = given(u32_at(body, 20), FUSE_READ_LOCKOWNER, u64_at(body, 24));
+    Some(Body::Read {
+        fh: u64_at(body, 0),
+        offset: u64_at(body, 8),
+        size: u32_at(body, 16),
+        flags: u32_at(body, 32),
+        lock,
+    })
+}
+
+// The handle that a body of RELEASE or of FLUSH names.
+#[tactic(auto, unfolding(crate::specs::Request::handle_of))]
+fn handle_of(body: &[u8]) -> Option<u64>
+    ensures { result ≡ handle_of body.now }
+{
+    if body.len() != RELEASE_IN_SIZE {
+        return None;
+    }
+    Some(u64_at(body, 0))
+}
+
+fn flush_of(body: &[u8]) -> Option<Body<'_>>
+    ensures { option_map plain result ≡ option_map flush (handle_of body.now) }
+{
+    let fh = handle_of(body)?;
+    Some(Body::Flush { fh })
+}
+
+fn release_of(body: &[u8]) -> Option<Body<'_>>
+    ensures { option_map plain result ≡ option_map release (handle_of body.now) }
+{
+    let fh = handle_of(body)?;
+    Some(Body::Release { fh })
+}
+
+#[tactic(auto, unfolding(crate::specs::Request::forget_of))]
+fn forget_of(body: &[u8]) -> Option<Body<'_>>
+    ensures { option_map plain result ≡ forget_of body.now }
+{
+    if body.len() != FORGET_IN_SIZE {
+        return None;
+    }
+    Some(Body::Forget {
+        nlookup: u64_at(body, 0),
+    })
+}
+
+#[tactic(auto, unfolding(crate::specs::Request::batch_forget_of))]
+fn batch_forget_of(body: &[u8]) -> Option<Body<'_>>
+    ensures { option_map plain result ≡ batch_forget_of body.now }
+{
+    if body.len() < BATCH_FORGET_IN_SIZE {
+        return None;
+    }
+    let pairs = &body[BATCH_FORGET_IN_SIZE..];
+    let count = u32_at(body, 0) as usize;
+    if pairs.len() != count * FORGET_ONE_SIZE {
+        return None;
+    }
+    Some(Body::BatchForget { pairs })
+}
+
 // The body of a request with this opcode.
 #[tactic(auto, unfolding(crate::specs::Request::request_in))]
 fn body_of(opcode: u32, body: &[u8]) -> Result<Body<'_>, Errno>
@@ -115,6 +240,12 @@ fn body_of(opcode: u32, body: &[u8]) -> Result<Body<'_>, Errno>
         FUSE_LOOKUP => lookup_of(body).ok_or(Errno(EINVAL)),
         FUSE_GETATTR => getattr_of(body).ok_or(Errno(EINVAL)),
         FUSE_INIT => init_of(body).ok_or(Errno(EINVAL)),
+        FUSE_OPEN => open_of(body).ok_or(Errno(EINVAL)),
+        FUSE_READ => read_of(body).ok_or(Errno(EINVAL)),
+        FUSE_FLUSH => flush_of(body).ok_or(Errno(EINVAL)),
+        FUSE_RELEASE => release_of(body).ok_or(Errno(EINVAL)),
+        FUSE_FORGET => forget_of(body).ok_or(Errno(EINVAL)),
+        FUSE_BATCH_FORGET => batch_forget_of(body).ok_or(Errno(EINVAL)),
         _ => Err(Errno(ENOSYS)),
     }
 }

@@ -5,3 +5,4 @@ pub mod Walking
 pub mod Kept
 pub mod TreeHosts
 pub mod Scripts
+pub mod Changing

@@ -1,18 +1,21 @@
 //! What serves a tree of files.
-ghost use Rattle.std.specs.Prelude.{◌≡◌, ◌≢◌, ◌-◌, ◌^◌, ◌<◌, ℕ, Bool, Option, All, length, IfOk, IfErr, OnErr, Some, None, Err, slice_get};
+ghost use Rattle.std.specs.Prelude.{◌≡◌, ◌≢◌, ◌-◌, ◌^◌, ◌<◌, ℕ, Bool, Option, All, length, IfOk, IfErr, OnErr, Some, None, Ok, Err, slice_get};
 ghost use Rattle.port_base.specs.Names.{name_fault};
 ghost use Rattle.tree_model.specs.Tree.{Tree, keep};
 ghost use Rattle.tree_model.specs.Good.{IsGoodTree};
 ghost use Rattle.tree_model.specs.Finding.{root_of, path_names, lookup_of};
-ghost use Rattle.tree_model.specs.Attributes.{stat_of};
+ghost use Rattle.std.specs.Result.{result_map_both};
+ghost use Rattle.tree_model.specs.Attributes.{stat_of, statfs_of};
+ghost use Rattle.tree_model.specs.Attributing.{touch_ctime_of, set_mode_of, set_owner_of, set_times_of, set_len_of, write_of};
 ghost use Rattle.tree_model.specs.Reading.{entry_after_of};
-ghost use Rattle.tree_model.specs.Opening.{open_check_of, read_of};
+ghost use Rattle.tree_model.specs.Unlinking.{unlink_of};
+ghost use Rattle.tree_model.specs.Opening.{open_check_of, read_of, readlink_of};
 ghost use Rattle.tree_host.specs.Holds.{Holds, hold_count, is_held, held_more, held_less};
 ghost use Rattle.tree_host.specs.Scripts.{Plan, Follows};
-ghost use Rattle.tree_host.specs.Host.{IsHeldIn, Answers, Reads, Causes};
+ghost use Rattle.tree_host.specs.Host.{IsHeldIn, Answers, Leaves, Reads, Causes};
 
 use crate::entry::Entry;
-use tree_model::{Attr, HostError};
+use tree_model::{Attr, HostError, Statfs, TimeSet};
 
 /// A tree of files, however it is kept. Callers name inodes by number, and hold each that they go on to
 /// name: a record stays as long as an entry or a hold names it. After an error the tree and the holds are
@@ -115,6 +118,69 @@ pub trait Host {
         ensures steady { steady self.new ≡ steady self.old }
         ensures plan { Follows (plan self.old) (plan self.new) result };
 
+    /// Writes bytes over those of a file from an offset on, as many as end by the limit of a file, and tells how
+    /// many; a gap before them becomes zeros, and mtime and ctime the moment. No bytes change nothing. EISDIR
+    /// for a directory, EINVAL for a link, EFBIG where there are bytes and none ends by the limit.
+    fn write_at(&mut self, ino: u64, offset: u64, bytes: &[u8]) -> Result<usize, HostError>
+        requires { 0 < hold_count (holds self.old) ino }
+        ensures leaves { Leaves (write_of (tree self.old) ino offset bytes.now) (tree self.old) (tree self.new) result }
+        ensures holds { holds self.new ≡ holds self.old }
+        ensures cause { Causes (steady self.old) (faults self.old) (faults self.new) result }
+        ensures steady { steady self.new ≡ steady self.old }
+        ensures plan { Follows (plan self.old) (plan self.new) result };
+
+    /// Cuts a file to a length, or fills it up with zeros; mtime and ctime become the moment. EISDIR for a
+    /// directory, EINVAL for a link, EFBIG above the limit of a file.
+    fn set_len(&mut self, ino: u64, len: u64) -> Result<(), HostError>
+        requires { 0 < hold_count (holds self.old) ino }
+        ensures leaves { Leaves (set_len_of (tree self.old) ino len) (tree self.old) (tree self.new) result }
+        ensures holds { holds self.new ≡ holds self.old }
+        ensures cause { Causes (steady self.old) (faults self.old) (faults self.new) result }
+        ensures steady { steady self.new ≡ steady self.old }
+        ensures plan { Follows (plan self.old) (plan self.new) result };
+
+    /// Gives an inode the permission bits `mode` modulo 4096; ctime becomes the moment. EOPNOTSUPP for a link. It
+    /// takes no memory.
+    fn set_mode(&mut self, ino: u64, mode: u32) -> Result<(), HostError>
+        requires { 0 < hold_count (holds self.old) ino }
+        ensures leaves { Leaves (set_mode_of (tree self.old) ino mode) (tree self.old) (tree self.new) result }
+        ensures holds { holds self.new ≡ holds self.old }
+        ensures memory { result ≢ Err HostError.NoMemory }
+        ensures cause { Causes (steady self.old) (faults self.old) (faults self.new) result }
+        ensures steady { steady self.new ≡ steady self.old }
+        ensures plan { Follows (plan self.old) (plan self.new) result };
+
+    /// Gives an inode the owners that are given; ctime becomes the moment. It takes no memory.
+    fn set_owner(&mut self, ino: u64, uid: Option<u32>, gid: Option<u32>) -> Result<(), HostError>
+        requires { 0 < hold_count (holds self.old) ino }
+        ensures leaves { Leaves (set_owner_of (tree self.old) ino uid gid) (tree self.old) (tree self.new) result }
+        ensures holds { holds self.new ≡ holds self.old }
+        ensures memory { result ≢ Err HostError.NoMemory }
+        ensures cause { Causes (steady self.old) (faults self.old) (faults self.new) result }
+        ensures steady { steady self.new ≡ steady self.old }
+        ensures plan { Follows (plan self.old) (plan self.new) result };
+
+    /// Sets the times of an inode; ctime becomes the moment. EINVAL for a given time whose nanoseconds are a
+    /// second or more. It takes no memory.
+    fn set_times(&mut self, ino: u64, atime: TimeSet, mtime: TimeSet) -> Result<(), HostError>
+        requires { 0 < hold_count (holds self.old) ino }
+        ensures leaves { Leaves (set_times_of (tree self.old) ino atime mtime) (tree self.old) (tree self.new) result }
+        ensures holds { holds self.new ≡ holds self.old }
+        ensures memory { result ≢ Err HostError.NoMemory }
+        ensures cause { Causes (steady self.old) (faults self.old) (faults self.new) result }
+        ensures steady { steady self.new ≡ steady self.old }
+        ensures plan { Follows (plan self.old) (plan self.new) result };
+
+    /// An inode's ctime becomes the moment. It takes no memory.
+    fn touch_ctime(&mut self, ino: u64) -> Result<(), HostError>
+        requires { 0 < hold_count (holds self.old) ino }
+        ensures leaves { Leaves (touch_ctime_of (tree self.old) ino) (tree self.old) (tree self.new) result }
+        ensures holds { holds self.new ≡ holds self.old }
+        ensures memory { result ≢ Err HostError.NoMemory }
+        ensures cause { Causes (steady self.old) (faults self.old) (faults self.new) result }
+        ensures steady { steady self.new ≡ steady self.old }
+        ensures plan { Follows (plan self.old) (plan self.new) result };
+
     /// The first entry of a directory whose cookie is above the given one, if there is one. ENOTDIR for what
     /// is no directory.
     fn entry_after(&mut self, dir: u64, cookie: u64) -> Result<Option<Entry>, HostError>
@@ -122,6 +188,51 @@ pub trait Host {
         ensures answer { Answers (entry_after_of (tree self.old) dir cookie) result }
         ensures tree { tree self.new ≡ tree self.old }
         ensures holds { holds self.new ≡ holds self.old }
+        ensures cause { Causes (steady self.old) (faults self.old) (faults self.new) result }
+        ensures steady { steady self.new ≡ steady self.old }
+        ensures plan { Follows (plan self.old) (plan self.new) result };
+
+    /// Takes the entry of a name away; what it names has a link less, its ctime becomes the moment, and so do the
+    /// directory's mtime and ctime. What no entry and no hold names is gone then. ENOTDIR for what is no
+    /// directory, ENOENT where no entry has the name, EISDIR where it names a directory. It takes no memory.
+    fn unlink(&mut self, dir: u64, name: &[u8]) -> Result<(), HostError>
+        requires held { 0 < hold_count (holds self.old) dir }
+        requires named { name_fault name.now ≡ None }
+        ensures leaves { Leaves (unlink_of (is_held (holds self.old)) (tree self.old) dir name.now) (tree self.old) (tree self.new) result }
+        ensures holds { holds self.new ≡ holds self.old }
+        ensures memory { result ≢ Err HostError.NoMemory }
+        ensures cause { Causes (steady self.old) (faults self.old) (faults self.new) result }
+        ensures steady { steady self.new ≡ steady self.old }
+        ensures plan { Follows (plan self.old) (plan self.new) result };
+
+    /// The target of a link. EINVAL for what is no link.
+    fn readlink(&mut self, ino: u64) -> Result<Vec<u8>, HostError>
+        requires { 0 < hold_count (holds self.old) ino }
+        ensures answer { Answers (readlink_of (tree self.old) ino) (result_map_both (λ target. target.items) (λ e. e) result) }
+        ensures tree { tree self.new ≡ tree self.old }
+        ensures holds { holds self.new ≡ holds self.old }
+        ensures cause { Causes (steady self.old) (faults self.old) (faults self.new) result }
+        ensures steady { steady self.new ≡ steady self.old }
+        ensures plan { Follows (plan self.old) (plan self.new) result };
+
+    /// How much a file and a directory may have. It takes no memory.
+    fn statfs(&mut self, ino: u64) -> Result<Statfs, HostError>
+        requires { 0 < hold_count (holds self.old) ino }
+        ensures answer { Answers (Ok (statfs_of (tree self.old))) result }
+        ensures tree { tree self.new ≡ tree self.old }
+        ensures holds { holds self.new ≡ holds self.old }
+        ensures memory { result ≢ Err HostError.NoMemory }
+        ensures cause { Causes (steady self.old) (faults self.old) (faults self.new) result }
+        ensures steady { steady self.new ≡ steady self.old }
+        ensures plan { Follows (plan self.old) (plan self.new) result };
+
+    /// What was written is kept. It takes no memory, and its only error is `Fault`.
+    fn sync(&mut self, ino: u64) -> Result<(), HostError>
+        requires { 0 < hold_count (holds self.old) ino }
+        ensures answer { Answers (Ok tt) result }
+        ensures tree { tree self.new ≡ tree self.old }
+        ensures holds { holds self.new ≡ holds self.old }
+        ensures memory { result ≢ Err HostError.NoMemory }
         ensures cause { Causes (steady self.old) (faults self.old) (faults self.new) result }
         ensures steady { steady self.new ≡ steady self.old }
         ensures plan { Follows (plan self.old) (plan self.new) result };

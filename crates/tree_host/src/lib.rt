@@ -1,6 +1,7 @@
 //! A host of a tree of files, and one that keeps its tree in memory.
 #![tactic(auto)]
 
+mod change;
 pub mod entry;
 mod holds;
 pub mod host;

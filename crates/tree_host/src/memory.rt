@@ -7,21 +7,25 @@ ghost use Rattle.tree_host.specs.Scripts.{is_quiet};
 ghost use Rattle.std.specs.Prelude.{◌≡◌};
 
 mod adding;
+mod changing;
 mod readers;
 #[cfg(test)]
 mod tests;
 
+use crate::change::Change;
 use crate::entry::Entry;
 use crate::holds::{hold, lower};
 use crate::host::Host;
 use crate::node::{Node, TOP};
-use crate::nodes::{entry_after, find_in, open_check, sweep, walk};
+use crate::nodes::{
+    entry_after, find_file, find_in, open_check, read_link, remove_entry, sweep, walk,
+};
 use crate::script::Script;
 use port_base::errno::ENOENT;
 use port_base::sink::NoMemory;
 use port_base::table::Table;
 use std::alloc::Global;
-use tree_model::{Attr, HostError, Limits, Stamp};
+use tree_model::{Attr, HostError, Limits, Stamp, Statfs, TimeSet};
 
 /// What is added to a tree in memory: a directory or a file with its permission bits and owners, a symbolic
 /// link, or one more name of the file or link `ino`.
@@ -247,11 +251,70 @@ impl Host for TreeHost {
         }
     }
 
+    fn write_at(&mut self, ino: u64, offset: u64, bytes: &[u8]) -> Result<usize, HostError> {
+        self.write(ino, offset, bytes)
+    }
+
+    fn set_len(&mut self, ino: u64, len: u64) -> Result<(), HostError> {
+        self.change(ino, Change::Len(len))
+    }
+
+    fn set_mode(&mut self, ino: u64, mode: u32) -> Result<(), HostError> {
+        self.change(ino, Change::Mode(mode))
+    }
+
+    fn set_owner(&mut self, ino: u64, uid: Option<u32>, gid: Option<u32>) -> Result<(), HostError> {
+        self.change(ino, Change::Owner(uid, gid))
+    }
+
+    fn set_times(&mut self, ino: u64, atime: TimeSet, mtime: TimeSet) -> Result<(), HostError> {
+        self.change(ino, Change::Times(atime, mtime))
+    }
+
+    fn touch_ctime(&mut self, ino: u64) -> Result<(), HostError> {
+        self.change(ino, Change::Ctime)
+    }
+
     fn entry_after(&mut self, dir: u64, cookie: u64) -> Result<Option<Entry>, HostError> {
         if self.script.strikes(&mut self.faults) {
             return Err(HostError::Fault);
         }
         entry_after(self.alloc, &self.nodes, dir, cookie)
+    }
+
+    fn unlink(&mut self, dir: u64, name: &[u8]) -> Result<(), HostError> {
+        if self.script.strikes(&mut self.faults) {
+            return Err(HostError::Fault);
+        }
+        let ino = find_file(&self.nodes, dir, name)?;
+        remove_entry(&mut self.nodes, dir, name, ino, self.moment);
+        let holds = &self.holds;
+        sweep(&mut self.nodes, holds, ino);
+        Ok(())
+    }
+
+    fn readlink(&mut self, ino: u64) -> Result<Vec<u8>, HostError> {
+        if self.script.strikes(&mut self.faults) {
+            return Err(HostError::Fault);
+        }
+        read_link(self.alloc, &self.nodes, ino)
+    }
+
+    fn statfs(&mut self, ino: u64) -> Result<Statfs, HostError> {
+        if self.script.strikes(&mut self.faults) {
+            return Err(HostError::Fault);
+        }
+        Ok(Statfs {
+            blocks: (self.limits.file + 4095) / 4096,
+            files: self.limits.entries,
+        })
+    }
+
+    fn sync(&mut self, ino: u64) -> Result<(), HostError> {
+        if self.script.strikes(&mut self.faults) {
+            return Err(HostError::Fault);
+        }
+        Ok(())
     }
 
     ghost good = { λ s. s.good };

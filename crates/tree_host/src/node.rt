@@ -8,9 +8,12 @@ ghost use Rattle.tree_model.specs.Making.{joined_by, next_cookie, new_name_refus
 ghost use Rattle.tree_host.specs.Host.{as_errno};
 ghost use Rattle.tree_host.specs.Stored.{body_of};
 
+mod changing;
 mod making;
 mod opening;
+mod unlinking;
 
+pub use changing::fitting;
 use port_base::errno::{EEXIST, ENOENT, ENOSPC, ENOTDIR};
 use std::alloc::{AllocError, Global};
 use std::marker::Model;

@@ -1,7 +1,8 @@
 //! Records in a table, by inode number.
-ghost use Rattle.std.specs.Prelude.{◌≡◌, ◌≢◌, ◌==◌, not, Result, Ok, None, ℕ, ◌+◌, ◌-◌, ◌^◌, ◌<◌, OnOk, OnErr, IfOk, IfErr, Err, IsSome, option_map, unwrap_or, false};
+ghost use Rattle.std.specs.Prelude.{◌≡◌, ◌≢◌, ◌==◌, not, Result, Ok, None, ℕ, ◌+◌, ◌-◌, ◌^◌, ◌<◌, OnOk, OnErr, IfOk, IfErr, Err, IsSome, IsTrue, option_map, unwrap_or, false};
 ghost use Rattle.std.specs.List.{slice_split};
 ghost use Rattle.std.specs.FinMap as map;
+ghost use Rattle.std.specs.Result.{result_map_both};
 ghost use Rattle.tree_model.specs.Tree.{body_at, is_directory_at, top};
 ghost use Rattle.tree_model.specs.Finding.{entries_at, ino_among, root_of, path_names};
 ghost use Rattle.tree_model.specs.Making.{change, joined_by, next_cookie, new_name_refused};
@@ -10,21 +11,25 @@ ghost use Rattle.tree_host.specs.Holds.{is_held};
 ghost use Rattle.tree_host.specs.Host.{as_errno, Answers};
 ghost use Rattle.tree_model.specs.Reading.{shown_entry, entry_after_among};
 ghost use Rattle.tree_host.specs.Walking.{part_step, part_end, walk_parts};
-ghost use Rattle.tree_model.specs.Opening.{asked, unless, open_refused, found_at};
+ghost use Rattle.tree_model.specs.Opening.{asked, unless, open_refused, readlink_body, found_at};
 ghost use Rattle.tree_model.specs.Attributes.{kind_of};
 ghost use Rattle.tree_model.specs.Placing.{link_refused, one_link_more};
 ghost use Rattle.tree_host.specs.Stored.{links};
 ghost use Rattle.tree_host.specs.Kept.{tree_from};
+ghost use Rattle.tree_model.specs.Unlinking.{unless_directory, parted_by, one_link_less};
+ghost use Rattle.tree_host.specs.Changing.{change_refused, changed_by, is_small, Makes};
+ghost use Rattle.tree_model.specs.Attributing.{refused_at, write_refused, overwritten_at, fitting};
 ghost use Rattle.tree_model.specs.declared.attributes.Limits.{Limits};
 ghost use Rattle.tree_model.specs.declared.attributes.Stamp.{Stamp};
 
+use crate::change::Change;
 use crate::entry::Entry;
 use crate::holds::is_held;
 use crate::node::{Name, Node, TOP};
-use port_base::errno::{ENOENT, ENOTDIR};
+use port_base::errno::{EISDIR, ENOENT, ENOTDIR};
 use port_base::table::Table;
 use std::alloc::{AllocError, Global};
-use tree_model::{HostError, Limits};
+use tree_model::{HostError, Limits, Stamp};
 
 /// The inode that a name of a directory names.
 pub fn find_in(nodes: &Table<Node>, dir: u64, name: &[u8]) -> Result<u64, HostError>
@@ -126,6 +131,17 @@ pub fn open_check(nodes: &Table<Node>, ino: u64, flags: u32) -> Result<(), HostE
     match node.open_refusal(flags) {
         Some(errno) => Err(HostError::Errno(errno)),
         None => Ok(()),
+    }
+}
+
+/// The target of a link.
+pub fn read_link(alloc: Global, nodes: &Table<Node>, ino: u64) -> Result<Vec<u8>, HostError>
+    ensures answer { Answers (asked readlink_body (body_at nodes.now ino)) (result_map_both (λ target. target.items) (λ e. e) result) }
+    ensures fault { result ≢ Err HostError.Fault }
+{
+    match nodes.get(ino) {
+        Some(node) => node.read_link(alloc),
+        None => Err(HostError::Errno(ENOENT)),
     }
 }
 
@@ -233,6 +249,78 @@ pub fn add_name(
     push_into(alloc, nodes, dir, name, ino)?;
     link_more(nodes, ino);
     Ok(())
+}
+
+/// Makes a change of a record, where nothing refuses it.
+pub fn change_node(
+    nodes: &mut Table<Node>,
+    ino: u64,
+    wanted: Change,
+    moment: Stamp,
+    limit: u64,
+) -> Result<(), HostError>
+    ensures made { Makes (refused_at (change_refused wanted limit) (body_at nodes.old ino)) (change (changed_by wanted moment) nodes.old ino) nodes.old nodes.new result }
+    ensures small { IsTrue (is_small wanted) → result ≢ Err HostError.NoMemory }
+{
+    match nodes.get_mut(ino) {
+        Some(node) => node.change(wanted, moment, limit),
+        None => Err(HostError::Errno(ENOENT)),
+    }
+}
+
+/// Writes the bytes that end by the limit over those of a file.
+pub fn write_node(
+    nodes: &mut Table<Node>,
+    ino: u64,
+    offset: u64,
+    new: &[u8],
+    moment: Stamp,
+    limit: u64,
+) -> Result<(), HostError>
+    ensures { Makes (refused_at (write_refused limit offset new.now) (body_at nodes.old ino)) (change (overwritten_at moment offset (fitting limit offset new.now)) nodes.old ino) nodes.old nodes.new result }
+{
+    match nodes.get_mut(ino) {
+        Some(node) => node.write(offset, new, moment, limit),
+        None => Err(HostError::Errno(ENOENT)),
+    }
+}
+
+/// The inode that a name of a directory names, where it is no directory.
+pub fn find_file(nodes: &Table<Node>, dir: u64, name: &[u8]) -> Result<u64, HostError>
+    ensures { result ≡ as_errno (unless_directory nodes.now (ino_among false name.now (entries_at nodes.now dir))) }
+{
+    let ino = find_in(nodes, dir, name)?;
+    let directory = is_directory(nodes, ino);
+    if directory {
+        return Err(HostError::Errno(EISDIR));
+    }
+    Ok(ino)
+}
+
+fn link_less(nodes: &mut Table<Node>, ino: u64, moment: Stamp)
+    ensures { nodes.new ≡ change (one_link_less moment) nodes.old ino }
+{
+    match nodes.get_mut(ino) {
+        Some(node) => node.link_less(moment),
+        None => (),
+    }
+}
+
+fn part_from(nodes: &mut Table<Node>, dir: u64, name: &[u8], moment: Stamp)
+    ensures { nodes.new ≡ change (parted_by name.now moment) nodes.old dir }
+{
+    match nodes.get_mut(dir) {
+        Some(node) => node.part(name, moment),
+        None => (),
+    }
+}
+
+/// Takes an entry away, and a link of the record that it names.
+pub fn remove_entry(nodes: &mut Table<Node>, dir: u64, name: &[u8], ino: u64, moment: Stamp)
+    ensures { nodes.new ≡ change (parted_by name.now moment) (change (one_link_less moment) nodes.old ino) dir }
+{
+    link_less(nodes, ino, moment);
+    part_from(nodes, dir, name, moment);
 }
 
 // An entry with what is told of the inode that it names.

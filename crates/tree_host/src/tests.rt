@@ -1,4 +1,4 @@
-ghost use Rattle.std.specs.Prelude.{◌≡◌, ◌<◌, ◌-◌, ◌^◌, ℕ, None};
+ghost use Rattle.std.specs.Prelude.{◌≡◌, ◌<◌, ◌-◌, ◌^◌, ℕ, None, IfOk};
 ghost use Rattle.port_base.specs.Names.{name_fault};
 ghost use Rattle.tree_host.specs.Holds.{hold_count};
 ghost use Rattle.tree_host.specs.TreeHosts.{holds};
@@ -8,7 +8,7 @@ use port_base::errno::{EEXIST, EFBIG, ENOSPC};
 use port_base::names::name_fault;
 use std::process::Abort;
 use std::test::Fail;
-use tree_model::{Attr, HostError, Kind, Limits, Stamp};
+use tree_model::{Attr, HostError, Kind, Limits, Stamp, TimeSet};
 
 const BORN: Stamp = Stamp { sec: 7, nsec: 3 };
 
@@ -91,25 +91,42 @@ fn files_are_added_and_read(rt: HostRuntime) -> Result<(), Fail> {
     Ok(())
 }
 
-// Looks a name up, holds what it names twice, asks what it is, reads its second half, and lets go of it.
+// Writes past the end of a file, cuts it, sets its attributes and reads its end; tells how much was written, and
+// what it is then.
+fn changed<H: Host>(host: &mut H, ino: u64, buf: &mut [u8]) -> Result<(usize, Attr), HostError>
+    requires { 0 < hold_count (H.holds host.old) ino }
+    ensures { IfOk result (λ _. H.holds host.new ≡ H.holds host.old) }
+{
+    let count = host.write_at(ino, 6, b"xyz")?;
+    host.set_len(ino, 7)?;
+    host.set_mode(ino, 0o17755)?;
+    host.set_owner(ino, None, Some(9))?;
+    host.set_times(ino, TimeSet::Keep, TimeSet::At(BORN))?;
+    host.touch_ctime(ino)?;
+    host.sync(ino)?;
+    host.read_at(ino, 4, buf)?;
+    let attr = host.stat(ino)?;
+    Ok((count, attr))
+}
+
+// Looks a name up, holds what it names twice, opens it, changes it, and lets go of it.
 fn told<H: Host>(
     host: &mut H,
     dir: u64,
     name: &[u8],
     buf: &mut [u8],
-) -> Result<(Attr, usize), HostError>
+) -> Result<(usize, Attr), HostError>
     requires held { 0 < hold_count (H.holds host.old) dir }
     requires named { name_fault name.now ≡ None }
     requires room { (i : ℕ) → hold_count (H.holds host.old) i < 2 ^ 64 - 2 }
 {
     let ino = host.lookup(dir, name)?;
     host.hold_again(ino)?;
-    let attr = host.stat(ino)?;
     host.open_check(ino, 0)?;
-    let count = host.read_at(ino, 2, buf)?;
+    let told = changed(host, ino, buf)?;
     host.release(ino);
     host.release(ino);
-    Ok((attr, count))
+    Ok(told)
 }
 
 #[test]
@@ -122,7 +139,7 @@ fn files_are_held_and_released(rt: HostRuntime) -> Result<(), Fail> {
     let moment = Stamp { sec: 9, nsec: 0 };
     let mut host = TreeHost::new(rt.alloc(), limits, moment, BORN, 0o755, 1, 2)?;
     assert_eq!(rt; add(&rt, &mut host, b"hello", b"world"), Ok(2));
-    host.fail_at(&[8, 1])?;
+    host.fail_at(&[15, 1])?;
     let root = host.attach_path(b"/")?;
     assert_eq!(rt; root, 1);
     let struck = host.stat(root);
@@ -136,8 +153,14 @@ fn files_are_held_and_released(rt: HostRuntime) -> Result<(), Fail> {
     let name = b"hello".as_slice();
     assert!(rt; name_fault(name).is_none());
     let mut buf = [0; 8];
-    assert_eq!(rt; told(&mut host, root, name, &mut buf), Ok((shown(2, 5), 3)));
-    assert_eq!(rt; buf.as_slice(), b"rld\0\0\0\0\0".as_slice());
-    assert_eq!(rt; host.record_after(1), Some(shown(2, 5)));
+    let after = Attr {
+        mode: 0o7755,
+        gid: 9,
+        ctime: moment,
+        ..shown(2, 7)
+    };
+    assert_eq!(rt; told(&mut host, root, name, &mut buf), Ok((2, after)));
+    assert_eq!(rt; host.record_after(1), Some(after));
+    assert_eq!(rt; buf.as_slice(), b"d\0x\0\0\0\0\0".as_slice());
     Ok(())
 }

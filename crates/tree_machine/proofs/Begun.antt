@@ -1,15 +1,15 @@
 -- The state in which a run begins is good.
-use Rattle.std.proofs.Common.{◌≡◌, ◌≢◌, ℕ, ◌+◌, ◌<◌, ◌≤◌, Bool, true, false, cond, List, [], ◌∷◌, refl, sym, ap, ◌∙◌, subst, Option, Some, None, Result, Ok, Err, arith, IsSome, ⊎_elim, option_map, is_some}
-use Rattle.std.proofs.lemmas.Bool.{cases_eq, false≢true}
+use Rattle.std.proofs.Common.{◌≡◌, ℕ, ◌+◌, ◌<◌, ◌≤◌, Bool, true, false, cond, List, [], ◌∷◌, refl, sym, ap, ◌∙◌, subst, Option, Some, None, Result, Ok, Err, arith, IsSome, ⊎_elim, option_map, is_some}
+use Rattle.std.proofs.lemmas.Bool.{cases_eq}
 use Rattle.std.specs.Ordering.{nat_cmp}
 use Rattle.std.specs.Cmp.{nat_cmp_total}
-use Rattle.std.specs.FinMap.{FinMap, get, insert, empty, len, len-insert, len-empty, get-empty}
-use Rattle.tree_model.specs.Tree.{Tree, Record, Body, body_at, is_directory_at, top}
+use Rattle.std.specs.FinMap.{get, empty, len, len-insert, len-empty, get-empty}
+use Rattle.tree_model.specs.Tree.{Tree, Record, body_at, is_directory_at, top}
 use Rattle.tree_model.specs.Good.{IsGoodTree}
-use Rattle.tree_model.specs.Finding.{root_of, walk_on, walk_step, walk_end, directory_or_not}
+use Rattle.tree_model.specs.Finding.{root_of, walk_on, walk_step, walk_end}
 use Rattle.tree_model.specs.Settings.{Settings}
 use Rattle.tree_model.proofs.Maps.{inserted, insert_keeps}
-use Rattle.tree_machine.specs.State.{MachineState, Node, Handle, begun, ROOT_NODE}
+use Rattle.tree_machine.specs.State.{Node, Handle, begun, ROOT_NODE}
 use Rattle.tree_machine.specs.Good.{IsGoodMachine}
 
 ends_at_directory : (t : Tree) (at : Result ℕ ℕ) (root : ℕ) → walk_end t at ≡ Ok root → is_directory_at (body_at t.records root) ≡ true

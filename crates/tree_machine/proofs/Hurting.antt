@@ -1,5 +1,5 @@
 -- Runs of which some steps met a fault: one after another, and without such a step.
-use Rattle.std.proofs.Common.{◌≡◌, ℕ, suc, ◌+◌, List, [], ◌∷◌, ◌++◌, refl, sym, ap, ◌∙◌, subst, arith, append_assoc, zero-add, add_assoc, inl, inr}
+use Rattle.std.proofs.Common.{◌≡◌, ℕ, ◌+◌, List, [], ◌∷◌, ◌++◌, sym, ap, ◌∙◌, subst, arith, append_assoc, zero-add, add_assoc, inl, inr}
 use Rattle.tree_model.specs.Settings.{Settings}
 use Rattle.tree_machine.specs.State.{MachineState}
 use Rattle.tree_machine.specs.Step.{step}
@@ -27,8 +27,8 @@ module _ (s : Settings) where
       (joined ∙ ap (λ (l : List ℕ). (step s m f).0 ++ l) later.0, later.1)
   Hurt-zero m last (f ∷ fs) n rs none (inr (bytes, rest, after, j, one, joined, count, more)) = absurd (omega (arith, none, count))
 
-  pub messages_from-append : (m : MachineState) (fs gs : List (List ℕ)) → messages_from s m (fs ++ gs) ≡ messages_from s m fs + messages_from s (play_from s m fs).1 gs
-  messages_from-append m [] gs = sym (zero-add (messages_from s m gs))
-  messages_from-append m (f ∷ fs) gs =
-      ap (λ (n : ℕ). messages s m f + n) (messages_from-append (step s m f).1 fs gs)
-      ∙ sym (add_assoc (messages s m f) (messages_from s (step s m f).1 fs) (messages_from s (play_from s (step s m f).1 fs).1 gs))
+  pub messages_from-append : (piece : ℕ) (m : MachineState) (fs gs : List (List ℕ)) → messages_from piece s m (fs ++ gs) ≡ messages_from piece s m fs + messages_from piece s (play_from s m fs).1 gs
+  messages_from-append piece m [] gs = sym (zero-add (messages_from piece s m gs))
+  messages_from-append piece m (f ∷ fs) gs =
+      ap (λ (n : ℕ). messages piece s m f + n) (messages_from-append piece (step s m f).1 fs gs)
+      ∙ sym (add_assoc (messages piece s m f) (messages_from piece s (step s m f).1 fs) (messages_from piece s (play_from s (step s m f).1 fs).1 gs))

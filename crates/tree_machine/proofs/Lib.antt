@@ -1,5 +1,16 @@
+pub mod Settling
+pub mod Nodes
+pub mod Looking
+pub mod Handles
+pub mod Opening
+pub mod Releasing
+pub mod Forgetting
 pub mod Steps
 pub mod Hurting
 pub mod Begun
 pub mod First
 pub mod Sampling
+pub mod FileSampling
+pub mod Pieces
+pub mod Batches
+pub mod Pairs

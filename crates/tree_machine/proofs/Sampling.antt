@@ -1,34 +1,32 @@
 -- A worked example: the replies to INIT, to a look-up of `hello` in the root, and to GETATTR of what it gave.
-use Rattle.std.proofs.Common.{◌≡◌, ℕ, ◌+◌, Bool, true, false, cond, List, [], ◌∷◌, ◌++◌, refl, sym, ap, ◌∙◌, Option, Some, None, Result, Ok, Err}
-use Rattle.std.specs.Prelude.{replicate, codes, is_some, option_map, option_and_then}
+use Rattle.std.proofs.Common.{◌≡◌, ℕ, ◌+◌, Bool, true, false, cond, List, [], ◌∷◌, refl, sym, ap, ◌∙◌, Option, Some, None, Ok}
+use Rattle.std.specs.Prelude.{codes, is_some, option_map, option_and_then}
 use Rattle.std.specs.Ordering.{nat_cmp}
 use Rattle.std.specs.Cmp.{nat_cmp_total}
-use Rattle.std.specs.FinMap.{FinMap, get, insert, empty, entries, len, len-insert, len-empty, get-empty, entries-insert}
-use Rattle.tree_model.specs.Tree.{Tree, Record, Body, Entry, top}
-use Rattle.tree_model.specs.Tree.Body.{File, Directory}
-use Rattle.tree_model.specs.Settings.{Settings}
-use Rattle.tree_model.specs.Making.{new_tree, with_file, joined_by, file_record}
+use Rattle.std.specs.FinMap.{get, insert, empty, len, len-insert, len-empty, get-empty}
+use Rattle.tree_model.specs.Tree.{Record}
+use Rattle.tree_model.specs.Tree.Body.{Directory}
+use Rattle.tree_model.specs.Making.{new_tree, joined_by, file_record}
 use Rattle.tree_model.proofs.Maps.{inserted, insert_keeps}
 use Rattle.fuse_wire.specs.Fields.{u32_at, u64_at}
 use Rattle.fuse_wire.specs.Request.{request_of, request_in, init_of, lookup_of, getattr_of, only_name, name_at}
 use Rattle.fuse_wire.specs.Reply.{reply, reply_head, init_body, entry_body, attr_body, attr_bytes, u32s, u64s}
-use Rattle.tree_machine.specs.State.{MachineState, Phase, begun}
-use Rattle.tree_machine.specs.State.Phase.{New, Started}
+use Rattle.tree_machine.specs.State.{begun}
+use Rattle.tree_machine.specs.State.Phase.{Started}
 use Rattle.port_base.specs.declared.errno.TheConstants.{ENFILE}
-use Rattle.std.specs.Prelude.{find as first_where, ◌==◌, nat_le, ◌||◌, unwrap_or}
-use Rattle.std.proofs.Common.{subst, arith, ⊎_elim}
-use Rattle.std.proofs.lemmas.Bool.Decides.{nat_tests}
+use Rattle.std.specs.Prelude.{◌==◌, nat_le, ◌||◌, unwrap_or}
+use Rattle.std.proofs.Common.{subst, arith}
 use Rattle.tree_model.specs.declared.attributes.Attr.{Attr}
 use Rattle.tree_model.specs.declared.attributes.Kind.TheVariants as kind
-use Rattle.tree_model.specs.Tree.{Records, body_at}
-use Rattle.tree_model.specs.Making.{changed, NewFile}
+use Rattle.tree_model.specs.Tree.{Records}
+use Rattle.tree_model.specs.Making.{changed}
 use Rattle.tree_model.specs.Attributes.{attr_or_missing}
 use Rattle.tree_model.specs.Settings.{shown_told}
 use Rattle.tree_model.specs.Finding.{find, ino_among, entries_of}
-use Rattle.fuse_wire.specs.Request.{Request, lookup, getattr}
+use Rattle.fuse_wire.specs.Request.{lookup, getattr}
 use Rattle.fuse_wire.specs.Head.{head_of}
 use Rattle.tree_machine.specs.State.{Node, Handle, is_at_limit}
-use Rattle.tree_machine.specs.Core.{Reply, core, lookup_core, lookup_named, looked_up, entered, node_given, node_of, entry_reply, getattr_node, attr_reply}
+use Rattle.tree_machine.specs.Core.{core, lookup_core, lookup_named, looked_up, entered, node_given, node_of, entry_reply, getattr_node, attr_reply}
 use Rattle.tree_machine.specs.Core.Reply.{Refused, EntryOf, AttrOf}
 use Rattle.std.proofs.lemmas.Str.{is_utf8-from_IsUtf8, IsUtf8-from_ascii}
 use Rattle.std.specs.Str.{is_utf8}
@@ -38,7 +36,7 @@ use Rattle.std.specs.List.{AllByRecursion}
 use Rattle.port_base.specs.Names.{name_fault}
 use Rattle.tree_machine.proofs.First.{first_entry}
 use Rattle.tree_machine.proofs.Begun.{one_node}
-use Rattle.tree_machine.specs.Step.{step, asked, answer_bytes, core_of}
+use Rattle.tree_machine.specs.Step.{step, asked, answer_bytes}
 use Rattle.tree_machine.specs.Samples.{tree, settings, init_frame, init_reply, started, lookup_frame, entry_reply_bytes, getattr_frame, with_hello, attr_reply_bytes}
 
 -- INIT of minor 31 is granted
@@ -48,16 +46,16 @@ init_answered = refl
 
 -- ---- a look-up
 
-abbrev root_node : Node
+abbrev pub root_node : Node
 root_node = record { ino = 1; count = 1 }
 
-abbrev file : Record
+abbrev pub file : Record
 file = file_record (record { sec = 1600000000; nsec = 0 }) (record { mode = 420; uid = 1000; gid = 1000; bytes = codes "hello\n" })
 
 abbrev first_records : Records
 first_records = (new_tree (record { file = 1048576; entries = 65536; links = 65000 }) (record { sec = 1700000000; nsec = 5 }) (record { sec = 1600000000; nsec = 0 }) 493 0 0).records
 
-abbrev top_record : Record
+abbrev pub top_record : Record
 top_record = record { body = Directory [] 1 1; mode = 493; uid = 0; gid = 0; links = 2; atime = record { sec = 1600000000; nsec = 0 }; mtime = record { sec = 1600000000; nsec = 0 }; ctime = record { sec = 1600000000; nsec = 0 } }
 
 abbrev with_file_alone : Records
@@ -69,10 +67,10 @@ top_first = insert_keeps first_records 2 file 1 (λ h. absurd (omega (arith, h))
 records_are : tree.records ≡ insert with_file_alone 1 (joined_by (codes "hello") 2 top_record)
 records_are = ap (λ o. changed (joined_by (codes "hello") 2) o with_file_alone 1) top_first
 
-top_at : get tree.records 1 ≡ Some (joined_by (codes "hello") 2 top_record)
+pub top_at : get tree.records 1 ≡ Some (joined_by (codes "hello") 2 top_record)
 top_at = ap (λ (rs : Records). get rs 1) records_are ∙ inserted with_file_alone 1 (joined_by (codes "hello") 2 top_record)
 
-file_at : get tree.records 2 ≡ Some file
+pub file_at : get tree.records 2 ≡ Some file
 file_at = ap (λ (rs : Records). get rs 2) records_are ∙ insert_keeps with_file_alone 1 (joined_by (codes "hello") 2 top_record) 2 (λ h. absurd (omega (arith, h))) ∙ inserted first_records 2 file
 
 root_at : get started.nodes 1 ≡ Some root_node

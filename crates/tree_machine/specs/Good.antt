@@ -1,7 +1,7 @@
 -- Good states of the machine.
-use Rattle.std.specs.Prelude.{◌≡◌, ◌≢◌, ℕ, ◌+◌, ◌<◌, ◌≤◌, Bool, false, List, Option, Some, None, IsSome}
+use Rattle.std.specs.Prelude.{◌≡◌, ℕ, ◌+◌, ◌<◌, ◌≤◌, false, Option, Some, None, IsSome}
 use Rattle.std.specs.FinMap as map
-use Rattle.tree_model.specs.Tree.{Tree, Body, Entry, body_at}
+use Rattle.tree_model.specs.Tree.{Body, body_at}
 use Rattle.tree_model.specs.Tree.Body.{File, Directory, Link}
 use Rattle.tree_model.specs.Good.{IsGoodTree}
 use Rattle.tree_model.specs.Settings.{Settings}

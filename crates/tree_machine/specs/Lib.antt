@@ -1,4 +1,5 @@
 pub mod State
+pub mod Forgetting
 pub mod Core
 pub mod Step
 pub mod Play
@@ -6,3 +7,4 @@ pub mod Good
 pub mod Messages
 pub mod Faults
 pub mod Samples
+pub mod FileSamples

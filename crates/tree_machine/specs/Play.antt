@@ -1,9 +1,10 @@
 -- Runs of the machine.
-use Rattle.std.specs.Prelude.{◌≡◌, ℕ, List, [], ◌∷◌, ◌++◌, Result, Ok, Err, Bool, ◌||◌, ◌==◌, IsTrue}
+use Rattle.std.specs.Prelude.{◌≡◌, ℕ, List, [], ◌∷◌, ◌++◌, Ok, Bool, true, IsTrue}
 use Rattle.tree_model.specs.Tree.{Tree, linked}
 use Rattle.tree_model.specs.Settings.{Settings}
-use Rattle.fuse_wire.specs.Request.{Request, request_of}
+use Rattle.fuse_wire.specs.Request.{Request, open_file, request_of}
 use Rattle.tree_machine.specs.State.{MachineState, begun}
+use Rattle.tree_machine.specs.Core.{opens_to_read}
 use Rattle.tree_machine.specs.Step.{step}
 
 -- the replies to frames, joined, and the last state, by a step
@@ -19,9 +20,14 @@ play_from settings m frames = play_by (step settings) m frames
 abbrev pub play : Settings → Tree → ℕ → List (List ℕ) → List ℕ × Tree
 play settings t root frames = ((play_from settings (begun t root) frames).0, linked (play_from settings (begun t root) frames).1.tree)
 
--- a request whose opcode is served and whose body is in its grammar
+-- a file is opened to be read alone
+abbrev pub is_served : Request → Bool
+is_served (open_file flags) = opens_to_read flags
+is_served _ = true
+
+-- a request whose opcode is served, whose body is in its grammar, and whose flags are served
 abbrev pub IsCoreRequest : List ℕ → Type 0
-IsCoreRequest frame = (r : Request) × (request_of frame ≡ Ok r)
+IsCoreRequest frame = (r : Request) × (request_of frame ≡ Ok r) × IsTrue (is_served r)
 
 abbrev pub AreCoreRequests : List (List ℕ) → Type 0
 AreCoreRequests [] = Unit {0}

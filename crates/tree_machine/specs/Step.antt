@@ -1,18 +1,18 @@
 -- One frame: whether it is in turn, what it asks, and the bytes of its reply.
-use Rattle.std.specs.Prelude.{◌≡◌, ℕ, Bool, true, false, not, ◌||◌, List, [], Result, Ok, Err, if◌then◌else◌, ◌==◌}
+use Rattle.std.specs.Prelude.{ℕ, Bool, false, not, ◌||◌, List, [], Result, Err, if◌then◌else◌, ◌==◌}
 use Rattle.port_base.specs.declared.errno.TheConstants.{EPROTO}
-use Rattle.tree_model.specs.Attributes.{type_bits, blocks_of}
+use Rattle.tree_model.specs.Attributes.{blocks_of}
 use Rattle.tree_model.specs.Settings.{Settings}
 use Rattle.tree_model.specs.declared.attributes.Attr.{Attr}
 use Rattle.fuse_wire.specs.declared.opcode.TheConstants.{FUSE_INIT, FUSE_FORGET, FUSE_INTERRUPT, FUSE_BATCH_FORGET}
 use Rattle.fuse_wire.specs.Head.{head_of}
 use Rattle.fuse_wire.specs.Request.{Request, request_of}
 use Rattle.fuse_wire.specs.declared.attr.FileAttr.{FileAttr}
-use Rattle.fuse_wire.specs.Reply.{reply, init_body, entry_body, attr_body}
+use Rattle.fuse_wire.specs.Reply.{reply, init_body, entry_body, attr_body, opened_body}
 use Rattle.tree_machine.specs.State.{MachineState, Phase, settled}
 use Rattle.tree_machine.specs.State.Phase.{New, Started, Over}
 use Rattle.tree_machine.specs.Core.{Reply, core}
-use Rattle.tree_machine.specs.Core.Reply.{Refused, Granted, EntryOf, AttrOf}
+use Rattle.tree_machine.specs.Core.Reply.{Refused, Granted, EntryOf, AttrOf, HandleOf, BytesOf, Done}
 
 -- INIT begins a session, and comes once; nothing is in turn after DESTROY
 abbrev pub is_in_turn : Phase → ℕ → Bool
@@ -58,6 +58,9 @@ reply_bytes unique (Refused errno) = reply unique errno []
 reply_bytes unique (Granted minor max_readahead) = reply unique 0 (init_body minor max_readahead)
 reply_bytes unique (EntryOf node attr) = reply unique 0 (entry_body node (fuse_attributes attr))
 reply_bytes unique (AttrOf attr) = reply unique 0 (attr_body (fuse_attributes attr))
+reply_bytes unique (HandleOf handle) = reply unique 0 (opened_body handle)
+reply_bytes unique (BytesOf bytes) = reply unique 0 bytes
+reply_bytes unique Done = reply unique 0 []
 
 -- the bytes that answer a frame
 abbrev pub answer_bytes : List ℕ → Reply → List ℕ

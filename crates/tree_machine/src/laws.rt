@@ -1,10 +1,12 @@
 //! Laws over runs of the machine. Each function makes no call: its contract is the law.
-ghost use Rattle.std.specs.Prelude.{◌≡◌, ◌≤◌, ℕ, List, Ok};
+ghost use Rattle.std.specs.Prelude.{◌≡◌, ◌+◌, ◌-◌, ◌<◌, ◌≤◌, min, ℕ, List, [], ◌∷◌, length, take, drop, Ok};
 ghost use Rattle.tree_model.specs.Tree.{Tree};
 ghost use Rattle.tree_model.specs.Good.{IsGoodTree};
 ghost use Rattle.tree_model.specs.Finding.{root_of};
 ghost use Rattle.tree_model.specs.Settings.{Settings};
-ghost use Rattle.tree_machine.specs.State.{MachineState, begun};
+ghost use Rattle.tree_machine.specs.State.{MachineState, begun, settled};
+ghost use Rattle.tree_machine.specs.Forgetting.{forgotten, all_forgotten, pair_of, pairs_of};
+ghost use Rattle.tree_machine.specs.Messages.{pieces, gone};
 ghost use Rattle.tree_machine.specs.Step.{step};
 ghost use Rattle.tree_machine.specs.Play.{play_from};
 ghost use Rattle.tree_machine.specs.Good.{IsGoodMachine};
@@ -25,4 +27,30 @@ pub fn plays_stay_good()
 pub fn unhurt_runs_are_plays()
     ensures { (s : Settings) (m last : MachineState) (frames : List (List ℕ)) (replies : List ℕ) →
         Hurt s m frames 0 replies last → (replies ≡ (play_from s m frames).0) × (last ≡ (play_from s m frames).1) }
+{}
+
+/// How many pieces a reading takes: a piece that is short, or that is all that is left to be asked for, is the last; a
+/// full piece is followed by those of the rest.
+#[tactic(auto, using(crate::proofs::Pieces::last_short, crate::proofs::Pieces::last_whole, crate::proofs::Pieces::one_more))]
+pub fn readings_go_piece_by_piece()
+    ensures short { (piece asked there : ℕ) → there < min asked piece → pieces piece asked there ≡ 1 }
+    ensures whole { (piece asked there : ℕ) → 1 ≤ piece → asked ≤ piece → there ≡ asked → pieces piece asked there ≡ 1 }
+    ensures more { (piece asked there : ℕ) → 1 ≤ piece → piece < asked → piece ≤ there → there ≤ asked → pieces piece asked there ≡ 1 + pieces piece (asked - piece) (there - piece) }
+{}
+
+/// The nodes that go with a batch are those of its first pair and those of the others; and the records that nothing
+/// names may go before the pairs, too: the same is left.
+#[tactic(auto, using(crate::proofs::Forgetting::gone_then, crate::proofs::Batches::settled_between, crate::proofs::Batches::gone_between))]
+pub fn batches_go_pair_by_pair()
+    ensures counted { (m : MachineState) (p : ℕ × ℕ) (ps : List (ℕ × ℕ)) →
+        gone m (all_forgotten m (p ∷ ps)) ≡ gone m (forgotten m p.0 p.1) + gone (forgotten m p.0 p.1) (all_forgotten (forgotten m p.0 p.1) ps) }
+    ensures kept { (m : MachineState) (ps : List (ℕ × ℕ)) → IsGoodTree m.tree → settled (all_forgotten (settled m) ps) ≡ settled (all_forgotten m ps) }
+    ensures kept_counted { (m : MachineState) (ps : List (ℕ × ℕ)) → gone (settled m) (all_forgotten (settled m) ps) ≡ gone m (all_forgotten m ps) }
+{}
+
+/// The pairs of a batch: none in fewer than 16 bytes; else that of the first 16, and those of the rest.
+#[tactic(auto, using(crate::proofs::Pairs::no_pair, crate::proofs::Pairs::one_pair))]
+pub fn batches_hold_pairs()
+    ensures none { (bytes : List ℕ) → length bytes < 16 → pairs_of bytes ≡ [] }
+    ensures more { (bytes : List ℕ) → 16 ≤ length bytes → pairs_of bytes ≡ pair_of (take 16 bytes) ∷ pairs_of (drop 16 bytes) }
 {}

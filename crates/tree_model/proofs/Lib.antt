@@ -12,5 +12,9 @@ pub mod Linking
 pub mod Joining
 pub mod Altering
 pub mod Attributing
+pub mod Rewriting
+pub mod Parting
+pub mod Unlinking
+pub mod Leaving
 pub mod Reading
 pub mod Sampling

@@ -18,7 +18,7 @@ use Rattle.tree_model.proofs.Keeping.{above_stored}
 use Rattle.tree_model.proofs.Adding.{count_names-push}
 
 -- a record that isn't a directory has as many links as entries name it
-names_of : (b : Body) (n : ℕ) (linked : Bool) → is_directory b ≡ false → links_of b n linked ≡ n
+pub names_of : (b : Body) (n : ℕ) (linked : Bool) → is_directory b ≡ false → links_of b n linked ≡ n
 names_of (File bytes) n linked is = refl
 names_of (Directory es next above) n linked is = absurd (false≢true (sym is))
 names_of (Link target) n linked is = refl

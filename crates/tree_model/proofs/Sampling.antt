@@ -1,22 +1,24 @@
 -- A tree with one file, `hello`: what is told of it follows by computation from what its map has.
-use Rattle.std.proofs.Common.{◌≡◌, ◌≢◌, ℕ, Bool, true, false, cond, List, [], ◌∷◌, refl, sym, ap, ◌∙◌, Option, Some, None, Result, Ok, Err, ⊎_elim, arith}
+use Rattle.std.proofs.Common.{◌≡◌, ◌≢◌, ℕ, Bool, true, false, cond, List, [], ◌∷◌, length, refl, sym, ap, ◌∙◌, Option, Some, None, Result, Ok, Err, ⊎_elim, arith}
 use Rattle.std.specs.Prelude.{codes, option_map, option_and_then}
 use Rattle.std.proofs.lemmas.Bool.{cases_eq}
 use Rattle.std.specs.Ordering.{nat_cmp}
 use Rattle.std.specs.FinMap.{get, insert, empty, get-empty, retain_keys}
-use Rattle.port_base.specs.declared.errno.TheConstants.{ENOENT, ENOTDIR, EISDIR, EFBIG}
+use Rattle.port_base.specs.declared.errno.TheConstants.{ENOENT, ENOTDIR, EISDIR, EINVAL, EFBIG}
 use Rattle.tree_model.specs.declared.attributes.Kind.TheVariants as kind
-use Rattle.tree_model.specs.Tree.{Tree, Record, Records, Body, body_at, linked, is_linked}
+use Rattle.tree_model.specs.declared.attributes.TimeSet.{TimeSet}
+use Rattle.tree_model.specs.Tree.{Tree, Record, Records, Body, body_at, is_directory_at, linked, keep, is_linked}
 use Rattle.tree_model.specs.Tree.Body.{File}
 use Rattle.tree_model.specs.Finding.{lookup_of, path_names, ino_among, entries_of, find}
 use Rattle.tree_model.specs.Attributes.{stat_of, attr_or_missing, kind_of}
 use Rattle.tree_model.specs.Making.{top_record, file_record, joined_by, changed, new_name_refused, add_refused, add_file_of, add_file_unless}
 use Rattle.tree_model.specs.Samples.{born, limits, alone, hello, world, sample}
-use Rattle.tree_model.specs.Opening.{asked, unless, open_refused, open_check_of, read_body, read_of, if_told, walk_to, found_at}
+use Rattle.tree_model.specs.Opening.{asked, unless, open_refused, open_check_of, read_body, read_of, readlink_body, readlink_of, if_told, walk_to, found_at}
 use Rattle.tree_model.specs.Placing.{placed, placed_unless, link_refused, linked_unless, add_hard_of}
-use Rattle.tree_model.specs.Attributing.{changing, rewritten_at, resized, refused_at, refused_unless_file, set_len_of}
+use Rattle.tree_model.specs.Attributing.{changing, rewritten_at, resized, refused_at, refused_unless_file, set_len_of, write_of, write_refused, fitting, overwritten_at, set_times_of, times_refused, retimed, with_changed}
+use Rattle.tree_model.specs.Unlinking.{unless_directory, unlinked_at, without_entry, unlink_of}
 use Rattle.tree_model.specs.Reading.{peek_entry_of, entry_above, part}
-use Rattle.tree_model.proofs.Maps.{inserted, insert_keeps, retained, same_gets}
+use Rattle.tree_model.proofs.Maps.{inserted, insert_keeps, retained, same_gets, rewritten}
 use Rattle.tree_model.proofs.Naming.{entry_is_counted}
 use Rattle.tree_model.proofs.Keeping.{named_is_linked}
 
@@ -157,3 +159,43 @@ too_long = ap (λ o. changing tt (rewritten_at born (resized 9)) 2 sample (refus
 
 pub no_file : set_len_of sample 1 0 ≡ Err EISDIR
 no_file = ap (λ o. changing tt (rewritten_at born (resized 0)) 1 sample (refused_at (refused_unless_file None) o)) body_of_top
+
+pub file_no_link : readlink_of sample 2 ≡ Err EINVAL
+file_no_link = ap (asked readlink_body) body_of_file
+
+-- what a write answers for the body that is there
+abbrev wrote : ℕ → ℕ → List ℕ → Option Body → Result (ℕ × Tree) ℕ
+wrote ino offset new o = changing (length (fitting 8 offset new)) (overwritten_at born offset (fitting 8 offset new)) ino sample (refused_at (write_refused 8 offset new) o)
+
+pub write_file : (offset : ℕ) (new : List ℕ) → write_of sample 2 offset new ≡ wrote 2 offset new (Some (File (codes "world")))
+write_file offset new = ap (wrote 2 offset new) body_of_file
+
+pub write_top : (offset : ℕ) (new : List ℕ) → write_of sample 1 offset new ≡ wrote 1 offset new (Some directory.body)
+write_top offset new = ap (wrote 1 offset new) body_of_top
+
+-- no bytes change nothing
+pub write_none : write_of sample 2 9 [] ≡ Ok (0, sample)
+write_none = write_file 9 [] ∙ ap (λ (rs : Records). let left : Tree = record sample { records = rs } in Ok (0, left)) (ap (λ o. changed (λ r. r) o sample.records 2) file_at ∙ rewritten sample.records 2 (file_record born world) (sym file_at))
+
+pub time_file : (atime mtime : TimeSet) → set_times_of sample 2 atime mtime ≡ changing tt (retimed atime mtime born) 2 sample (times_refused atime mtime (File (codes "world")))
+time_file atime mtime = ap (λ o. changing tt (retimed atime mtime born) 2 sample (refused_at (times_refused atime mtime) o)) body_of_file
+
+-- ---- what goes
+
+abbrev gone : (ℕ → Bool) → ℕ → List ℕ → Result ℕ ℕ → Result (Unit {0} × Tree) ℕ
+gone held dir name r = unlinked_at held sample dir name (unless_directory sample.records r)
+
+pub file_gone : (held : ℕ → Bool) → unlink_of held sample 1 hello ≡ Ok (tt, keep held (without_entry sample 1 hello 2))
+file_gone held = ap (gone held 1 hello) found ∙ ap (λ o. unlinked_at held sample 1 hello (cond (is_directory_at o) (Err EISDIR) (Ok 2))) body_of_file
+
+b_missing : lookup_of sample 1 (codes "b") ≡ Err ENOENT
+b_missing = ap (looked_up false (codes "b")) top_at
+
+pub none_gone : (held : ℕ → Bool) → unlink_of held sample 1 (codes "b") ≡ Err ENOENT
+none_gone held = ap (gone held 1 (codes "b")) b_missing
+
+pub none_below : (held : ℕ → Bool) → unlink_of held sample 2 hello ≡ Err ENOTDIR
+none_below held = ap (gone held 2 hello) in_file
+
+pub top_stays : unless_directory sample.records (Ok 1) ≡ Err EISDIR
+top_stays = ap (λ o. cond {A = Result ℕ ℕ} (is_directory_at o) (Err EISDIR) (Ok 1)) body_of_top

@@ -5,6 +5,7 @@ use Rattle.port_base.specs.declared.errno.TheConstants.{ENOENT}
 use Rattle.tree_model.specs.declared.attributes.Kind.{Kind}
 use Rattle.tree_model.specs.declared.attributes.Kind.TheVariants as kind
 use Rattle.tree_model.specs.declared.attributes.Attr.{Attr}
+use Rattle.tree_model.specs.declared.attributes.Statfs.{Statfs}
 use Rattle.tree_model.specs.Tree.{Tree, Record, Body}
 use Rattle.tree_model.specs.Tree.Body.{File, Directory, Link}
 
@@ -40,6 +41,10 @@ attr_or_missing i (Some r) = Ok (attr_of i r)
 -- `stat`: an inode that is held is stored, so a missing one is never asked for
 abbrev pub stat_of : Tree → ℕ → Result Attr ℕ
 stat_of t i = attr_or_missing i (map.get t.records i)
+
+-- `statfs`: blocks of 4096 bytes, rounded up, as many as a file may have, and the entries that a directory may have
+abbrev pub statfs_of : Tree → Statfs
+statfs_of t = record { blocks = (t.limits.file + 4095) / 4096; files = t.limits.entries }
 
 -- ---- as 9P2000.L and FUSE tell it
 

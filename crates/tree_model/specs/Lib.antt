@@ -11,3 +11,4 @@ pub mod Opening
 pub mod Samples
 pub mod Placing
 pub mod Attributing
+pub mod Unlinking

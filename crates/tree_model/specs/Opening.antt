@@ -77,6 +77,15 @@ target_of (Link target) = target
 abbrev pub target_at : Tree → ℕ → List ℕ
 target_at t ino = unwrap_or (option_map target_of (body_at t.records ino)) []
 
+abbrev pub readlink_body : Body → Result (List ℕ) ℕ
+readlink_body (File bytes) = Err EINVAL
+readlink_body (Directory es next above) = Err EINVAL
+readlink_body (Link target) = Ok target
+
+-- `readlink`: the target, or EINVAL for what is no link
+abbrev pub readlink_of : Tree → ℕ → Result (List ℕ) ℕ
+readlink_of t ino = asked readlink_body (body_at t.records ino)
+
 -- ---- paths
 
 -- walks names on from what a walk has so far, to whatever stands at the end

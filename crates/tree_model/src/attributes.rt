@@ -39,6 +39,22 @@ pub struct Attr {
     pub ctime: Stamp,
 }
 
+/// What becomes of a time: it stays, it becomes the moment, or it is given.
+#[derive(Clone, Copy, Debug, PartialEq, Eq)]
+pub enum TimeSet {
+    Keep,
+    Now,
+    At(Stamp),
+}
+
+/// What is told of a whole tree: the blocks of 4096 bytes that a file may have, and the entries that a
+/// directory may have.
+#[derive(Clone, Copy, Debug, PartialEq, Eq)]
+pub struct Statfs {
+    pub blocks: u64,
+    pub files: u64,
+}
+
 /// Why a call of a host failed: a refusal with its error number, a fault of what it stands on, or want of
 /// memory.
 #[derive(Clone, Copy, Debug, PartialEq, Eq)]

@@ -1,12 +1,16 @@
 //! Definitions computed on a small tree: a top directory with the file `hello`, inode 2, of five bytes.
-ghost use Rattle.std.specs.Prelude.{◌≡◌, Ok, Err, Some, None, [], ◌∷◌, codes};
-ghost use Rattle.port_base.specs.declared.errno.TheConstants.{EPERM, EEXIST, ENOTDIR, EISDIR, EINVAL, EFBIG, ELOOP, EOPNOTSUPP};
+ghost use Rattle.std.specs.Prelude.{◌≡◌, ℕ, Bool, Ok, Err, Some, None, [], ◌∷◌, codes};
+ghost use Rattle.port_base.specs.declared.errno.TheConstants.{EPERM, ENOENT, EEXIST, ENOTDIR, EISDIR, EINVAL, EFBIG, ELOOP, EOPNOTSUPP};
 ghost use Rattle.tree_model.specs.declared.attributes.Kind.TheVariants as kind;
 ghost use Rattle.tree_model.specs.Samples.{born, sample, hello};
+ghost use Rattle.tree_model.specs.Tree.{keep};
 ghost use Rattle.tree_model.specs.Tree.Body.{Link};
 ghost use Rattle.tree_model.specs.Placing.{add_directory_of, add_link_of, add_hard_of, with_record, with_link, directory_record, link_record};
-ghost use Rattle.tree_model.specs.Attributing.{resized, written, set_len_of, refused_for_link};
-ghost use Rattle.tree_model.specs.Opening.{open_check_of, open_refused, read_of, found_at};
+ghost use Rattle.tree_model.specs.Attributing.{resized, written, fitting, set_len_of, write_of, set_times_of, refused_for_link, with_changed, retimed, rewritten_at};
+ghost use Rattle.tree_model.specs.Opening.{open_check_of, open_refused, read_of, readlink_of, readlink_body, found_at};
+ghost use Rattle.tree_model.specs.Attributes.{statfs_of};
+ghost use Rattle.tree_model.specs.Unlinking.{without, without_entry, unless_directory, unlink_of};
+ghost use Rattle.tree_model.specs.declared.attributes.TimeSet.TheVariants.{Keep, Now, At};
 
 /// Opens of the file and of the directory, and the kinds that flags refuse.
 pub fn opening()
@@ -27,6 +31,9 @@ pub fn reading()
     ensures end { read_of sample 2 4 8 ≡ Ok (codes "d") }
     ensures beyond { read_of sample 2 9 8 ≡ Ok [] }
     ensures directory { read_of sample 1 0 8 ≡ Err EISDIR }
+    ensures no_link { readlink_of sample 2 ≡ Err EINVAL }
+    ensures link { readlink_body (Link hello) ≡ Ok hello }
+    ensures bounds { statfs_of sample ≡ record { blocks = 1; files = 2 } }
 {}
 
 /// What stands at the end of a path, whatever its kind.
@@ -57,4 +64,20 @@ pub fn changing()
     ensures long { set_len_of sample 2 9 ≡ Err EFBIG }
     ensures directory { set_len_of sample 1 0 ≡ Err EISDIR }
     ensures link { refused_for_link (Link hello) ≡ Some EOPNOTSUPP }
+    ensures beyond { write_of sample 2 8 (codes "z") ≡ Err EFBIG }
+    ensures nothing { write_of sample 2 9 [] ≡ Ok (0, sample) }
+    ensures fits { fitting 8 6 (codes "xyz") ≡ codes "xy" }
+    ensures over_file { write_of sample 2 6 (codes "xyz") ≡ Ok (2, with_changed (rewritten_at born (written 6 (codes "xy"))) 2 sample) }
+    ensures onto_directory { write_of sample 1 0 (codes "z") ≡ Err EISDIR }
+    ensures times { set_times_of sample 2 Keep Now ≡ Ok (tt, with_changed (retimed Keep Now born) 2 sample) }
+    ensures late { set_times_of sample 2 Keep (At (record { sec = 0; nsec = 1000000000 })) ≡ Err EINVAL }
+{}
+
+/// Names that are taken away, whatever is held, and what is refused.
+pub fn unlinking()
+    ensures rest { without hello (record { cookie = 1; name = hello; ino = 2 } ∷ record { cookie = 2; name = codes "b"; ino = 3 } ∷ []) ≡ record { cookie = 2; name = codes "b"; ino = 3 } ∷ [] }
+    ensures file { (held : ℕ → Bool) → unlink_of held sample 1 hello ≡ Ok (tt, keep held (without_entry sample 1 hello 2)) }
+    ensures missing { (held : ℕ → Bool) → unlink_of held sample 1 (codes "b") ≡ Err ENOENT }
+    ensures below_file { (held : ℕ → Bool) → unlink_of held sample 2 hello ≡ Err ENOTDIR }
+    ensures directory { unless_directory sample.records (Ok 1) ≡ Err EISDIR }
 {}

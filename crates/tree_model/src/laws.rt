@@ -8,10 +8,12 @@ ghost use Rattle.tree_model.specs.Sound.{IsCounted, AreStored};
 ghost use Rattle.tree_model.specs.Making.{new_tree, NewFile, add_file_of};
 ghost use Rattle.tree_model.specs.Placing.{add_directory_of, add_link_of, add_hard_of};
 ghost use Rattle.tree_model.specs.Attributes.{stat_of};
-ghost use Rattle.tree_model.specs.Attributing.{set_mode_of, set_owner_of, touch_ctime_of};
+ghost use Rattle.tree_model.specs.Attributing.{set_mode_of, set_owner_of, touch_ctime_of, set_times_of, set_len_of, write_of};
+ghost use Rattle.tree_model.specs.Unlinking.{unlink_of};
 ghost use Rattle.tree_model.specs.Reading.{record_after_of};
 ghost use Rattle.tree_model.specs.declared.attributes.Attr.{Attr};
 ghost use Rattle.tree_model.specs.declared.attributes.Stamp.{Stamp};
+ghost use Rattle.tree_model.specs.declared.attributes.TimeSet.{TimeSet};
 ghost use Rattle.tree_model.specs.declared.attributes.Limits.{Limits};
 
 /// After one record changed, the entries that name an inode are those that did, but for those of that
@@ -83,6 +85,26 @@ pub fn trees_with_other_owners_are_good()
 /// A good tree stays good where a ctime is stamped.
 pub fn trees_with_another_ctime_are_good()
     ensures { (t u : Tree) (ino : ℕ) → IsGoodTree t → touch_ctime_of t ino ≡ Ok (tt, u) → IsGoodTree u }
+{}
+
+/// A good tree stays good where times change.
+pub fn trees_with_other_times_are_good()
+    ensures { (t u : Tree) (ino : ℕ) (atime mtime : TimeSet) → IsGoodTree t → set_times_of t ino atime mtime ≡ Ok (tt, u) → IsGoodTree u }
+{}
+
+/// A good tree stays good where a file is cut or filled.
+pub fn trees_with_another_length_are_good()
+    ensures { (t u : Tree) (ino len : ℕ) → IsGoodTree t → set_len_of t ino len ≡ Ok (tt, u) → IsGoodTree u }
+{}
+
+/// A good tree stays good where bytes are written.
+pub fn trees_with_written_bytes_are_good()
+    ensures { (t u : Tree) (ino offset count : ℕ) (new : List ℕ) → IsGoodTree t → write_of t ino offset new ≡ Ok (count, u) → IsGoodTree u }
+{}
+
+/// A good tree stays good where a name of a file or a link is taken away, whatever is held.
+pub fn trees_without_a_name_are_good()
+    ensures { (held : ℕ → Bool) (t u : Tree) (dir : ℕ) (name : List ℕ) → IsGoodTree t → unlink_of held t dir name ≡ Ok (tt, u) → IsGoodTree u }
 {}
 
 /// The record that is told next is stored under its number, which is above the one asked for.

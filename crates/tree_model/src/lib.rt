@@ -5,4 +5,4 @@ mod attributes;
 pub mod examples;
 pub mod laws;
 
-pub use attributes::{Attr, HostError, Kind, Limits, Stamp};
+pub use attributes::{Attr, HostError, Kind, Limits, Stamp, Statfs, TimeSet};

@@ -1,12 +1,14 @@
 //! What is opened and read of a record.
-ghost use Rattle.std.specs.Prelude.{◌≡◌, ℕ, IfErr, length};
+ghost use Rattle.std.specs.Prelude.{◌≡◌, ◌≢◌, ℕ, IfErr, Err, length};
+ghost use Rattle.std.specs.Result.{result_map_both};
 ghost use Rattle.tree_model.specs.Attributes.{kind_of};
-ghost use Rattle.tree_model.specs.Opening.{access, has_flag, opens_to_change, kind_refused, open_refused, read_body, target_of};
-ghost use Rattle.tree_host.specs.Host.{Reads};
+ghost use Rattle.tree_model.specs.Opening.{access, has_flag, opens_to_change, kind_refused, open_refused, read_body, readlink_body, target_of};
+ghost use Rattle.tree_host.specs.Host.{Answers, Reads};
 
 use super::{Node, Stored, copy_part};
 use port_base::errno::{EEXIST, EINVAL, EISDIR, ELOOP, ENOTDIR};
 use port_base::oflag::{CREATE, DIRECTORY, EXCL, TRUNC};
+use std::alloc::Global;
 use tree_model::{HostError, Kind};
 
 fn access(flags: u32) -> u32
@@ -72,6 +74,20 @@ impl Node {
             Stored::Bytes(bytes) => Ok(copy_part(bytes, offset, buf)),
             Stored::Names { .. } => Err(HostError::Errno(EISDIR)),
             Stored::Target(_) => Err(HostError::Errno(EINVAL)),
+        }
+    }
+
+    /// A copy of the target of a link.
+    pub fn read_link(&self, alloc: Global) -> Result<Vec<u8>, HostError>
+        ensures answer { Answers (readlink_body self.now.body) (result_map_both (λ target. target.items) (λ e. e) result) }
+        ensures fault { result ≢ Err HostError.Fault }
+    {
+        let Stored::Target(target) = &self.body else {
+            return Err(HostError::Errno(EINVAL));
+        };
+        match Vec::from_slice(alloc, target) {
+            Ok(target) => Ok(target),
+            Err(_) => Err(HostError::NoMemory),
         }
     }
 

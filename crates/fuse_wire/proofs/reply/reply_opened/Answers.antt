@@ -1,0 +1,9 @@
+-- The pieces of the reply stand one behind another.
+use Rattle.std.proofs.Common.{append_assoc}
+use Rattle.fuse_wire.specs.Reply.{reply, opened_body}
+use Rattle.fuse_wire.proofs.Sizes.{length-opened_body}
+use Rattle.fuse_wire.proofs.reply.reply_opened.Goals as goal
+
+pub returns : goal.returns
+unfolding reply opened_body
+returns c = rw length-opened_body (rw (c.put_u32s.ensures.items, c.put_u64s.ensures.items, c.put_head.ensures.items) (simp append_assoc))

@@ -1,0 +1,46 @@
+//! Names that go.
+ghost use Rattle.std.specs.Prelude.{◌≡◌, ◌<◌, IfSome, length};
+ghost use Rattle.tree_model.specs.Unlinking.{without, parted_by, one_link_less};
+ghost use Rattle.tree_host.specs.Stored.{place_among};
+
+use super::{Name, Node, Stored};
+use tree_model::Stamp;
+
+fn place_of(entries: &[Name], name: &[u8]) -> Option<usize>
+    ensures found { result ≡ place_among name.now entries.now }
+    ensures bound { IfSome result (λ k. k < length entries.now) }
+{
+    entries.iter().position(|e| e.is_named(name))
+}
+
+fn remove_name(entries: &mut Vec<Name>, name: &[u8])
+    ensures { entries.new.items ≡ without name.now entries.old.items }
+{
+    match place_of(entries, name) {
+        Some(place) => {
+            entries.remove(place);
+        }
+        None => (),
+    }
+}
+
+impl Node {
+    /// The entry of a name goes, and the others keep their cookies.
+    pub fn part(&mut self, name: &[u8], moment: Stamp)
+        ensures { self.new ≡ parted_by name.now moment self.old }
+    {
+        if let Stored::Names { entries, .. } = &mut self.body {
+            remove_name(entries, name);
+        }
+        self.mtime = moment;
+        self.ctime = moment;
+    }
+
+    /// One entry less names it.
+    pub fn link_less(&mut self, moment: Stamp)
+        ensures { self.new ≡ one_link_less moment self.old }
+    {
+        self.links = self.links.saturating_sub(1);
+        self.ctime = moment;
+    }
+}

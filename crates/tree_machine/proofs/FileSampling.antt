@@ -1,0 +1,267 @@
+-- The first example goes on: `hello` is opened, read, closed and forgotten.
+use Rattle.std.proofs.Common.{◌≡◌, ℕ, ◌+◌, Bool, false, cond, List, [], ◌∷◌, refl, sym, ap, ◌∙◌, Option, Some, None, Ok, arith}
+use Rattle.std.specs.Prelude.{codes, drop, min, is_some, option_map, nat_le, ◌||◌}
+use Rattle.std.specs.Ordering.{nat_cmp}
+use Rattle.std.specs.Cmp.{nat_cmp_total}
+use Rattle.std.specs.FinMap.{FinMap, get, remove, empty, len, len-insert, len-empty, get-empty}
+use Rattle.port_base.specs.declared.errno.TheConstants.{EBADF, EISDIR, ENFILE, ENOSYS, ESTALE}
+use Rattle.tree_model.specs.Tree.{Record, body_at, is_directory_at}
+use Rattle.tree_model.specs.Attributes.{kind_of}
+use Rattle.tree_model.specs.Opening.{asked as asked_of, unless, open_refused, open_check_of, read_body}
+use Rattle.tree_model.proofs.Maps.{inserted, insert_keeps, undone}
+use Rattle.fuse_wire.specs.Fields.{u32_at, u64_at}
+use Rattle.fuse_wire.specs.Head.{head_of}
+use Rattle.fuse_wire.specs.Request.{request_of, request_in, open_of, read_of as read_in, handle_of, forget_of, batch_forget_of, open_file, read, flush, release, forget, batch_forget}
+use Rattle.fuse_wire.specs.Reply.{reply, reply_head, opened_body, u32s, u64s}
+use Rattle.tree_machine.specs.State.{MachineState, Node, Handle, is_at_limit}
+use Rattle.tree_machine.specs.State.Phase.{Started}
+use Rattle.tree_machine.specs.Core.{Reply, core, open_node, opened, read_core, READ_LIMIT, bytes_reply, flush_core, release_core}
+use Rattle.tree_machine.specs.Core.Reply.{Refused, HandleOf, BytesOf, Done}
+use Rattle.tree_machine.specs.Forgetting.{less_where, forgotten, all_forgotten, pairs_of}
+use Rattle.tree_machine.specs.Step.{step, asked, answer_bytes, core_of}
+use Rattle.tree_machine.specs.Messages.{messages, request_messages, open_node_messages, opened_messages, read_messages, one_where, gone}
+use Rattle.tree_machine.specs.Samples.{tree, settings, started, with_hello}
+use Rattle.tree_machine.specs.FileSamples.{open_frame, open_reply, with_open, read_frame, read_reply, release_frame, release_reply, with_closed, forget_frame, with_none, thrice_given, batch_frame}
+use Rattle.tree_machine.proofs.Sampling.{file, file_at, root_node, top_at}
+use Rattle.tree_machine.proofs.Forgetting.{gone_one}
+
+abbrev hello_node : Node
+hello_node = record { ino = 2; count = 1 }
+
+abbrev hello_handle : Handle
+hello_handle = record { ino = 2; access = 0; append = false }
+
+hello_known : get with_hello.nodes 2 ≡ Some hello_node
+hello_known = inserted started.nodes 2 hello_node
+
+hello_unknown : get started.nodes 2 ≡ None
+hello_unknown = insert_keeps empty 1 root_node 2 (λ h. absurd (omega (arith, h))) ∙ get-empty {X = Node} nat_cmp 2
+
+nine_unknown : get with_hello.nodes 9 ≡ None
+nine_unknown =
+    insert_keeps started.nodes 2 hello_node 9 (λ h. absurd (omega (arith, h)))
+    ∙ insert_keeps empty 1 root_node 9 (λ h. absurd (omega (arith, h))) ∙ get-empty {X = Node} nat_cmp 9
+
+is_open : get with_open.handles 3 ≡ Some hello_handle
+is_open = inserted with_hello.handles 3 hello_handle
+
+none_open : get with_hello.handles 3 ≡ None
+none_open = get-empty {X = Handle} nat_cmp 3
+
+-- ---- OPEN
+
+open_limit : is_at_limit settings with_hello ≡ false
+open_limit =
+    let one : len started.nodes ≡ 1 = len-insert nat_cmp_total empty 1 root_node ∙ ap (λ (o : Option Node). cond (is_some o) (len (empty {X = Node} {R = nat_cmp})) (len (empty {X = Node} {R = nat_cmp}) + 1)) (get-empty {X = Node} nat_cmp 1) ∙ ap (λ k. k + 1) (len-empty nat_cmp Node) in
+    let two : len with_hello.nodes ≡ 2 = len-insert nat_cmp_total started.nodes 2 hello_node ∙ ap (λ (o : Option Node). cond (is_some o) (len started.nodes) (len started.nodes + 1)) hello_unknown ∙ ap (λ k. k + 1) one in
+    ap (λ k. nat_le 1024 (k + len started.handles) || nat_le 4294967295 3) two ∙ ap (λ k. nat_le 1024 (2 + k) || nat_le 4294967295 3) (len-empty nat_cmp Handle)
+
+open_asked : asked Started open_frame ≡ Ok (open_file 0)
+unfolding u32_at u64_at request_of request_in open_of
+open_asked = refl
+
+open_nodeid : (head_of open_frame).nodeid ≡ 2
+unfolding u32_at u64_at
+open_nodeid = refl
+
+opened_is : core settings with_hello 2 (Ok (open_file 0)) ≡ (HandleOf 3, with_open)
+opened_is =
+    ap (λ (o : Option Node). open_node settings with_hello 0 o) hello_known
+    ∙ ap (λ (b : Bool). cond {A = Reply × MachineState} b (Refused ENFILE, with_hello) (cond (is_directory_at (body_at tree.records 2)) (Refused EISDIR, with_hello) (opened with_hello 2 0 (open_check_of tree 2 0)))) open_limit
+    ∙ ap (λ (o : Option Record). cond {A = Reply × MachineState} (is_directory_at (option_map (λ (r : Record). r.body) o)) (Refused EISDIR, with_hello) (opened with_hello 2 0 (asked_of (λ b. unless (open_refused 0 (kind_of b))) (option_map (λ (r : Record). r.body) o)))) file_at
+
+open_told : core_of settings with_hello open_frame ≡ (HandleOf 3, with_open)
+open_told =
+    ap (λ r. core settings with_hello (head_of open_frame).nodeid r) open_asked
+    ∙ ap (λ n. core settings with_hello n (Ok (open_file 0))) open_nodeid ∙ opened_is
+
+open_spelled : answer_bytes open_frame (HandleOf 3) ≡ open_reply
+unfolding u32_at u64_at reply reply_head opened_body u32s u64s
+open_spelled = refl
+
+pub open_answered : (step settings with_hello open_frame).0 ≡ open_reply
+open_answered = ap (λ (x : Reply × MachineState). answer_bytes open_frame x.0) open_told ∙ open_spelled
+
+pub open_leaves : (core_of settings with_hello open_frame).1 ≡ with_open
+open_leaves = ap (λ (x : Reply × MachineState). x.1) open_told
+
+pub open_counted : messages 4341 settings with_hello open_frame ≡ 2
+open_counted =
+    ap (λ r. request_messages 4341 settings with_hello (head_of open_frame).nodeid r) open_asked
+    ∙ ap (λ n. request_messages 4341 settings with_hello n (Ok (open_file 0))) open_nodeid
+    ∙ ap (λ (o : Option Node). open_node_messages settings with_hello 0 o) hello_known
+    ∙ ap (λ (b : Bool). cond {A = ℕ} b 0 (cond (is_directory_at (body_at tree.records 2)) 0 (opened_messages (open_check_of tree 2 0)))) open_limit
+    ∙ ap (λ (o : Option Record). cond {A = ℕ} (is_directory_at (option_map (λ (r : Record). r.body) o)) 0 (opened_messages (asked_of (λ b. unless (open_refused 0 (kind_of b))) (option_map (λ (r : Record). r.body) o)))) file_at
+
+-- flags that aren't served come first, then a node that isn't there, then a directory
+pub open_flagged : (core settings with_hello 9 (Ok (open_file 1))).0 ≡ Refused ENOSYS
+open_flagged = refl
+
+pub open_cut : (core settings with_hello 9 (Ok (open_file 512))).0 ≡ Refused ENOSYS
+open_cut = refl
+
+pub open_unknown : (core settings with_hello 9 (Ok (open_file 0))).0 ≡ Refused ESTALE
+open_unknown = ap (λ (o : Option Node). (open_node settings with_hello 0 o).0) nine_unknown
+
+root_known : get with_hello.nodes 1 ≡ Some root_node
+root_known = insert_keeps started.nodes 2 hello_node 1 (λ h. absurd (omega (arith, h))) ∙ inserted empty 1 root_node
+
+pub open_directory : (core settings with_hello 1 (Ok (open_file 0))).0 ≡ Refused EISDIR
+open_directory =
+    ap (λ (o : Option Node). (open_node settings with_hello 0 o).0) root_known
+    ∙ ap (λ (b : Bool). (cond {A = Reply × MachineState} b (Refused ENFILE, with_hello) (cond (is_directory_at (body_at tree.records 1)) (Refused EISDIR, with_hello) (opened with_hello 1 0 (open_check_of tree 1 0)))).0) open_limit
+    ∙ ap (λ (o : Option Record). (cond {A = Reply × MachineState} (is_directory_at (option_map (λ (r : Record). r.body) o)) (Refused EISDIR, with_hello) (opened with_hello 1 0 (open_check_of tree 1 0))).0) top_at
+
+nine_closed : get with_open.handles 9 ≡ None
+nine_closed = insert_keeps with_hello.handles 3 hello_handle 9 (λ h. absurd (omega (arith, h))) ∙ get-empty {X = Handle} nat_cmp 9
+
+pub read_unknown : (core settings with_open 2 (Ok (read 9 0 4 0 None))).0 ≡ Refused EBADF
+read_unknown = ap (read_core with_open 0 4) nine_closed
+
+pub flush_unknown : (core settings with_open 2 (Ok (flush 9))).0 ≡ Refused EBADF
+flush_unknown = ap flush_core nine_closed
+
+pub release_unknown : core settings with_open 2 (Ok (release 9)) ≡ (Refused EBADF, with_open)
+release_unknown = ap (release_core with_open 9) nine_closed
+
+-- ---- READ
+
+read_asked : asked Started read_frame ≡ Ok (read 3 1 4 0 None)
+unfolding u32_at u64_at request_of request_in read_in
+read_asked = refl
+
+reads_file : (offset size : ℕ) → read_core with_open offset size (get with_open.handles 3) ≡ bytes_reply (read_body offset (min size READ_LIMIT) file.body)
+reads_file offset size =
+    ap (read_core with_open offset size) is_open
+    ∙ ap (λ (o : Option Record). cond {A = Reply} (is_directory_at (option_map (λ (r : Record). r.body) o)) (Refused EISDIR) (bytes_reply (asked_of (read_body offset (min size READ_LIMIT)) (option_map (λ (r : Record). r.body) o)))) file_at
+
+read_told : core_of settings with_open read_frame ≡ (BytesOf (codes "ello"), with_open)
+read_told = ap (λ r. core settings with_open (head_of read_frame).nodeid r) read_asked ∙ ap (λ (x : Reply). (x, with_open)) (reads_file 1 4)
+
+read_spelled : answer_bytes read_frame (BytesOf (codes "ello")) ≡ read_reply
+unfolding u32_at u64_at reply reply_head u32s u64s
+read_spelled = refl
+
+pub read_answered : (step settings with_open read_frame).0 ≡ read_reply
+read_answered = ap (λ (x : Reply × MachineState). answer_bytes read_frame x.0) read_told ∙ read_spelled
+
+pub read_counted : messages 4341 settings with_open read_frame ≡ 1
+read_counted = ap (λ r. request_messages 4341 settings with_open (head_of read_frame).nodeid r) read_asked ∙ ap (read_messages 4341 4) (reads_file 1 4)
+
+pub read_to_end : (core settings with_open 2 (Ok (read 3 4 4294967295 0 None))).0 ≡ BytesOf (codes "o\n")
+read_to_end = reads_file 4 4294967295
+
+pub read_beyond : (core settings with_open 2 (Ok (read 3 6 4 0 None))).0 ≡ BytesOf []
+read_beyond = reads_file 6 4
+
+-- ---- FLUSH and RELEASE
+
+pub flush_done : (core settings with_open 2 (Ok (flush 3))).0 ≡ Done
+flush_done = ap flush_core is_open
+
+release_asked : asked Started release_frame ≡ Ok (release 3)
+unfolding u32_at u64_at request_of request_in handle_of
+release_asked = refl
+
+closed_again : record with_open { handles = remove with_open.handles 3 } ≡ with_closed
+closed_again = ap (λ (handles : FinMap nat_cmp Handle). record with_open { handles = handles }) (undone with_hello.handles 3 hello_handle none_open)
+
+release_told : core_of settings with_open release_frame ≡ (Done, with_closed)
+release_told =
+    ap (λ r. core settings with_open (head_of release_frame).nodeid r) release_asked
+    ∙ ap (λ (o : Option Handle). release_core with_open 3 o) is_open
+    ∙ ap (λ (m : MachineState). (Done, m)) closed_again
+
+release_spelled : answer_bytes release_frame Done ≡ release_reply
+unfolding u32_at u64_at reply reply_head u32s u64s
+release_spelled = refl
+
+pub release_answered : (step settings with_open release_frame).0 ≡ release_reply
+release_answered = ap (λ (x : Reply × MachineState). answer_bytes release_frame x.0) release_told ∙ release_spelled
+
+pub release_leaves : (core_of settings with_open release_frame).1 ≡ with_closed
+release_leaves = ap (λ (x : Reply × MachineState). x.1) release_told
+
+pub release_counted : messages 4341 settings with_open release_frame ≡ 1
+release_counted =
+    ap (λ r. request_messages 4341 settings with_open (head_of release_frame).nodeid r) release_asked
+    ∙ ap (λ (o : Option Handle). one_where o) is_open
+
+-- ---- FORGET and BATCH_FORGET
+
+forget_asked : asked Started forget_frame ≡ Ok (forget 1)
+unfolding u32_at u64_at request_of request_in forget_of
+forget_asked = refl
+
+forget_nodeid : (head_of forget_frame).nodeid ≡ 2
+unfolding u32_at u64_at
+forget_nodeid = refl
+
+without_hello : record with_hello { nodes = remove with_hello.nodes 2 } ≡ with_none
+without_hello = ap (λ (nodes : FinMap nat_cmp Node). record with_hello { nodes = nodes }) (undone started.nodes 2 hello_node hello_unknown)
+
+gone_again : forgotten with_hello 2 1 ≡ with_none
+gone_again = ap (λ (o : Option Node). less_where with_hello 2 1 o) hello_known ∙ without_hello
+
+forget_told : core_of settings with_hello forget_frame ≡ (Done, with_none)
+forget_told =
+    ap (λ r. core settings with_hello (head_of forget_frame).nodeid r) forget_asked
+    ∙ ap (λ n. core settings with_hello n (Ok (forget 1))) forget_nodeid
+    ∙ ap (λ (m : MachineState). (Done, m)) gone_again
+
+pub forget_silent : (step settings with_hello forget_frame).0 ≡ []
+unfolding u32_at u64_at
+forget_silent = refl
+
+pub forget_leaves : (core_of settings with_hello forget_frame).1 ≡ with_none
+forget_leaves = ap (λ (x : Reply × MachineState). x.1) forget_told
+
+one_gone : gone with_hello with_none ≡ 1
+one_gone = ap (gone with_hello) (sym without_hello) ∙ gone_one with_hello 2 hello_node hello_known
+
+pub forget_counted : messages 4341 settings with_hello forget_frame ≡ 1
+forget_counted =
+    ap (λ r. request_messages 4341 settings with_hello (head_of forget_frame).nodeid r) forget_asked
+    ∙ ap (λ n. request_messages 4341 settings with_hello n (Ok (forget 1))) forget_nodeid
+    ∙ ap (gone with_hello) gone_again ∙ one_gone
+
+abbrev three_pairs : List (ℕ × ℕ)
+three_pairs = (9, 1) ∷ (1, 5) ∷ (2, 1) ∷ []
+
+batch_asked : asked Started batch_frame ≡ Ok (batch_forget (drop 48 batch_frame))
+unfolding u32_at u64_at request_of request_in batch_forget_of
+batch_asked = refl
+
+batch_pairs : pairs_of (drop 48 batch_frame) ≡ three_pairs
+unfolding u64_at
+batch_pairs = refl
+
+batch_gone : all_forgotten with_hello three_pairs ≡ with_none
+batch_gone = ap (λ (o : Option Node). forgotten (forgotten (less_where with_hello 9 1 o) 1 5) 2 1) nine_unknown ∙ gone_again
+
+batch_by : (bytes : List ℕ) → pairs_of bytes ≡ three_pairs → all_forgotten with_hello (pairs_of bytes) ≡ with_none
+batch_by bytes h = ap (all_forgotten with_hello) h ∙ batch_gone
+
+pub batch_silent : (step settings with_hello batch_frame).0 ≡ []
+unfolding u32_at u64_at
+batch_silent = refl
+
+pub batch_leaves : (core_of settings with_hello batch_frame).1 ≡ with_none
+batch_leaves =
+    ap (λ r. (core settings with_hello (head_of batch_frame).nodeid r).1) batch_asked
+    ∙ batch_by (drop 48 batch_frame) batch_pairs
+
+pub batch_counted : messages 4341 settings with_hello batch_frame ≡ 1
+batch_counted =
+    ap (λ r. request_messages 4341 settings with_hello (head_of batch_frame).nodeid r) batch_asked
+    ∙ ap (gone with_hello) (batch_by (drop 48 batch_frame) batch_pairs) ∙ one_gone
+
+-- ---- a node that was given three times
+
+three_known : get thrice_given.nodes 2 ≡ Some (record { ino = 2; count = 3 })
+three_known = inserted started.nodes 2 (record { ino = 2; count = 3 })
+
+pub counted_down : get (forgotten thrice_given 2 2).nodes 2 ≡ Some (record { ino = 2; count = 1 })
+counted_down =
+    ap (λ (o : Option Node). get (less_where thrice_given 2 2 o).nodes 2) three_known
+    ∙ inserted thrice_given.nodes 2 (record { ino = 2; count = 1 })

@@ -1,0 +1,9 @@
+-- The lemma on names that are taken away.
+use Rattle.std.proofs.Common.{refl}
+use Rattle.tree_model.specs.Finding.{lookup_of}
+use Rattle.tree_model.specs.Unlinking.{unless_directory}
+use Rattle.tree_model.proofs.Leaving.{unlinked_good}
+use Rattle.tree_model.proofs.laws.trees_without_a_name_are_good.Goals as goal
+
+pub returns : goal.returns
+returns c = λ held t u dir name g made. unlinked_good held t u g dir name (unless_directory t.records (lookup_of t dir name)) refl made
