@@ -12,6 +12,8 @@ pub record Session : Type 0 where
   -- the state of the machine, and how the tree is shared
   pub state : MachineState
   pub settings : Settings
+  -- the most bytes of a file that one message brings
+  pub piece : ℕ
   -- how often what the server stands on has failed, and whether it never fails
   pub faults : ℕ
   pub steady : Bool
@@ -30,14 +32,15 @@ Met before more now = min (before + more) (2 ^ 64 - 1) ≤ now
 -- what always holds of a later moment of a session
 pub record Stays (old new : Session) : Type 0 where
   pub settings : new.settings ≡ old.settings
+  pub piece : new.piece ≡ old.piece
   pub steady : new.steady ≡ old.steady
   pub steadily : IsTrue old.steady → new.faults ≡ old.faults
   pub rises : old.faults ≤ new.faults
 
 -- the step of the machine, with its messages; or, only where the count of faults rose, a step that met a fault
-abbrev pub StepOutcome : Settings → MachineState → MachineState → ℕ → ℕ → ℕ → List ℕ → List ℕ → Type 0
-StepOutcome s m0 m1 f0 f1 sent frame bytes =
-    ((bytes ≡ (step s m0 frame).0) × (m1 ≡ (step s m0 frame).1) × (sent ≡ messages s m0 frame)) ⊎ (Rose f0 f1 × IsHurtStep s m0 frame bytes m1)
+abbrev pub StepOutcome : ℕ → Settings → MachineState → MachineState → ℕ → ℕ → ℕ → List ℕ → List ℕ → Type 0
+StepOutcome piece s m0 m1 f0 f1 sent frame bytes =
+    ((bytes ≡ (step s m0 frame).0) × (m1 ≡ (step s m0 frame).1) × (sent ≡ messages piece s m0 frame)) ⊎ (Rose f0 f1 × IsHurtStep s m0 frame bytes m1)
 
 -- a frame was answered by these bytes
 pub record Answers (old new : Session) (frame bytes : List ℕ) : Type 0 where
@@ -46,7 +49,7 @@ pub record Answers (old new : Session) (frame bytes : List ℕ) : Type 0 where
   pub number : ℕ
   pub sent : Counted old.sent number new.sent
   pub asked : Counted old.asked number new.asked
-  pub outcome : StepOutcome old.settings old.state new.state old.faults new.faults number frame bytes
+  pub outcome : StepOutcome old.piece old.settings old.state new.state old.faults new.faults number frame bytes
 
 -- a reply grew by the bytes that answer a frame
 abbrev pub AppendsAnswer : Session → Session → List ℕ → List ℕ → List ℕ → Type 0
@@ -68,4 +71,4 @@ pub record Answered (old new : Session) (frames : List (List ℕ)) (replies : Li
   pub hurt : ℕ
   pub run : Hurt old.settings old.state frames hurt replies new.state
   pub met : Met old.faults hurt new.faults
-  pub exact : hurt ≡ 0 → number ≡ messages_from old.settings old.state frames
+  pub exact : hurt ≡ 0 → number ≡ messages_from old.piece old.settings old.state frames

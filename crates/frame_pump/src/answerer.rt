@@ -8,7 +8,7 @@ use port_base::sink::NoMemory;
 /// Answers frames one at a time, over something below that it is handed at each call, as a gate does over a
 /// 9P server.
 pub trait Answerer<N> {
-    /// What both show: the state of the machine, the settings, and their counts.
+    /// What both show: the state of the machine, the settings, the bytes of a piece, and their counts.
     ghost session: { Self → N → Session };
 
     /// Whether both stand for a good state of the machine.

@@ -9,7 +9,7 @@ ghost use Rattle.frame_pump.specs.Sessions.{Session, Counted, Answers, Answered}
 pub fn unfailing_runs_are_plays()
     ensures { (s0 s1 : Session) (frames : List (List ℕ)) (replies : List ℕ) → Answered s0 s1 frames replies → s1.faults ≡ s0.faults → s0.faults < 2 ^ 64 - 1 →
         (replies ≡ (play_from s0.settings s0.state frames).0) × (s1.state ≡ (play_from s0.settings s0.state frames).1)
-        × Counted s0.sent (messages_from s0.settings s0.state frames) s1.sent × Counted s0.asked (messages_from s0.settings s0.state frames) s1.asked }
+        × Counted s0.sent (messages_from s0.piece s0.settings s0.state frames) s1.sent × Counted s0.asked (messages_from s0.piece s0.settings s0.state frames) s1.asked }
 {}
 
 /// A frame that is answered behind others is one of them.

@@ -47,6 +47,7 @@ impl Answerer<()> for Failing {
     ghost session = { λ f below. record {
       state = begun (record { records = map.empty; next = 2; limits = record { file = 0; entries = 0; links = 1 }; moment = record { sec = 0; nsec = 0 } }) 1;
       settings = record { root = []; uid_map = map.empty; gid_map = map.empty; casefold = false; limit = 1 };
+      piece = 1;
       faults = f.failed;
       steady = false;
       sent = f.failed;

@@ -14,13 +14,12 @@ use Rattle.fid_model.specs.Asked.{Asks, getattr_told}
 use Rattle.fuse_gate.specs.Mapped.{mapped}
 use Rattle.fuse_gate.specs.Standing.{IsInStep, machine_of, node_of, handle_of}
 use Rattle.fuse_gate.specs.Steps.{IsServed}
-use Rattle.fuse_gate.specs.Replies.{laid_out, laid_out_attributes}
+use Rattle.fuse_gate.specs.Replies.{LaidOut, laid_out, laid_out_attributes}
 use Rattle.fuse_gate.specs.Changes.{one_sent}
 use Rattle.fuse_gate.specs.declared.gate.Node.{Node}
 use Rattle.fuse_gate.specs.declared.gate.Handle.{Handle}
 use Rattle.fuse_gate.specs.declared.gate.Gate.{Gate}
-use Rattle.fuse_gate.specs.declared.gate.reply.Reply.{Reply}
-use Rattle.fuse_gate.specs.declared.gate.reply.Reply.TheVariants as given
+use Rattle.fuse_gate.specs.Replies.LaidOut as given
 use Rattle.fuse_gate.proofs.MappedLemmas.{get-mapped}
 use Rattle.fuse_gate.proofs.Standings.{unmoved, kept, hurt, node_fid, handle_fid}
 use Rattle.fuse_gate.proofs.Showing.{first_of_pair, second_of_pair}
@@ -33,7 +32,7 @@ pub some_there : {X : Type 0} (o : Option X) → is_some o ≡ true → (x : X) 
 some_there None h = absurd (false≢true h)
 some_there (Some x) h = (x, refl)
 
-abbrev attr_given : Result FileAttr ℕ → Reply
+abbrev attr_given : Result FileAttr ℕ → LaidOut
 attr_given (Ok a) = given.Attr a
 attr_given (Err e) = given.Refused e
 

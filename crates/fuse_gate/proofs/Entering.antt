@@ -20,11 +20,10 @@ use Rattle.p9_client.specs.Views.{IsRoomy}
 use Rattle.fuse_gate.specs.Mapped.{mapped}
 use Rattle.fuse_gate.specs.Standing.{machine_of, node_of}
 use Rattle.fuse_gate.specs.Steps.{IsServed}
-use Rattle.fuse_gate.specs.Replies.{laid_out, laid_out_attributes}
+use Rattle.fuse_gate.specs.Replies.{LaidOut, laid_out, laid_out_attributes}
 use Rattle.fuse_gate.specs.Changes.{HasFresh, without, counted_node, counted_by, counted_up, with_node, one_sent, entering_rest}
 use Rattle.fuse_gate.specs.declared.gate.Gate.{Gate}
-use Rattle.fuse_gate.specs.declared.gate.reply.Reply.{Reply}
-use Rattle.fuse_gate.specs.declared.gate.reply.Reply.TheVariants as given
+use Rattle.fuse_gate.specs.Replies.LaidOut as given
 use Rattle.fuse_gate.proofs.MappedLemmas.{mapped-insert}
 use Rattle.fuse_gate.proofs.Known.{known_found, unknown_found}
 use Rattle.fuse_gate.proofs.Standings.{hurt, made, sent_stands}
@@ -46,7 +45,7 @@ pub shown_at_fid : (s s1 : ServerState) (fid ino f0 f1 : ℕ) (x r : Result File
     → Asks (laid_out_attributes (getattr_told s ino).0, s) r s s1 f0 f1
 shown_at_fid s s1 fid ino f0 f1 x r is answer at = subst (λ (r : Result FileAttr ℕ). Asks (laid_out_attributes (getattr_told s ino).0, s) r s s1 f0 f1) is (answer (closed ino) at)
 
-abbrev entry_given : ℕ → Result FileAttr ℕ → Reply
+abbrev entry_given : ℕ → Result FileAttr ℕ → LaidOut
 entry_given node (Ok a) = given.Entry node a
 entry_given node (Err e) = given.Refused e
 
@@ -72,7 +71,7 @@ module _ {g : Gate} {s : ServerState} {ino : ℕ} {qid : Qid} (h : HasFresh g s 
   rest = entering_rest (node_found (machine_of g s) ino)
 
   -- the clauses speak of the state with the fid
-  with_fid : (what : MachineReply × MachineState) (messages : ℕ) (g1 : Gate) (s2 : ServerState) (f0 f2 a0 a2 : ℕ) (reply : Reply)
+  with_fid : (what : MachineReply × MachineState) (messages : ℕ) (g1 : Gate) (s2 : ServerState) (f0 f2 a0 a2 : ℕ) (reply : LaidOut)
       → IsServed what messages g g1 (without s g.next) s2 f0 f2 a0 a2 reply → IsServed what messages g g1 s s2 f0 f2 a0 a2 reply
   with_fid what messages g1 s2 f0 f2 a0 a2 reply served = record { stands = served.stands; fixed = served.fixed; sent = served.sent; frames = served.frames; asked = served.asked; outcome = served.outcome }
 

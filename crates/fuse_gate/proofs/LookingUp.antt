@@ -23,12 +23,11 @@ use Rattle.p9_client.specs.Views.{qid_answer}
 use Rattle.fuse_gate.specs.Mapped.{mapped}
 use Rattle.fuse_gate.specs.Standing.{IsInStep, machine_of, node_of}
 use Rattle.fuse_gate.specs.Steps.{IsServed}
-use Rattle.fuse_gate.specs.Replies.{laid_out}
+use Rattle.fuse_gate.specs.Replies.{LaidOut, laid_out}
 use Rattle.fuse_gate.specs.Changes.{HasFresh, without, one_sent, entering_rest}
 use Rattle.fuse_gate.specs.declared.gate.Node.{Node}
 use Rattle.fuse_gate.specs.declared.gate.Gate.{Gate}
-use Rattle.fuse_gate.specs.declared.gate.reply.Reply.{Reply}
-use Rattle.fuse_gate.specs.declared.gate.reply.Reply.TheVariants as given
+use Rattle.fuse_gate.specs.Replies.LaidOut as given
 use Rattle.fuse_gate.proofs.MappedLemmas.{get-mapped, len-mapped}
 use Rattle.fuse_gate.proofs.Standings.{unmoved, kept, hurt, fid_free, sent_stands}
 use Rattle.fuse_gate.specs.Standing.{handle_of}
@@ -113,7 +112,7 @@ module _ {g : Gate} {s : ServerState} (st : IsInStep g s) (good : IsGoodServer s
 
     module _ (room : (nat_le s.settings.limit g.used || nat_le NUMBER_LIMIT g.next) ≡ false) (no_fault : None ≡ name_fault name) where
       -- what is served of the found inode is served of the name
-      of_found : (g0 g1 : Gate) (s0 s1 : ServerState) (f0 f1 a0 a1 : ℕ) (reply : Reply) (r : Result ℕ ℕ) → found ≡ r → IsServed (looked_up s.settings (machine_of g s) r) (found_messages (machine_of g s) r) g0 g1 s0 s1 f0 f1 a0 a1 reply → IsServed told count g0 g1 s0 s1 f0 f1 a0 a1 reply
+      of_found : (g0 g1 : Gate) (s0 s1 : ServerState) (f0 f1 a0 a1 : ℕ) (reply : LaidOut) (r : Result ℕ ℕ) → found ≡ r → IsServed (looked_up s.settings (machine_of g s) r) (found_messages (machine_of g s) r) g0 g1 s0 s1 f0 f1 a0 a1 reply → IsServed told count g0 g1 s0 s1 f0 f1 a0 a1 reply
       of_found g0 g1 s0 s1 f0 f1 a0 a1 reply r is served =
           subst (λ (t : MachineReply × MachineState). IsServed t count g0 g1 s0 s1 f0 f1 a0 a1 reply) (sym (limited false room no_fault ∙ ap (looked_up s.settings (machine_of g s)) is))
           (subst (λ k. IsServed (looked_up s.settings (machine_of g s) r) k g0 g1 s0 s1 f0 f1 a0 a1 reply) (sym (limited_count false room no_fault ∙ ap (found_messages (machine_of g s)) is)) served)
@@ -179,7 +178,7 @@ module _ {g : Gate} {s : ServerState} (st : IsInStep g s) (good : IsGoodServer s
             few_used small = grind (arith, nat_tests, room)
 
       -- after the walk
-      entered_on : (i : ℕ) (fids : FinMap _ Fid) (g2 : Gate) (s2 : ServerState) (f0 f1 f2 a0 a1 a2 : ℕ) (reply : Reply) → f0 ≤ f1 → a1 ≡ min (a0 + 1) (2 ^ 64 - 1)
+      entered_on : (i : ℕ) (fids : FinMap _ Fid) (g2 : Gate) (s2 : ServerState) (f0 f1 f2 a0 a1 a2 : ℕ) (reply : LaidOut) → f0 ≤ f1 → a1 ≡ min (a0 + 1) (2 ^ 64 - 1)
           → IsServed (looked_up s.settings (machine_of g s) (Ok i)) (entering_rest (node_found (machine_of g s) i)) (one_sent g) g2 (record s { fids = fids }) s2 f1 f2 a1 a2 reply
           → IsServed (looked_up s.settings (machine_of g s) (Ok i)) (found_messages (machine_of g s) (Ok i)) g g2 s s2 f0 f2 a0 a2 reply
       entered_on i fids g2 s2 f0 f1 f2 a0 a1 a2 reply le counted served =
@@ -195,7 +194,7 @@ module _ {g : Gate} {s : ServerState} (st : IsInStep g s) (good : IsGoodServer s
             outcome = ⊎_elim (λ e. inl (e.0, e.1, ap (λ k. 1 + k) e.2 ∙ more)) (λ k. inr (rose_back f0 f1 f2 le k.0, k.1, k.2, k.3)) served.outcome;
           }
 
-      pub lookup_entered : (q : Qid) (g1 : Gate) (s1 : ServerState) (f0 f1 f2 a0 a1 a2 : ℕ) (g2 : Gate) (s2 : ServerState) (reply : Reply) → f0 ≤ f1 → g1 ≡ one_sent g → Asks (walk_one_told s n.ino g.next name) (Ok q) s s1 f0 f1 → a1 ≡ min (a0 + 1) (2 ^ 64 - 1)
+      pub lookup_entered : (q : Qid) (g1 : Gate) (s1 : ServerState) (f0 f1 f2 a0 a1 a2 : ℕ) (g2 : Gate) (s2 : ServerState) (reply : LaidOut) → f0 ≤ f1 → g1 ≡ one_sent g → Asks (walk_one_told s n.ino g.next name) (Ok q) s s1 f0 f1 → a1 ≡ min (a0 + 1) (2 ^ 64 - 1)
           → IsServed (looked_up s1.settings (machine_of g1 s1) (Ok q.1.1)) (entering_rest (node_found (machine_of g1 s1) q.1.1)) g1 g2 s1 s2 f1 f2 a1 a2 reply → IsServed told count g g2 s s2 f0 f2 a0 a2 reply
       lookup_entered q g1 s1 f0 f1 f2 a0 a1 a2 g2 s2 reply le sent a counted served =
           let w = found_walk found q s1 f0 f1 a in

@@ -14,13 +14,12 @@ use Rattle.fuse_gate.specs.Mapped.{mapped}
 use Rattle.fuse_gate.specs.Standing.{IsInStep, ArePaired, machine_of, node_of, handle_of, fid_at, opened}
 use Rattle.frame_pump.specs.Sessions.{Counted}
 use Rattle.fuse_gate.specs.Steps.{IsServed}
-use Rattle.fuse_gate.specs.Replies.{laid_out}
+use Rattle.fuse_gate.specs.Replies.{LaidOut, laid_out}
 use Rattle.fuse_gate.specs.declared.gate.TheConstants.{LEAST_MSIZE}
 use Rattle.fuse_gate.specs.declared.gate.Node.{Node}
 use Rattle.fuse_gate.specs.declared.gate.Handle.{Handle}
 use Rattle.fuse_gate.specs.declared.gate.Gate.{Gate}
-use Rattle.fuse_gate.specs.declared.gate.reply.Reply.{Reply}
-use Rattle.fuse_gate.specs.declared.gate.reply.Reply.TheVariants.{Refused}
+use Rattle.fuse_gate.specs.Replies.LaidOut.{Refused}
 use Rattle.fuse_gate.proofs.MappedLemmas.{mapped_at, mapped_none}
 use Rattle.fuse_gate.proofs.Held.{named_is_held}
 
@@ -41,7 +40,7 @@ settled_same g s paired apart good =
     ∙ keep_same s.tree (is_held s.fids) good.kept)
 
 -- a request that was carried out
-pub made : (told : MachineReply × MachineState) (messages : ℕ) (g0 g1 : Gate) (s0 s1 : ServerState) (f0 f1 a0 a1 : ℕ) (reply : Reply)
+pub made : (told : MachineReply × MachineState) (messages : ℕ) (g0 g1 : Gate) (s0 s1 : ServerState) (f0 f1 a0 a1 : ℕ) (reply : LaidOut)
     → IsGoodServer s1 → ArePaired g1 s1 → LEAST_MSIZE ≤ s1.msize → s1.settings ≡ s0.settings → IsGoodMachine s0.settings (settled told.1)
     → reply ≡ laid_out told.0 → machine_of g1 s1 ≡ told.1 → Counted g0.nine_frames messages g1.nine_frames → Counted a0 messages a1
     → IsServed told messages g0 g1 s0 s1 f0 f1 a0 a1 reply
@@ -77,13 +76,13 @@ module _ {g : Gate} {s : ServerState} (st : IsInStep g s) where
   stands_settled good = settled_same g s st.paired st.good.apart good
 
   -- the machine's state is as it was
-  pub kept : IsGoodServer s → (told : MachineReply × MachineState) (messages k f0 f1 a0 a1 : ℕ) (reply : Reply) → reply ≡ laid_out told.0 → told.1 ≡ machine_of g s → Counted g.nine_frames messages k → Counted a0 messages a1
+  pub kept : IsGoodServer s → (told : MachineReply × MachineState) (messages k f0 f1 a0 a1 : ℕ) (reply : LaidOut) → reply ≡ laid_out told.0 → told.1 ≡ machine_of g s → Counted g.nine_frames messages k → Counted a0 messages a1
       → IsServed told messages g (record g { nine_frames = k }) s s f0 f1 a0 a1 reply
   kept good told messages k f0 f1 a0 a1 reply is state frames asked =
       record { stands = sent_stands k; fixed = refl; sent = messages; frames = frames; asked = asked; outcome = inl (is, sym (ap settled state ∙ stands_settled good), refl) }
 
   -- a refusal without a message
-  pub unmoved : IsGoodServer s → (told : MachineReply × MachineState) (messages f0 f1 a : ℕ) (reply : Reply) → messages ≡ 0 → reply ≡ laid_out told.0 → told.1 ≡ machine_of g s
+  pub unmoved : IsGoodServer s → (told : MachineReply × MachineState) (messages f0 f1 a : ℕ) (reply : LaidOut) → messages ≡ 0 → reply ≡ laid_out told.0 → told.1 ≡ machine_of g s
       → IsServed told messages g g s s f0 f1 a a reply
   unmoved good told messages f0 f1 a reply none is state =
       record { stands = st; fixed = refl; sent = messages; frames = omega arith; asked = omega arith; outcome = inl (is, sym (ap settled state ∙ stands_settled good), refl) }

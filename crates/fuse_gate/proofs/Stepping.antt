@@ -18,11 +18,10 @@ use Rattle.tree_machine.specs.Messages.{messages, request_messages}
 use Rattle.fid_model.specs.Fids.{ServerState, IsGoodServer}
 use Rattle.fuse_gate.specs.Standing.{IsInStep, machine_of, phase_of}
 use Rattle.fuse_gate.specs.Steps.{IsServed, IsStepped, Answers}
-use Rattle.fuse_gate.specs.Replies.{laid_out, written}
+use Rattle.fuse_gate.specs.Replies.{LaidOut, laid_out, written}
 use Rattle.fuse_gate.specs.declared.gate.Gate.{Gate}
 use Rattle.fuse_gate.specs.declared.gate.Phase.{Phase}
-use Rattle.fuse_gate.specs.declared.gate.reply.Reply.{Reply}
-use Rattle.fuse_gate.specs.declared.gate.reply.Reply.TheVariants as given
+use Rattle.fuse_gate.specs.Replies.LaidOut as given
 use Rattle.fuse_gate.proofs.Standings.{unmoved}
 
 allowed_long : (len : ℕ) → is_allowed len ≡ true → 40 ≤ len
@@ -58,14 +57,14 @@ module _ {g : Gate} {s : ServerState} (st : IsInStep g s) (good : IsGoodServer s
   pub refused_body : (e f a : ℕ) → is_in_turn (phase_of g.phase) (head_of frame).opcode ≡ true → request_of frame ≡ Err e → IsServed told count g g s s f f a a (given.Refused e)
   refused_body e f a is none = refused_as e f a (in_turn_asked true is ∙ none)
 
-  pub served_body : (node : ℕ) (r : Request) (g1 : Gate) (s1 : ServerState) (f0 f1 a0 a1 : ℕ) (reply : Reply) → is_in_turn (phase_of g.phase) (head_of frame).opcode ≡ true → request_of frame ≡ Ok r → node ≡ (head_of frame).nodeid
+  pub served_body : (node : ℕ) (r : Request) (g1 : Gate) (s1 : ServerState) (f0 f1 a0 a1 : ℕ) (reply : LaidOut) → is_in_turn (phase_of g.phase) (head_of frame).opcode ≡ true → request_of frame ≡ Ok r → node ≡ (head_of frame).nodeid
       → IsServed (core s.settings (machine_of g s) node (Ok r)) (request_messages s.settings (machine_of g s) node (Ok r)) g g1 s s1 f0 f1 a0 a1 reply → IsServed told count g g1 s s1 f0 f1 a0 a1 reply
   served_body node r g1 s1 f0 f1 a0 a1 reply is some at served =
       subst (λ x. IsServed (core s.settings (machine_of g s) (head_of frame).nodeid x) (request_messages s.settings (machine_of g s) (head_of frame).nodeid x) g g1 s s1 f0 f1 a0 a1 reply) (sym (in_turn_asked true is ∙ some))
       (subst (λ i. IsServed (core s.settings (machine_of g s) i (Ok r)) (request_messages s.settings (machine_of g s) i (Ok r)) g g1 s s1 f0 f1 a0 a1 reply) at served)
 
 -- INIT
-pub served_init : (g g1 : Gate) (s : ServerState) (b : Body) (node major minor max_readahead flags f a : ℕ) (reply : Reply) → b ≡ body.Init major minor max_readahead flags
+pub served_init : (g g1 : Gate) (s : ServerState) (b : Body) (node major minor max_readahead flags f a : ℕ) (reply : LaidOut) → b ≡ body.Init major minor max_readahead flags
     → IsServed (init_core (machine_of g s) major minor max_readahead) 0 g g1 s s f f a a reply
     → IsServed (core s.settings (machine_of g s) node (Ok (plain b))) (request_messages s.settings (machine_of g s) node (Ok (plain b))) g g1 s s f f a a reply
 served_init g g1 s b node major minor max_readahead flags f a reply is served =
@@ -78,7 +77,7 @@ written_laid_out unique (Granted minor max_readahead) = refl
 written_laid_out unique (EntryOf node attr) = refl
 written_laid_out unique (AttrOf attr) = refl
 
-abbrev put : List ℕ → Bool → Reply → List ℕ
+abbrev put : List ℕ → Bool → LaidOut → List ℕ
 put frame silent r = cond silent [] (written (head_of frame).unique r)
 
 answered : (frame : List ℕ) (silent : Bool) (r : MachineReply) → is_silent (head_of frame).opcode ≡ silent → put frame silent (laid_out r) ≡ answer_bytes frame r
@@ -87,7 +86,7 @@ answered frame silent r is = by_silence silent ∙ ap (λ b. cond b [] (reply_by
   by_silence true = refl
   by_silence false = written_laid_out (head_of frame).unique r
 
-stepped : (frame : List ℕ) (silent : Bool) (g0 g1 : Gate) (s0 s1 : ServerState) (f0 f1 a0 a1 : ℕ) (reply : Reply) → is_silent (head_of frame).opcode ≡ silent
+stepped : (frame : List ℕ) (silent : Bool) (g0 g1 : Gate) (s0 s1 : ServerState) (f0 f1 a0 a1 : ℕ) (reply : LaidOut) → is_silent (head_of frame).opcode ≡ silent
     → IsServed (core_of s0.settings (machine_of g0 s0) frame) (messages s0.settings (machine_of g0 s0) frame) g0 g1 s0 s1 f0 f1 a0 a1 reply
     → IsStepped frame g0 g1 s0 s1 f0 f1 a0 a1 (put frame silent reply)
 stepped frame silent g0 g1 s0 s1 f0 f1 a0 a1 reply is served = record {
@@ -102,7 +101,7 @@ stepped frame silent g0 g1 s0 s1 f0 f1 a0 a1 reply is served = record {
       served.outcome;
 }
 
-module _ (frame : List ℕ) (h : Head) (g0 g1 : Gate) (s0 s1 : ServerState) (f0 f1 a0 a1 : ℕ) (reply : Reply) (before kept after : List ℕ) (head : h ≡ head_of frame) (same : kept ≡ before)
+module _ (frame : List ℕ) (h : Head) (g0 g1 : Gate) (s0 s1 : ServerState) (f0 f1 a0 a1 : ℕ) (reply : LaidOut) (before kept after : List ℕ) (head : h ≡ head_of frame) (same : kept ≡ before)
     (served : IsServed (core_of s0.settings (machine_of g0 s0) frame) (messages s0.settings (machine_of g0 s0) frame) g0 g1 s0 s1 f0 f1 a0 a1 reply) where
   silence : (silent : Bool) → silent ≡ is_silent h.opcode → is_silent (head_of frame).opcode ≡ silent
   silence silent is = ap (λ (x : Head). is_silent x.opcode) (sym head) ∙ sym is

@@ -1,12 +1,15 @@
 -- Changes of a gate, and the moment between two messages.
 use Rattle.std.specs.Prelude.{◌≡◌, ℕ, ◌+◌, ◌-◌, ◌^◌, ◌<◌, false, min, Option, Some, None, IsSome}
 use Rattle.std.specs.FinMap as map
+use Rattle.port_base.specs.declared.oflag.TheConstants.{APPEND}
 use Rattle.tree_model.specs.Attributes.{Qid}
+use Rattle.tree_model.specs.Opening.{access, has_flag}
 use Rattle.tree_machine.specs.State.{is_at_limit, COUNT_LIMIT, Node as MachineNode}
 use Rattle.fid_model.specs.Fids.{ServerState, closed, IsGoodServer}
 use Rattle.fid_model.specs.Answers.{qid_at}
 use Rattle.fuse_gate.specs.Standing.{IsInStep, machine_of}
 use Rattle.fuse_gate.specs.declared.gate.Node.{Node}
+use Rattle.fuse_gate.specs.declared.gate.Handle.{Handle}
 use Rattle.fuse_gate.specs.declared.gate.Gate.{Gate}
 
 -- one more message was sent
@@ -32,6 +35,26 @@ with_node g ino kind = record g {
   next = g.next + 1;
   used = g.used + 1;
 }
+
+-- a node counts less
+abbrev pub counted_down : Gate → ℕ → Node → ℕ → Gate
+counted_down g id n number = record g { nodes = map.insert g.nodes id (record n { count = n.count - number }) }
+
+-- a node of an inode goes
+abbrev pub without_node : Gate → ℕ → ℕ → Gate
+without_node g id ino = record g { nodes = map.remove g.nodes id; ids = map.remove g.ids ino; used = g.used - 1 }
+
+-- the next number becomes a handle
+abbrev pub with_handle : Gate → Handle → Gate
+with_handle g h = record g { handles = map.insert g.handles g.next h; next = g.next + 1; used = g.used + 1 }
+
+-- the handle of a node that is opened by these flags
+abbrev pub handle_by : Node → ℕ → Handle
+handle_by n flags = record { ino = n.ino; access = access flags; append = has_flag APPEND flags; kind = n.kind }
+
+-- a handle goes
+abbrev pub without_handle : Gate → ℕ → Gate
+without_handle g id = record g { handles = map.remove g.handles id; used = g.used - 1 }
 
 -- the server without a fid
 abbrev pub without : ServerState → ℕ → ServerState

@@ -11,6 +11,7 @@ use Rattle.frame_pump.specs.Sessions.{Counted}
 use Rattle.frame_pump.specs.Turns.{Streams}
 use Rattle.frame_pump.specs.declared.outcome.Pumped.{Pumped}
 use Rattle.frame_pump.specs.declared.outcome.Stopped.{Stopped}
+use Rattle.fuse_gate.specs.Standing.{piece_of}
 use Rattle.fuse_gate.specs.Pump.{Served}
 
 -- no fault of the server was counted
@@ -26,7 +27,7 @@ pub record Plays (n0 n1 : Served) (p0 p1 : Streams) (bytes : List ℕ) (turns ha
   pub number : length (cut turns bytes).frames ≡ handled
   pub replies : Appends p0.sent p1.sent (play n0.state.settings (linked n0.state.tree) root (cut turns bytes).frames).0
   pub tree : n1.state.tree ≡ (play n0.state.settings (linked n0.state.tree) root (cut turns bytes).frames).1
-  pub messages : Counted 0 (total n0.state.settings (linked n0.state.tree) root (cut turns bytes).frames) nine_frames
+  pub messages : Counted 0 (total (piece_of n0.state) n0.state.settings (linked n0.state.tree) root (cut turns bytes).frames) nine_frames
 
 abbrev pub PlaysWhole : Served → Served → Streams → Streams → ℕ → Result Pumped Stopped → Type 0
 PlaysWhole n0 n1 p0 p1 turns result =

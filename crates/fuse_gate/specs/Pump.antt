@@ -11,7 +11,7 @@ use Rattle.frame_pump.specs.declared.outcome.Pumped.{Pumped}
 use Rattle.frame_pump.specs.declared.outcome.Stopped.{Stopped}
 use Rattle.frame_pump.specs.declared.outcome.PumpError.{PumpError}
 use Rattle.frame_pump.specs.declared.outcome.PumpError.TheVariants as error
-use Rattle.fuse_gate.specs.Standing.{machine_of}
+use Rattle.fuse_gate.specs.Standing.{machine_of, piece_of}
 use Rattle.fuse_gate.specs.declared.gate.Gate.{Gate}
 use Rattle.fuse_gate.specs.Attaching.{IsRefusal, IsCleared}
 
@@ -24,7 +24,7 @@ pub record Served : Type 0 where
 
 -- the session of a gate over a server
 abbrev pub session_of : Gate → Served → Session
-session_of g n = record { state = machine_of g n.state; settings = n.state.settings; faults = n.faults; steady = n.steady; sent = g.nine_frames; asked = n.asked }
+session_of g n = record { state = machine_of g n.state; settings = n.state.settings; piece = piece_of n.state; faults = n.faults; steady = n.steady; sent = g.nine_frames; asked = n.asked }
 
 -- the session that a gate begins over a server: the machine begins with the linked tree, after one message
 pub record Opens (n0 : Served) (s0 : Session) : Type 0 where
@@ -33,6 +33,7 @@ pub record Opens (n0 : Served) (s0 : Session) : Type 0 where
   pub found : root_of (linked n0.state.tree) n0.state.settings.root ≡ Ok root
   pub state : s0.state ≡ begun (linked n0.state.tree) root
   pub settings : s0.settings ≡ n0.state.settings
+  pub piece : s0.piece ≡ piece_of n0.state
   pub rises : n0.faults ≤ s0.faults
   pub steady : s0.steady ≡ n0.steady
   pub steadily : IsTrue n0.steady → s0.faults ≡ n0.faults
@@ -44,6 +45,7 @@ pub record Closes (s1 : Session) (n1 : Served) : Type 0 where
   pub fids : n1.state.fids ≡ map.empty
   pub tree : n1.state.tree ≡ linked s1.state.tree
   pub settings : n1.state.settings ≡ s1.settings
+  pub piece : piece_of n1.state ≡ s1.piece
   pub faults : n1.faults ≡ s1.faults
   pub steady : n1.steady ≡ s1.steady
   pub asked : n1.asked ≡ s1.asked

@@ -1,28 +1,60 @@
 -- Replies as the gate has them: attributes are laid out as FUSE has them.
-use Rattle.std.specs.Prelude.{ℕ, ◌<◌, ◌^◌, List, [], Result, Ok, Err}
+use Rattle.std.specs.Prelude.{ℕ, ◌<◌, ◌≤◌, ◌^◌, List, [], length, Result, Ok, Err}
 use Rattle.tree_model.specs.declared.attributes.Attr.{Attr}
 use Rattle.fuse_wire.specs.declared.attr.FileAttr.{FileAttr}
-use Rattle.fuse_wire.specs.Reply.{reply, init_body, entry_body, attr_body}
+use Rattle.fuse_wire.specs.Reply.{reply, init_body, entry_body, attr_body, opened_body}
+use Rattle.fuse_wire.specs.declared.reply.TheConstants.{MAX_BYTES}
 use Rattle.p9_rmsg.specs.Replies.{Attributes}
 use Rattle.tree_machine.specs.Core.{Reply as MachineReply}
-use Rattle.tree_machine.specs.Core.Reply.{Refused, Granted, EntryOf, AttrOf}
+use Rattle.tree_machine.specs.Core.Reply.{Refused, Granted, EntryOf, AttrOf, HandleOf, BytesOf, Done}
 use Rattle.tree_machine.specs.Step.{fuse_attributes, BLOCK_SIZE}
 use Rattle.fuse_gate.specs.declared.gate.reply.Reply.{Reply}
 use Rattle.fuse_gate.specs.declared.gate.reply.Reply.TheVariants as given
 
+-- a reply with its attributes as FUSE has them
+pub data LaidOut : Type 0 where
+  Refused : (errno : ℕ) → LaidOut
+  Granted : (minor max_readahead : ℕ) → LaidOut
+  Entry : (node : ℕ) (attr : FileAttr) → LaidOut
+  Attr : (attr : FileAttr) → LaidOut
+  Opened : (handle : ℕ) → LaidOut
+  Bytes : (bytes : List ℕ) → LaidOut
+  Done : LaidOut
+
 -- a reply of the machine, laid out
-abbrev pub laid_out : MachineReply → Reply
-laid_out (Refused errno) = given.Refused errno
-laid_out (Granted minor max_readahead) = given.Granted minor max_readahead
-laid_out (EntryOf node attr) = given.Entry node (fuse_attributes attr)
-laid_out (AttrOf attr) = given.Attr (fuse_attributes attr)
+abbrev pub laid_out : MachineReply → LaidOut
+laid_out (Refused errno) = LaidOut.Refused errno
+laid_out (Granted minor max_readahead) = LaidOut.Granted minor max_readahead
+laid_out (EntryOf node attr) = LaidOut.Entry node (fuse_attributes attr)
+laid_out (AttrOf attr) = LaidOut.Attr (fuse_attributes attr)
+laid_out (HandleOf handle) = LaidOut.Opened handle
+laid_out (BytesOf bytes) = LaidOut.Bytes bytes
+laid_out Done = LaidOut.Done
+
+-- a reply without where its bytes lie
+abbrev pub plain : Reply → LaidOut
+plain (given.Refused errno) = LaidOut.Refused errno
+plain (given.Granted minor max_readahead) = LaidOut.Granted minor max_readahead
+plain (given.Entry node attr) = LaidOut.Entry node attr
+plain (given.Attr attr) = LaidOut.Attr attr
+plain (given.Opened handle) = LaidOut.Opened handle
+plain (given.Bytes bytes) = LaidOut.Bytes bytes.items
+plain given.Done = LaidOut.Done
 
 -- its bytes
-abbrev pub written : ℕ → Reply → List ℕ
-written unique (given.Refused errno) = reply unique errno []
-written unique (given.Granted minor max_readahead) = reply unique 0 (init_body minor max_readahead)
-written unique (given.Entry node attr) = reply unique 0 (entry_body node attr)
-written unique (given.Attr attr) = reply unique 0 (attr_body attr)
+abbrev pub written : ℕ → LaidOut → List ℕ
+written unique (LaidOut.Refused errno) = reply unique errno []
+written unique (LaidOut.Granted minor max_readahead) = reply unique 0 (init_body minor max_readahead)
+written unique (LaidOut.Entry node attr) = reply unique 0 (entry_body node attr)
+written unique (LaidOut.Attr attr) = reply unique 0 (attr_body attr)
+written unique (LaidOut.Opened handle) = reply unique 0 (opened_body handle)
+written unique (LaidOut.Bytes bytes) = reply unique 0 bytes
+written unique LaidOut.Done = reply unique 0 []
+
+-- it has no more bytes of a file than one request reads
+abbrev pub IsShort : LaidOut → Type 0
+IsShort (LaidOut.Bytes bytes) = length bytes ≤ MAX_BYTES
+IsShort _ = Unit {0}
 
 -- what a server tells of an inode, laid out for FUSE
 abbrev pub file_attributes : Attributes → FileAttr

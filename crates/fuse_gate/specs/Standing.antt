@@ -1,5 +1,5 @@
 -- What a gate and a server stand for: a good state of the machine.
-use Rattle.std.specs.Prelude.{◌≡◌, ℕ, ◌+◌, ◌≤◌, Option, Some, None}
+use Rattle.std.specs.Prelude.{◌≡◌, ℕ, ◌+◌, ◌-◌, ◌≤◌, min, Option, Some, None}
 use Rattle.std.specs.FinMap as map
 use Rattle.tree_model.specs.Tree.{Record}
 use Rattle.tree_model.specs.Attributes.{kind_of, qid_type}
@@ -8,8 +8,9 @@ use Rattle.tree_machine.specs.State.Phase.{New, Started, Over}
 use Rattle.tree_machine.specs.Good.{IsGoodMachine}
 use Rattle.fid_model.specs.Fids.{ServerState, Fid, closed}
 use Rattle.fid_model.specs.Fids.OpenState.{Opened}
+use Rattle.fid_model.specs.Answers.{READ_HEAD}
 use Rattle.fuse_gate.specs.Mapped.{mapped}
-use Rattle.fuse_gate.specs.declared.gate.TheConstants.{LEAST_MSIZE}
+use Rattle.fuse_gate.specs.declared.gate.TheConstants.{LEAST_MSIZE, GREATEST_MSIZE}
 use Rattle.fuse_gate.specs.declared.gate.Node.{Node}
 use Rattle.fuse_gate.specs.declared.gate.Handle.{Handle}
 use Rattle.fuse_gate.specs.declared.gate.Gate.{Gate}
@@ -30,6 +31,10 @@ handle_of h = record { ino = h.ino; access = h.access; append = h.append }
 -- the state of the machine that a gate and a server are
 abbrev pub machine_of : Gate → ServerState → MachineState
 machine_of g s = record { phase = phase_of g.phase; tree = s.tree; nodes = mapped node_of g.nodes; handles = mapped handle_of g.handles; next = g.next }
+
+-- the most bytes of a file that the gate asks a server for at once
+abbrev pub piece_of : ServerState → ℕ
+piece_of s = min s.msize GREATEST_MSIZE - READ_HEAD
 
 abbrev pub opened : Handle → Fid
 opened h = record { ino = h.ino; open_state = Opened h.access h.append }

@@ -1,12 +1,16 @@
 //! A session's node ids and handles, each a fid of the server under its own number.
 ghost use Rattle.std.specs.Prelude.{◌≡◌, ◌+◌, ◌-◌, ◌<◌, ◌≤◌, ◌^◌, ◌||◌, ℕ, min, nat_le, OnOk};
 ghost use Rattle.tree_machine.specs.State.{NUMBER_LIMIT};
-ghost use Rattle.fuse_gate.specs.Changes.{one_sent, counted_up, with_node};
+ghost use Rattle.fuse_gate.specs.Changes.{one_sent, counted_up, counted_down, with_node, without_node, with_handle, without_handle};
 
 mod attach;
+mod forget;
 mod getattr;
 mod init;
 mod lookup;
+mod open;
+mod read;
+mod release;
 pub mod reply;
 mod serve;
 mod show;
@@ -22,6 +26,12 @@ pub const FUSE_ROOT_ID: u32 = 1;
 
 /// The least `msize` that a gate works with: a frame with the longest name or target fits.
 pub const LEAST_MSIZE: u32 = 4352;
+
+/// The greatest size of a frame that a gate asks for.
+pub const GREATEST_MSIZE: u32 = 65560;
+
+// The type of a directory's qid.
+const QTDIR: u8 = 0x80;
 
 // No number from here on is drawn.
 const NUMBER_END: u32 = u32::MAX;
@@ -126,5 +136,53 @@ impl Gate {
         self.next += 1;
         self.used += 1;
         Ok(())
+    }
+
+    // A node counts less.
+    fn count_down(&mut self, id: u64, node: Node, number: u64)
+        requires { number < node.count }
+        ensures { self.new ≡ counted_down self.old id node number }
+    {
+        self.nodes.replace(
+            id,
+            Node {
+                ino: node.ino,
+                count: node.count - number,
+                kind: node.kind,
+            },
+        );
+    }
+
+    // A node of an inode goes.
+    fn remove_node(&mut self, id: u64, ino: u64)
+        requires { 1 ≤ self.old.used }
+        ensures { self.new ≡ without_node self.old id ino }
+    {
+        self.nodes.remove(id);
+        self.ids.remove(ino);
+        self.used -= 1;
+    }
+
+    // The next number becomes a handle.
+    fn add_handle(&mut self, handle: Handle) -> Result<(), NoMemory>
+        requires next { self.old.next < NUMBER_END }
+        requires used { self.old.used < 2 ^ 64 - 1 }
+        ensures { OnOk result (self.new ≡ with_handle self.old handle) }
+    {
+        if self.handles.insert(self.next as u64, handle).is_err() {
+            return Err(NoMemory);
+        }
+        self.next += 1;
+        self.used += 1;
+        Ok(())
+    }
+
+    // A handle goes.
+    fn remove_handle(&mut self, id: u64)
+        requires { 1 ≤ self.old.used }
+        ensures { self.new ≡ without_handle self.old id }
+    {
+        self.handles.remove(id);
+        self.used -= 1;
     }
 }

@@ -1,7 +1,7 @@
 //! A gate answers frames over a server, one at a time.
 ghost use Rattle.std.specs.Prelude.{◌≡◌, ◌≤◌};
 ghost use Rattle.std.specs.FinMap as map;
-ghost use Rattle.fuse_gate.specs.Standing.{IsInStep, machine_of};
+ghost use Rattle.fuse_gate.specs.Standing.{IsInStep, machine_of, piece_of};
 ghost use Rattle.fuse_gate.specs.Pump.{Served, Pumps, TellsMessages};
 ghost use Rattle.fuse_gate.specs.Playing.{PlaysWhole};
 ghost use Rattle.frame_pump.specs.Turns.{Streams};
@@ -16,7 +16,7 @@ use port_base::source::Source;
 use std::alloc::Global;
 
 impl<N: Nine> Answerer<N> for Gate {
-    ghost session = { λ g n. record { state = machine_of g (N.state n); settings = (N.state n).settings; faults = N.faults n; steady = N.steady n; sent = g.nine_frames; asked = N.asked n } };
+    ghost session = { λ g n. record { state = machine_of g (N.state n); settings = (N.state n).settings; piece = piece_of (N.state n); faults = N.faults n; steady = N.steady n; sent = g.nine_frames; asked = N.asked n } };
 
     ghost stands = { λ g n. IsInStep g (N.state n) };
 

@@ -2,6 +2,7 @@
 ghost use Rattle.std.specs.Prelude.{◌≡◌, ◌<◌, ◌≤◌, length, position, IfSome};
 ghost use Rattle.std.specs.Option.{option_map};
 ghost use Rattle.fuse_wire.specs.Body.{plain, Gives, Reads};
+ghost use Rattle.fuse_wire.specs.Fields.{u64_at};
 ghost use Rattle.fuse_wire.specs.Request.{is_zero, name_at, only_name, init_of, lookup_of, getattr_of, open_of, read_of, handle_of, forget_of, batch_forget_of, flush, release, request_in, request_of};
 
 use crate::fields::{given, u32_at, u64_at};
@@ -84,6 +85,26 @@ pub enum Body<'a> {
 pub struct FuseRequest<'a> {
     pub head: Head,
     pub body: Body<'a>,
+}
+
+/// A pair of BATCH_FORGET (`fuse_forget_one` of `fuse.h`): a node id, and how much less it counts.
+#[derive(Clone, Copy, Debug, PartialEq, Eq)]
+pub struct ForgetOne {
+    pub nodeid: u64,
+    pub nlookup: u64,
+}
+
+impl ForgetOne {
+    /// The pair that the first 16 bytes are.
+    pub fn read(bytes: &[u8]) -> ForgetOne
+        requires { FORGET_ONE_SIZE ≤ length bytes.now }
+        ensures { result ≡ record { nodeid = u64_at bytes.now 0; nlookup = u64_at bytes.now 8 } }
+    {
+        ForgetOne {
+            nodeid: u64_at(bytes, 0),
+            nlookup: u64_at(bytes, 8),
+        }
+    }
 }
 
 // Where the first zero byte is.

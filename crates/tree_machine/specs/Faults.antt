@@ -1,15 +1,28 @@
 -- What a fault of the host leaves of a request.
-use Rattle.std.specs.Prelude.{◌≡◌, ◌⊎◌, ℕ, suc, List, [], ◌∷◌, ◌++◌}
+use Rattle.std.specs.Prelude.{◌≡◌, ◌⊎◌, ℕ, suc, List, [], ◌∷◌, ◌++◌, take, Result, Ok, Err}
 use Rattle.port_base.specs.declared.errno.TheConstants.{EIO}
 use Rattle.tree_model.specs.Tree.{Tree}
 use Rattle.tree_model.specs.Settings.{Settings}
-use Rattle.tree_machine.specs.State.{MachineState}
+use Rattle.fuse_wire.specs.Head.{head_of}
+use Rattle.fuse_wire.specs.Request.{Request, batch_forget}
+use Rattle.tree_machine.specs.State.{MachineState, settled}
+use Rattle.tree_machine.specs.Core.{core}
 use Rattle.tree_machine.specs.Core.Reply.{Refused}
-use Rattle.tree_machine.specs.Step.{step, answer_bytes}
+use Rattle.tree_machine.specs.Forgetting.{all_forgotten, pairs_of}
+use Rattle.tree_machine.specs.Step.{step, asked, answer_bytes}
 
--- the trees that a request may leave which met a fault: the one before it, and the one after it
+-- the tree after a front part of a batch's pairs
+abbrev pub IsFrontDone : MachineState → Result Request ℕ → Tree → Type 0
+IsFrontDone m (Ok (batch_forget pairs)) t = (n : ℕ) × (t ≡ (settled (all_forgotten m (take n (pairs_of pairs)))).tree)
+IsFrontDone m _ t = ⊥
+
+-- the trees that a request of a node may leave that wasn't carried out whole: the one before it, the one after it, and of a batch those between
+abbrev pub IsPartServed : Settings → MachineState → ℕ → Result Request ℕ → Tree → Type 0
+IsPartServed s m node request t = (t ≡ m.tree) ⊎ (t ≡ (settled (core s m node request).1).tree) ⊎ IsFrontDone m request t
+
+-- the same of a frame
 abbrev pub IsPartDone : Settings → MachineState → List ℕ → Tree → Type 0
-IsPartDone s m frame t = (t ≡ m.tree) ⊎ (t ≡ (step s m frame).1.tree)
+IsPartDone s m frame t = IsPartServed s m (head_of frame).nodeid (asked m.phase frame) t
 
 -- a request that met a fault gets the error EIO; all but the tree is as before
 pub record IsHurtStep (s : Settings) (m : MachineState) (frame bytes : List ℕ) (after : MachineState) : Type 0 where

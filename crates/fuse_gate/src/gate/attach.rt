@@ -63,6 +63,7 @@ impl Gate {
     pub fn new<N: Nine>(alloc: Global, nine: &mut N) -> Result<Gate, AttachError>
         requires { LEAST_MSIZE ≤ (N.state nine.old).msize }
         ensures attached { Attaches (N.state nine.old) (N.state nine.new) (N.faults nine.old) (N.faults nine.new) (N.asked nine.old) (N.asked nine.new) result }
+        ensures sized { (N.state nine.new).msize ≡ (N.state nine.old).msize }
         ensures rises { N.faults nine.old ≤ N.faults nine.new }
         ensures steady { N.steady nine.new ≡ N.steady nine.old }
         ensures steadily { Steadily (N.steady nine.old) (N.faults nine.old) (N.faults nine.new) }

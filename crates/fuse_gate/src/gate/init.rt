@@ -3,6 +3,7 @@ ghost use Rattle.std.specs.Prelude.{ℕ};
 ghost use Rattle.tree_machine.specs.Core.{init_core};
 ghost use Rattle.fid_model.specs.Fids.{ServerState, IsGoodServer};
 ghost use Rattle.fuse_gate.specs.Standing.{IsInStep, machine_of};
+ghost use Rattle.fuse_gate.specs.Replies.{plain};
 ghost use Rattle.fuse_gate.specs.Steps.{IsServed};
 
 use crate::gate::reply::Reply;
@@ -19,7 +20,7 @@ impl Gate {
     // Begins the session, with the lesser minor number.
     pub(super) fn init(&mut self, major: u32, minor: u32, max_readahead: u32) -> Reply
         ensures { (s : ServerState) (faults asked : ℕ) → IsInStep self.old s → IsGoodServer s →
-            IsServed (init_core (machine_of self.old s) major minor max_readahead) 0 self.old self.new s s faults faults asked asked result }
+            IsServed (init_core (machine_of self.old s) major minor max_readahead) 0 self.old self.new s s faults faults asked asked (plain result) }
     {
         if major != FUSE_KERNEL_VERSION || minor < LEAST_MINOR {
             return Reply::Refused(EPROTO);

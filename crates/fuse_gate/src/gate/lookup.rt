@@ -6,6 +6,7 @@ ghost use Rattle.tree_machine.specs.Core.{lookup_core, looked_up, node_of};
 ghost use Rattle.tree_machine.specs.Messages.{lookup_messages};
 ghost use Rattle.fid_model.specs.Handling.{Steadily};
 ghost use Rattle.fuse_gate.specs.Standing.{IsInStep, machine_of};
+ghost use Rattle.fuse_gate.specs.Replies.{plain};
 ghost use Rattle.fuse_gate.specs.Steps.{IsServed};
 ghost use Rattle.fuse_gate.specs.Changes.{HasFresh, entering_rest};
 
@@ -24,9 +25,10 @@ impl Gate {
     fn enter<N: Nine>(&mut self, nine: &mut N, qid: Qid) -> Result<Reply, NoMemory>
         requires { HasFresh self.old (N.state nine.old) qid.path (qid_of qid) }
         ensures served { IfOk result (λ reply. let m = machine_of self.old (N.state nine.old) in
-            IsServed (looked_up (N.state nine.old).settings m (Ok qid.path)) (entering_rest (node_of m qid.path)) self.old self.new (N.state nine.old) (N.state nine.new) (N.faults nine.old) (N.faults nine.new) (N.asked nine.old) (N.asked nine.new) reply) }
+            IsServed (looked_up (N.state nine.old).settings m (Ok qid.path)) (entering_rest (node_of m qid.path)) self.old self.new (N.state nine.old) (N.state nine.new) (N.faults nine.old) (N.faults nine.new) (N.asked nine.old) (N.asked nine.new) (plain reply)) }
         ensures unfinished { OnErr result ((N.state nine.new).tree ≡ (N.state nine.old).tree) }
         ensures fixed { (N.state nine.new).settings ≡ (N.state nine.old).settings }
+        ensures sized { (N.state nine.new).msize ≡ (N.state nine.old).msize }
         ensures rises { N.faults nine.old ≤ N.faults nine.new }
         ensures steady { N.steady nine.new ≡ N.steady nine.old }
         ensures steadily { Steadily (N.steady nine.old) (N.faults nine.old) (N.faults nine.new) }
@@ -65,9 +67,10 @@ impl Gate {
     ) -> Result<Reply, NoMemory>
         requires { IsInStep self.old (N.state nine.old) }
         ensures served { IfOk result (λ reply. let m = machine_of self.old (N.state nine.old) in
-            IsServed (lookup_core (N.state nine.old).settings m name.now (map.get m.nodes node)) (lookup_messages (N.state nine.old).settings m name.now (map.get m.nodes node)) self.old self.new (N.state nine.old) (N.state nine.new) (N.faults nine.old) (N.faults nine.new) (N.asked nine.old) (N.asked nine.new) reply) }
+            IsServed (lookup_core (N.state nine.old).settings m name.now (map.get m.nodes node)) (lookup_messages (N.state nine.old).settings m name.now (map.get m.nodes node)) self.old self.new (N.state nine.old) (N.state nine.new) (N.faults nine.old) (N.faults nine.new) (N.asked nine.old) (N.asked nine.new) (plain reply)) }
         ensures unfinished { OnErr result ((N.state nine.new).tree ≡ (N.state nine.old).tree) }
         ensures fixed { (N.state nine.new).settings ≡ (N.state nine.old).settings }
+        ensures sized { (N.state nine.new).msize ≡ (N.state nine.old).msize }
         ensures rises { N.faults nine.old ≤ N.faults nine.new }
         ensures steady { N.steady nine.new ≡ N.steady nine.old }
         ensures steadily { Steadily (N.steady nine.old) (N.faults nine.old) (N.faults nine.new) }

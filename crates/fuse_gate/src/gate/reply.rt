@@ -1,23 +1,23 @@
 //! Replies, before they are written.
-ghost use Rattle.std.specs.Prelude.{◌≡◌, ◌+◌, ◌≤◌, ◌++◌, ◌||◌, ◌==◌, vec_len, vec_capacity};
+ghost use Rattle.std.specs.Prelude.{◌≡◌, ◌+◌, ◌≤◌, ◌++◌, ◌||◌, ◌==◌, ℕ, length, vec_len, vec_capacity};
 ghost use Rattle.p9_rmsg.specs.Replies.{attributes_of};
 ghost use Rattle.tree_machine.specs.Step.{is_silent};
-ghost use Rattle.fuse_gate.specs.Replies.{written, file_attributes, HasShortFields};
+ghost use Rattle.fuse_gate.specs.Replies.{plain, written, IsShort, file_attributes, HasShortFields};
 
 use fuse_wire::attr::FileAttr;
-use fuse_wire::ids::{Errno, INodeNo, RequestId};
+use fuse_wire::ids::{Errno, FileHandle, INodeNo, RequestId};
 use fuse_wire::opcode::{FUSE_BATCH_FORGET, FUSE_FORGET, FUSE_INTERRUPT};
-use fuse_wire::reply::{reply_attr, reply_entry, reply_error, reply_init};
+use fuse_wire::reply::{
+    ATTR_OUT_SIZE, ENTRY_OUT_SIZE, INIT_OUT_SIZE, OPEN_OUT_SIZE, OUT_HEADER_SIZE, reply_attr,
+    reply_bytes, reply_empty, reply_entry, reply_error, reply_init, reply_opened,
+};
 use p9_rmsg::Rgetattr;
-
-/// The most bytes that a reply has.
-pub const REPLY_LIMIT: usize = 144;
 
 /// The block size that is told, in bytes.
 const BLOCK_SIZE: u32 = 4096;
 
 /// What answers a request.
-#[derive(Clone, Copy, Debug, PartialEq, Eq)]
+#[derive(Debug, Drop)]
 pub enum Reply {
     /// The request is refused.
     Refused(u32),
@@ -27,6 +27,30 @@ pub enum Reply {
     Entry { node: u64, attr: FileAttr },
     /// Attributes.
     Attr(FileAttr),
+    /// A handle.
+    Opened { handle: u64 },
+    /// Bytes of a file, at most 131072.
+    Bytes(Vec<u8>),
+    /// The request is granted, without more.
+    Done,
+}
+
+impl Reply {
+    /// How many bytes it has when it is written.
+    pub fn size(&self) -> usize
+        requires { IsShort (plain self.now) }
+        ensures { (unique : ℕ) → result ≡ length (written unique (plain self.now)) }
+    {
+        let body = match self {
+            Reply::Refused(_) | Reply::Done => 0,
+            Reply::Granted { .. } => INIT_OUT_SIZE,
+            Reply::Entry { .. } => ENTRY_OUT_SIZE,
+            Reply::Attr(_) => ATTR_OUT_SIZE,
+            Reply::Opened { .. } => OPEN_OUT_SIZE,
+            Reply::Bytes(bytes) => bytes.len(),
+        };
+        OUT_HEADER_SIZE + body
+    }
 }
 
 /// Whether a request never gets a reply.
@@ -38,8 +62,9 @@ pub fn is_silent(opcode: u32) -> bool
 
 /// Appends the reply to the request with this number.
 pub fn write_reply(out: &mut Vec<u8>, unique: RequestId, reply: &Reply)
-    requires { vec_len out.old + REPLY_LIMIT ≤ vec_capacity out.old }
-    ensures { out.new.items ≡ out.old.items ++ written unique.0 reply.now }
+    requires short { IsShort (plain reply.now) }
+    requires room { vec_len out.old + length (written unique.0 (plain reply.now)) ≤ vec_capacity out.old }
+    ensures { out.new.items ≡ out.old.items ++ written unique.0 (plain reply.now) }
 {
     match reply {
         Reply::Refused(errno) => reply_error(out, unique, Errno(*errno)),
@@ -49,6 +74,9 @@ pub fn write_reply(out: &mut Vec<u8>, unique: RequestId, reply: &Reply)
         } => reply_init(out, unique, *minor, *max_readahead),
         Reply::Entry { node, attr } => reply_entry(out, unique, INodeNo(*node), attr),
         Reply::Attr(attr) => reply_attr(out, unique, attr),
+        Reply::Opened { handle } => reply_opened(out, unique, FileHandle(*handle)),
+        Reply::Bytes(bytes) => reply_bytes(out, unique, bytes),
+        Reply::Done => reply_empty(out, unique),
     }
 }
 

@@ -7,7 +7,7 @@ ghost use Rattle.fuse_gate.specs.Standing.{IsInStep, machine_of};
 ghost use Rattle.fuse_gate.specs.Steps.{Answers};
 
 use crate::gate::Gate;
-use crate::gate::reply::{REPLY_LIMIT, is_silent, write_reply};
+use crate::gate::reply::{is_silent, write_reply};
 use fid_model::Nine;
 use fuse_wire::head::Head;
 use fuse_wire::ids::RequestId;
@@ -33,18 +33,20 @@ impl Gate {
         ensures part { OnErr result (IsPartDone (N.state nine.old).settings (machine_of self.old (N.state nine.old)) frame.now (N.state nine.new).tree) }
 
         ensures fixed { (N.state nine.new).settings ≡ (N.state nine.old).settings }
+        ensures sized { (N.state nine.new).msize ≡ (N.state nine.old).msize }
         ensures rises { N.faults nine.old ≤ N.faults nine.new }
         ensures steady { N.steady nine.new ≡ N.steady nine.old }
         ensures steadily { Steadily (N.steady nine.old) (N.faults nine.old) (N.faults nine.new) }
     {
-        if reply.reserve(REPLY_LIMIT).is_err() {
-            return Err(NoMemory);
-        }
         let answer = self.serve_frame(nine, frame)?;
         let head = Head::read(frame);
-        if !is_silent(head.opcode) {
-            write_reply(reply, RequestId(head.unique), &answer);
+        if is_silent(head.opcode) {
+            return Ok(());
         }
+        if reply.reserve(answer.size()).is_err() {
+            return Err(NoMemory);
+        }
+        write_reply(reply, RequestId(head.unique), &answer);
         Ok(())
     }
 }
