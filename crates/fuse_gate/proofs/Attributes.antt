@@ -14,12 +14,13 @@ use Rattle.fid_model.specs.Asked.{Asks, getattr_told}
 use Rattle.fuse_gate.specs.Mapped.{mapped}
 use Rattle.fuse_gate.specs.Standing.{IsInStep, machine_of, node_of, handle_of}
 use Rattle.fuse_gate.specs.Steps.{IsServed}
-use Rattle.fuse_gate.specs.Replies.{LaidOut, laid_out, laid_out_attributes}
+use Rattle.fuse_gate.specs.Laying.{LaidOut}
+use Rattle.fuse_gate.specs.Replies.{laid_out, laid_out_attributes}
 use Rattle.fuse_gate.specs.Changes.{one_sent}
 use Rattle.fuse_gate.specs.declared.gate.Node.{Node}
 use Rattle.fuse_gate.specs.declared.gate.Handle.{Handle}
 use Rattle.fuse_gate.specs.declared.gate.Gate.{Gate}
-use Rattle.fuse_gate.specs.Replies.LaidOut as given
+use Rattle.fuse_gate.specs.Laying.{LaidOut as given}
 use Rattle.fuse_gate.proofs.MappedLemmas.{get-mapped}
 use Rattle.fuse_gate.proofs.Standings.{unmoved, kept, hurt, node_fid, handle_fid}
 use Rattle.fuse_gate.proofs.Showing.{first_of_pair, second_of_pair}

@@ -15,7 +15,7 @@ use Rattle.fuse_gate.specs.Steps.{IsServed}
 use Rattle.fuse_gate.specs.Replies.{laid_out}
 use Rattle.fuse_gate.specs.declared.gate.Gate.{Gate}
 use Rattle.fuse_gate.specs.declared.gate.Phase.TheVariants as phase
-use Rattle.fuse_gate.specs.Replies.LaidOut as given
+use Rattle.fuse_gate.specs.Laying.{LaidOut as given}
 use Rattle.fuse_gate.proofs.Standings.{unmoved, made}
 
 abbrev said : MachineReply → MachineState → MachineReply × MachineState

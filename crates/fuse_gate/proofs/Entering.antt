@@ -20,10 +20,11 @@ use Rattle.p9_client.specs.Views.{IsRoomy}
 use Rattle.fuse_gate.specs.Mapped.{mapped}
 use Rattle.fuse_gate.specs.Standing.{machine_of, node_of}
 use Rattle.fuse_gate.specs.Steps.{IsServed}
-use Rattle.fuse_gate.specs.Replies.{LaidOut, laid_out, laid_out_attributes}
+use Rattle.fuse_gate.specs.Laying.{LaidOut}
+use Rattle.fuse_gate.specs.Replies.{laid_out, laid_out_attributes}
 use Rattle.fuse_gate.specs.Changes.{HasFresh, without, counted_node, counted_by, counted_up, with_node, one_sent, entering_rest}
 use Rattle.fuse_gate.specs.declared.gate.Gate.{Gate}
-use Rattle.fuse_gate.specs.Replies.LaidOut as given
+use Rattle.fuse_gate.specs.Laying.{LaidOut as given}
 use Rattle.fuse_gate.proofs.MappedLemmas.{mapped-insert}
 use Rattle.fuse_gate.proofs.Known.{known_found, unknown_found}
 use Rattle.fuse_gate.proofs.Standings.{hurt, made, sent_stands}

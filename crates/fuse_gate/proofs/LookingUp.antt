@@ -23,11 +23,12 @@ use Rattle.p9_client.specs.Views.{qid_answer}
 use Rattle.fuse_gate.specs.Mapped.{mapped}
 use Rattle.fuse_gate.specs.Standing.{IsInStep, machine_of, node_of}
 use Rattle.fuse_gate.specs.Steps.{IsServed}
-use Rattle.fuse_gate.specs.Replies.{LaidOut, laid_out}
+use Rattle.fuse_gate.specs.Laying.{LaidOut}
+use Rattle.fuse_gate.specs.Replies.{laid_out}
 use Rattle.fuse_gate.specs.Changes.{HasFresh, without, one_sent, entering_rest}
 use Rattle.fuse_gate.specs.declared.gate.Node.{Node}
 use Rattle.fuse_gate.specs.declared.gate.Gate.{Gate}
-use Rattle.fuse_gate.specs.Replies.LaidOut as given
+use Rattle.fuse_gate.specs.Laying.{LaidOut as given}
 use Rattle.fuse_gate.proofs.MappedLemmas.{get-mapped, len-mapped}
 use Rattle.fuse_gate.proofs.Standings.{unmoved, kept, hurt, fid_free, sent_stands}
 use Rattle.fuse_gate.specs.Standing.{handle_of}

@@ -14,12 +14,13 @@ use Rattle.fuse_gate.specs.Mapped.{mapped}
 use Rattle.fuse_gate.specs.Standing.{IsInStep, ArePaired, machine_of, node_of, handle_of, fid_at, opened}
 use Rattle.frame_pump.specs.Sessions.{Counted}
 use Rattle.fuse_gate.specs.Steps.{IsServed}
-use Rattle.fuse_gate.specs.Replies.{LaidOut, laid_out}
+use Rattle.fuse_gate.specs.Laying.{LaidOut}
+use Rattle.fuse_gate.specs.Replies.{laid_out}
 use Rattle.fuse_gate.specs.declared.gate.TheConstants.{LEAST_MSIZE}
 use Rattle.fuse_gate.specs.declared.gate.Node.{Node}
 use Rattle.fuse_gate.specs.declared.gate.Handle.{Handle}
 use Rattle.fuse_gate.specs.declared.gate.Gate.{Gate}
-use Rattle.fuse_gate.specs.Replies.LaidOut.{Refused}
+use Rattle.fuse_gate.specs.Laying.LaidOut.{Refused}
 use Rattle.fuse_gate.proofs.MappedLemmas.{mapped_at, mapped_none}
 use Rattle.fuse_gate.proofs.Held.{named_is_held}
 

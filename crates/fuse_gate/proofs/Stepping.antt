@@ -18,10 +18,11 @@ use Rattle.tree_machine.specs.Messages.{messages, request_messages}
 use Rattle.fid_model.specs.Fids.{ServerState, IsGoodServer}
 use Rattle.fuse_gate.specs.Standing.{IsInStep, machine_of, phase_of}
 use Rattle.fuse_gate.specs.Steps.{IsServed, IsStepped, Answers}
-use Rattle.fuse_gate.specs.Replies.{LaidOut, laid_out, written}
+use Rattle.fuse_gate.specs.Laying.{LaidOut}
+use Rattle.fuse_gate.specs.Replies.{laid_out, written}
 use Rattle.fuse_gate.specs.declared.gate.Gate.{Gate}
 use Rattle.fuse_gate.specs.declared.gate.Phase.{Phase}
-use Rattle.fuse_gate.specs.Replies.LaidOut as given
+use Rattle.fuse_gate.specs.Laying.{LaidOut as given}
 use Rattle.fuse_gate.proofs.Standings.{unmoved}
 
 allowed_long : (len : ℕ) → is_allowed len ≡ true → 40 ≤ len

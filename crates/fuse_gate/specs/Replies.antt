@@ -8,52 +8,43 @@ use Rattle.p9_rmsg.specs.Replies.{Attributes}
 use Rattle.tree_machine.specs.Core.{Reply as MachineReply}
 use Rattle.tree_machine.specs.Core.Reply.{Refused, Granted, EntryOf, AttrOf, HandleOf, BytesOf, Done}
 use Rattle.tree_machine.specs.Step.{fuse_attributes, BLOCK_SIZE}
+use Rattle.fuse_gate.specs.Laying.{LaidOut, LaidOut as laid}
 use Rattle.fuse_gate.specs.declared.gate.reply.Reply.{Reply}
 use Rattle.fuse_gate.specs.declared.gate.reply.Reply.TheVariants as given
 
--- a reply with its attributes as FUSE has them
-pub data LaidOut : Type 0 where
-  Refused : (errno : ℕ) → LaidOut
-  Granted : (minor max_readahead : ℕ) → LaidOut
-  Entry : (node : ℕ) (attr : FileAttr) → LaidOut
-  Attr : (attr : FileAttr) → LaidOut
-  Opened : (handle : ℕ) → LaidOut
-  Bytes : (bytes : List ℕ) → LaidOut
-  Done : LaidOut
-
 -- a reply of the machine, laid out
 abbrev pub laid_out : MachineReply → LaidOut
-laid_out (Refused errno) = LaidOut.Refused errno
-laid_out (Granted minor max_readahead) = LaidOut.Granted minor max_readahead
-laid_out (EntryOf node attr) = LaidOut.Entry node (fuse_attributes attr)
-laid_out (AttrOf attr) = LaidOut.Attr (fuse_attributes attr)
-laid_out (HandleOf handle) = LaidOut.Opened handle
-laid_out (BytesOf bytes) = LaidOut.Bytes bytes
-laid_out Done = LaidOut.Done
+laid_out (Refused errno) = laid.Refused errno
+laid_out (Granted minor max_readahead) = laid.Granted minor max_readahead
+laid_out (EntryOf node attr) = laid.Entry node (fuse_attributes attr)
+laid_out (AttrOf attr) = laid.Attr (fuse_attributes attr)
+laid_out (HandleOf handle) = laid.Opened handle
+laid_out (BytesOf bytes) = laid.Bytes bytes
+laid_out Done = laid.Done
 
 -- a reply without where its bytes lie
 abbrev pub plain : Reply → LaidOut
-plain (given.Refused errno) = LaidOut.Refused errno
-plain (given.Granted minor max_readahead) = LaidOut.Granted minor max_readahead
-plain (given.Entry node attr) = LaidOut.Entry node attr
-plain (given.Attr attr) = LaidOut.Attr attr
-plain (given.Opened handle) = LaidOut.Opened handle
-plain (given.Bytes bytes) = LaidOut.Bytes bytes.items
-plain given.Done = LaidOut.Done
+plain (given.Refused errno) = laid.Refused errno
+plain (given.Granted minor max_readahead) = laid.Granted minor max_readahead
+plain (given.Entry node attr) = laid.Entry node attr
+plain (given.Attr attr) = laid.Attr attr
+plain (given.Opened handle) = laid.Opened handle
+plain (given.Bytes bytes) = laid.Bytes bytes.items
+plain given.Done = laid.Done
 
 -- its bytes
 abbrev pub written : ℕ → LaidOut → List ℕ
-written unique (LaidOut.Refused errno) = reply unique errno []
-written unique (LaidOut.Granted minor max_readahead) = reply unique 0 (init_body minor max_readahead)
-written unique (LaidOut.Entry node attr) = reply unique 0 (entry_body node attr)
-written unique (LaidOut.Attr attr) = reply unique 0 (attr_body attr)
-written unique (LaidOut.Opened handle) = reply unique 0 (opened_body handle)
-written unique (LaidOut.Bytes bytes) = reply unique 0 bytes
-written unique LaidOut.Done = reply unique 0 []
+written unique (laid.Refused errno) = reply unique errno []
+written unique (laid.Granted minor max_readahead) = reply unique 0 (init_body minor max_readahead)
+written unique (laid.Entry node attr) = reply unique 0 (entry_body node attr)
+written unique (laid.Attr attr) = reply unique 0 (attr_body attr)
+written unique (laid.Opened handle) = reply unique 0 (opened_body handle)
+written unique (laid.Bytes bytes) = reply unique 0 bytes
+written unique laid.Done = reply unique 0 []
 
 -- it has no more bytes of a file than one request reads
 abbrev pub IsShort : LaidOut → Type 0
-IsShort (LaidOut.Bytes bytes) = length bytes ≤ MAX_BYTES
+IsShort (laid.Bytes bytes) = length bytes ≤ MAX_BYTES
 IsShort _ = Unit {0}
 
 -- what a server tells of an inode, laid out for FUSE

@@ -11,9 +11,10 @@ use Rattle.tree_machine.specs.Faults.{IsHurtStep}
 use Rattle.fid_model.specs.Fids.{ServerState}
 use Rattle.frame_pump.specs.Sessions.{Counted}
 use Rattle.fuse_gate.specs.Standing.{IsInStep, machine_of, piece_of}
-use Rattle.fuse_gate.specs.Replies.{LaidOut, laid_out}
+use Rattle.fuse_gate.specs.Laying.{LaidOut}
+use Rattle.fuse_gate.specs.Replies.{laid_out}
 use Rattle.fuse_gate.specs.declared.gate.Gate.{Gate}
-use Rattle.fuse_gate.specs.Replies.LaidOut.{Refused}
+use Rattle.fuse_gate.specs.Laying.LaidOut.{Refused}
 
 -- the tree before a request, or after it
 abbrev pub IsPart : MachineReply × MachineState → MachineState → Tree → Type 0
