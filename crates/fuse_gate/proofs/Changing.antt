@@ -22,10 +22,10 @@ insert_cases m k v q P f h = ⊎_elim
     (λ ne. subst P (sym (insert_keeps m k v q ne)) (h ne))
     (cases_eq q k)
 
-len_known : {X : Type 0} (m : FinMap nat_cmp X) (k : ℕ) (x v : X) → get m k ≡ Some x → len (insert m k v) ≡ len m
+pub len_known : {X : Type 0} (m : FinMap nat_cmp X) (k : ℕ) (x v : X) → get m k ≡ Some x → len (insert m k v) ≡ len m
 len_known m k x v at = len-insert nat_cmp_total m k v ∙ ap (λ o. cond (is_some o) (len m) (len m + 1)) at
 
-len_new : {X : Type 0} (m : FinMap nat_cmp X) (k : ℕ) (v : X) → get m k ≡ None → len (insert m k v) ≡ len m + 1
+pub len_new : {X : Type 0} (m : FinMap nat_cmp X) (k : ℕ) (v : X) → get m k ≡ None → len (insert m k v) ≡ len m + 1
 len_new m k v at = len-insert nat_cmp_total m k v ∙ ap (λ o. cond (is_some o) (len m) (len m + 1)) at
 
 -- ---- a node that keeps its inode and its kind

@@ -2,6 +2,8 @@ pub mod MappedLemmas
 pub mod Held
 pub mod Standings
 pub mod Changing
+pub mod Going
+pub mod LettingGo
 pub mod Known
 pub mod Showing
 pub mod Beginning

@@ -13,6 +13,7 @@ use Rattle.frame_pump.specs.Turns.{Streams, Ended}
 use Rattle.frame_pump.specs.declared.outcome.Pumped.{Pumped}
 use Rattle.frame_pump.specs.declared.outcome.Stopped.{Stopped}
 use Rattle.frame_pump.proofs.Answering.{Answered-exact}
+use Rattle.fuse_gate.specs.Standing.{piece_of}
 use Rattle.fuse_gate.specs.Pump.{Served, Opens, Closes, Pumps}
 use Rattle.fuse_gate.specs.Playing.{Unfailing, Plays, PlaysWhole}
 
@@ -24,7 +25,7 @@ module _ (n0 n1 : Served) (s0 s1 : Session) (p0 p1 : Streams) (turns handled nin
       let exact = Answered-exact s0 s1 h.frames h.replies h.answered same below in
       let frames : h.frames ≡ (cut turns bytes).frames = sym (ap (λ (c : Cut). c.frames) is) in
       let played : play_from s0.settings s0.state h.frames ≡ play_from n0.state.settings (begun (linked n0.state.tree) b.root) (cut turns bytes).frames = (λ j. play_from (b.settings j) (b.state j) (frames j)) in
-      let number : messages_from s0.settings s0.state h.frames ≡ messages_from n0.state.settings (begun (linked n0.state.tree) b.root) (cut turns bytes).frames = (λ j. messages_from (b.settings j) (b.state j) (frames j)) in
+      let number : messages_from s0.piece s0.settings s0.state h.frames ≡ messages_from (piece_of n0.state) n0.state.settings (begun (linked n0.state.tree) b.root) (cut turns bytes).frames = (λ j. messages_from (b.piece j) (b.settings j) (b.state j) (frames j)) in
       record {
         root = b.root;
         found = b.found;

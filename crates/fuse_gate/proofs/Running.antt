@@ -1,6 +1,7 @@
 -- A whole run, from the attach, the frames, and the fids taken away.
-use Rattle.std.proofs.Common.{◌≡◌, ℕ, ◌≤◌, Result, Ok, Err, IsTrue, inl, sym, ap, ◌∙◌, subst, arith}
+use Rattle.std.proofs.Common.{◌≡◌, ℕ, ◌-◌, ◌≤◌, min, Result, Ok, Err, IsTrue, inl, sym, ap, ◌∙◌, subst, arith}
 use Rattle.fid_model.specs.Fids.{ServerState, cleared}
+use Rattle.fid_model.specs.Answers.{READ_HEAD}
 use Rattle.fid_model.specs.Handling.{Steadily}
 use Rattle.frame_pump.specs.Sessions.{Session}
 use Rattle.frame_pump.specs.Turns.{Streams, StopsBy, Runs}
@@ -10,14 +11,15 @@ use Rattle.frame_pump.specs.declared.outcome.PumpError.{PumpError}
 use Rattle.frame_pump.specs.declared.outcome.PumpError.TheVariants as error
 use Rattle.fuse_gate.specs.Attaching.{Attaches}
 use Rattle.fuse_gate.specs.Pump.{Served, session_of, Opens, Closes, PumpsBy, Pumps}
+use Rattle.fuse_gate.specs.declared.gate.TheConstants.{GREATEST_MSIZE}
 use Rattle.fuse_gate.specs.declared.gate.Gate.{Gate}
 use Rattle.fuse_gate.proofs.Attachings.{keep_none}
 
 module _ (n0 nm nr n1 : Served) (g gr : Gate) (stands : Type 0) (p0 p1 : Streams) (turns : ℕ) (result : Result Pumped Stopped) where
-  opens : Attaches n0.state nm.state n0.faults nm.faults n0.asked nm.asked (Ok g) → n0.faults ≤ nm.faults → nm.steady ≡ n0.steady → Steadily n0.steady n0.faults nm.faults → Opens n0 (session_of g nm)
-  opens a rises steady steadily =
+  opens : Attaches n0.state nm.state n0.faults nm.faults n0.asked nm.asked (Ok g) → n0.faults ≤ nm.faults → nm.steady ≡ n0.steady → Steadily n0.steady n0.faults nm.faults → nm.state.msize ≡ n0.state.msize → Opens n0 (session_of g nm)
+  opens a rises steady steadily sized =
       let b = a.answer.0 in
-      record { root = b.root; limit = b.limit; found = b.found; state = b.state; settings = a.fixed; rises = rises; steady = steady; steadily = steadily; sent = b.frames; asked = a.answer.1 }
+      record { root = b.root; limit = b.limit; found = b.found; state = b.state; settings = a.fixed; piece = ap (λ n. min n GREATEST_MSIZE - READ_HEAD) sized; rises = rises; steady = steady; steadily = steadily; sent = b.frames; asked = a.answer.1 }
 
   closes : n1.state ≡ cleared nr.state → n1.faults ≡ nr.faults → n1.asked ≡ nr.asked → n1.steady ≡ nr.steady → Closes (session_of gr nr) n1
   closes state faults asked steady = record {
@@ -45,10 +47,10 @@ run_by n0 nr n1 s0 gr stands p0 p1 turns (Err told) b e r =
 
 pub Pumps-run : (n0 nm nr n1 : Served) (g gr : Gate) (stands : Type 0) (p0 p1 : Streams) (turns : ℕ) (result : Result Pumped Stopped)
     → Attaches n0.state nm.state n0.faults nm.faults n0.asked nm.asked (Ok g) → n0.faults ≤ nm.faults → nm.steady ≡ n0.steady → Steadily n0.steady n0.faults nm.faults
-    → Runs (session_of g nm) (session_of gr nr) stands p0 p1 turns result
+    → nm.state.msize ≡ n0.state.msize → Runs (session_of g nm) (session_of gr nr) stands p0 p1 turns result
     → n1.state ≡ cleared nr.state → n1.faults ≡ nr.faults → n1.asked ≡ nr.asked → n1.steady ≡ nr.steady → Pumps n0 n1 p0 p1 turns result
-Pumps-run n0 nm nr n1 g gr stands p0 p1 turns result a rises steady steadily r state faults asked same =
-    let b = opens n0 nm nr n1 g gr stands p0 p1 turns result a rises steady steadily in
+Pumps-run n0 nm nr n1 g gr stands p0 p1 turns result a rises steady steadily sized r state faults asked same =
+    let b = opens n0 nm nr n1 g gr stands p0 p1 turns result a rises steady steadily sized in
     let e = closes n0 nm nr n1 g gr stands p0 p1 turns result state faults asked same in
     record {
       settings = e.settings ∙ r.stays.settings ∙ a.fixed;

@@ -45,7 +45,6 @@ pub record Closes (s1 : Session) (n1 : Served) : Type 0 where
   pub fids : n1.state.fids ≡ map.empty
   pub tree : n1.state.tree ≡ linked s1.state.tree
   pub settings : n1.state.settings ≡ s1.settings
-  pub piece : piece_of n1.state ≡ s1.piece
   pub faults : n1.faults ≡ s1.faults
   pub steady : n1.steady ≡ s1.steady
   pub asked : n1.asked ≡ s1.asked

@@ -1,5 +1,6 @@
 //! A session's node ids and handles, each a fid of the server under its own number.
-ghost use Rattle.std.specs.Prelude.{◌≡◌, ◌+◌, ◌-◌, ◌<◌, ◌≤◌, ◌^◌, ◌||◌, ℕ, min, nat_le, OnOk};
+ghost use Rattle.std.specs.Prelude.{◌≡◌, ◌+◌, ◌-◌, ◌<◌, ◌≤◌, ◌^◌, ◌||◌, ℕ, min, nat_le, IsSome, OnOk};
+ghost use Rattle.std.specs.FinMap as map;
 ghost use Rattle.tree_machine.specs.State.{NUMBER_LIMIT};
 ghost use Rattle.fuse_gate.specs.Changes.{one_sent, counted_up, counted_down, with_node, without_node, with_handle, without_handle};
 
@@ -140,7 +141,8 @@ impl Gate {
 
     // A node counts less.
     fn count_down(&mut self, id: u64, node: Node, number: u64)
-        requires { number < node.count }
+        requires known { IsSome (map.get self.old.nodes id) }
+        requires more { number < node.count }
         ensures { self.new ≡ counted_down self.old id node number }
     {
         self.nodes.replace(

@@ -1,5 +1,5 @@
 //! A gate answers frames over a server, one at a time.
-ghost use Rattle.std.specs.Prelude.{◌≡◌, ◌≤◌};
+ghost use Rattle.std.specs.Prelude.{◌≡◌, ◌≤◌, ℕ};
 ghost use Rattle.std.specs.FinMap as map;
 ghost use Rattle.fuse_gate.specs.Standing.{IsInStep, machine_of, piece_of};
 ghost use Rattle.fuse_gate.specs.Pump.{Served, Pumps, TellsMessages};
@@ -20,9 +20,9 @@ impl<N: Nine> Answerer<N> for Gate {
 
     ghost stands = { λ g n. IsInStep g (N.state n) };
 
-    ghost Kept = { Unit {0} };
+    ghost Kept = { ℕ };
 
-    ghost kept = { λ g n. tt };
+    ghost kept = { λ g n. (N.state n).msize };
 
     fn answer(&mut self, below: &mut N, frame: &[u8], reply: &mut Vec<u8>) -> Result<(), NoMemory> {
         self.step(below, frame, reply)
@@ -55,6 +55,7 @@ pub fn pump<N: Nine, S: Source, K: Sink>(
         (record { state = N.state nine.new; faults = N.faults nine.new; steady = N.steady nine.new; asked = N.asked nine.new })
         (record { left = S.left input.old; sent = K.sent out.old; read_faults = S.faults input.old; write_faults = K.faults out.old })
         (record { left = S.left input.new; sent = K.sent out.new; read_faults = S.faults input.new; write_faults = K.faults out.new }) turns result }
+    ensures sized { (N.state nine.new).msize ≡ (N.state nine.old).msize }
     ensures cleared { (N.state nine.new).fids ≡ map.empty }
     ensures messages { TellsMessages (N.asked nine.old) (N.asked nine.new) result }
     ensures input { S.kept input.new ≡ S.kept input.old }

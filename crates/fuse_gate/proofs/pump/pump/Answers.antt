@@ -10,7 +10,7 @@ returns-in-Ok-clause-pumps g c =
     let after : Served = record { state = g.N.Nine.state c.new.new.nine; faults = g.N.Nine.faults c.new.new.nine; steady = g.N.Nine.steady c.new.new.nine; asked = g.N.Nine.asked c.new.new.nine } in
     let end : Served = record { state = g.N.Nine.state c.run_frames-told.new.below; faults = g.N.Nine.faults c.run_frames-told.new.below; steady = g.N.Nine.steady c.run_frames-told.new.below; asked = g.N.Nine.asked c.run_frames-told.new.below } in
     let e = c.in-Ok.ensures in
-    Pumps-run _ after end _ c.in-Ok.gate c.run_frames-told.new.answerer _ _ _ _ _ e.attached e.rises e.steady e.steadily c.run_frames-told.ensures.runs
+    Pumps-run _ after end _ c.in-Ok.gate c.run_frames-told.new.answerer _ _ _ _ _ e.attached e.rises e.steady e.steadily e.sized c.run_frames-told.ensures.runs
     c.clear_fids.ensures.state c.clear_fids.ensures.faults c.clear_fids.ensures.asked c.clear_fids.ensures.steady
 
 pub returns-in-Ok-clause-played : goal.returns-in-Ok-clause-played
