@@ -1,7 +1,7 @@
 -- A whole run, from the attach, the frames, and the fids taken away.
 use Rattle.std.proofs.Common.{◌≡◌, ℕ, ◌-◌, ◌≤◌, min, Result, Ok, Err, IsTrue, inl, sym, ap, ◌∙◌, subst, arith}
 use Rattle.fid_model.specs.Fids.{ServerState, cleared}
-use Rattle.fid_model.specs.Answers.{READ_HEAD}
+use Rattle.fid_model.specs.declared.sizes.TheConstants.{READ_HEAD}
 use Rattle.fid_model.specs.Handling.{Steadily}
 use Rattle.frame_pump.specs.Sessions.{Session}
 use Rattle.frame_pump.specs.Turns.{Streams, StopsBy, Runs}
