@@ -4,6 +4,7 @@ pub mod Standings
 pub mod Changing
 pub mod Going
 pub mod LettingGo
+pub mod Batching
 pub mod Known
 pub mod Showing
 pub mod Beginning

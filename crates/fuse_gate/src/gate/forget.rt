@@ -66,9 +66,10 @@ impl Gate {
     {
         let mut rest = pairs;
         while rest.len() >= FORGET_ONE_SIZE {
-            let one = ForgetOne::read(rest);
+            let (pair, others) = rest.split_at(FORGET_ONE_SIZE);
+            let one = ForgetOne::read(pair);
             self.forget(nine, one.nodeid, one.nlookup)?;
-            rest = &rest[FORGET_ONE_SIZE..];
+            rest = others;
         }
         Ok(())
     }
