@@ -16,7 +16,7 @@ use Rattle.fuse_gate.specs.declared.gate.Gate.{Gate}
 use Rattle.fuse_gate.proofs.Standings.{next_free, node_fid, node_good}
 
 -- what is there after an insertion
-insert_cases : {X : Type 0} (m : FinMap nat_cmp X) (k : ℕ) (v : X) (q : ℕ) (P : Option X → Type 0) → (q ≡ k → P (Some v)) → (q ≢ k → P (get m q)) → P (get (insert m k v) q)
+pub insert_cases : {X : Type 0} (m : FinMap nat_cmp X) (k : ℕ) (v : X) (q : ℕ) (P : Option X → Type 0) → (q ≡ k → P (Some v)) → (q ≢ k → P (get m q)) → P (get (insert m k v) q)
 insert_cases m k v q P f h = ⊎_elim
     (λ e. subst P (sym (ap (get (insert m k v)) e ∙ inserted m k v)) (f e))
     (λ ne. subst P (sym (insert_keeps m k v q ne)) (h ne))

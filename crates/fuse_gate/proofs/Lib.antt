@@ -5,6 +5,7 @@ pub mod Changing
 pub mod Going
 pub mod LettingGo
 pub mod Batching
+pub mod Opening
 pub mod Known
 pub mod Showing
 pub mod Beginning

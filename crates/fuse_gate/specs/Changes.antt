@@ -1,10 +1,12 @@
 -- Changes of a gate, and the moment between two messages.
-use Rattle.std.specs.Prelude.{◌≡◌, ℕ, ◌+◌, ◌-◌, ◌^◌, ◌<◌, false, min, Option, Some, None, IsSome}
+use Rattle.std.specs.Prelude.{◌≡◌, ℕ, ◌+◌, ◌-◌, ◌^◌, ◌<◌, true, false, min, Option, Some, None, IsSome}
 use Rattle.std.specs.FinMap as map
 use Rattle.port_base.specs.declared.oflag.TheConstants.{APPEND}
+use Rattle.tree_model.specs.Tree.{body_at, is_directory_at}
 use Rattle.tree_model.specs.Attributes.{Qid}
 use Rattle.tree_model.specs.Opening.{access, has_flag}
 use Rattle.tree_machine.specs.State.{is_at_limit, COUNT_LIMIT, Node as MachineNode}
+use Rattle.tree_machine.specs.Core.{opens_to_read}
 use Rattle.fid_model.specs.Fids.{ServerState, closed, IsGoodServer}
 use Rattle.fid_model.specs.Answers.{qid_at}
 use Rattle.fuse_gate.specs.Standing.{IsInStep, machine_of}
@@ -59,6 +61,15 @@ without_handle g id = record g { handles = map.remove g.handles id; used = g.use
 -- the server without a fid
 abbrev pub without : ServerState → ℕ → ServerState
 without s fid = record s { fids = map.remove s.fids fid }
+
+-- a node that is no directory may be opened by these flags, and a number is left for the handle
+pub record MayOpen (g : Gate) (s : ServerState) (id : ℕ) (n : Node) (flags : ℕ) : Type 0 where
+  pub stands : IsInStep g s
+  pub known : map.get g.nodes id ≡ Some n
+  pub served : opens_to_read flags ≡ true
+  pub file : is_directory_at (body_at s.tree.records n.ino) ≡ false
+  pub room : is_at_limit s.settings (machine_of g s) ≡ false
+  pub few : g.used < 2 ^ 32
 
 -- in step, but for a new fid that names an inode
 pub record HasFresh (g : Gate) (s : ServerState) (ino : ℕ) (qid : Qid) : Type 0 where

@@ -1,14 +1,14 @@
 // OPEN.
 ghost use Rattle.std.specs.Prelude.{◌≡◌, ◌≤◌, IfOk, OnErr};
 ghost use Rattle.std.specs.FinMap as map;
-ghost use Rattle.tree_model.specs.Opening.{access, has_flag};
-ghost use Rattle.tree_machine.specs.Core.{open_core, opens_to_read};
-ghost use Rattle.tree_machine.specs.Messages.{open_messages};
+ghost use Rattle.tree_model.specs.Opening.{open_check_of};
+ghost use Rattle.tree_machine.specs.Core.{open_core, opened, opens_to_read};
+ghost use Rattle.tree_machine.specs.Messages.{open_messages, opened_messages};
 ghost use Rattle.fid_model.specs.Handling.{Steadily};
 ghost use Rattle.fuse_gate.specs.Standing.{IsInStep, machine_of};
 ghost use Rattle.fuse_gate.specs.Replies.{plain};
 ghost use Rattle.fuse_gate.specs.Steps.{IsServed};
-ghost use Rattle.fuse_gate.specs.Changes.{handle_by};
+ghost use Rattle.fuse_gate.specs.Changes.{MayOpen, handle_by};
 
 use crate::gate::reply::Reply;
 use crate::gate::{Gate, Handle, Node, QTDIR};
@@ -47,7 +47,15 @@ impl Gate {
         node: Node,
         flags: u32,
     ) -> Result<Reply, NoMemory>
-        requires { IsInStep self.old (N.state nine.old) }
+        requires { MayOpen self.old (N.state nine.old) id node flags }
+        ensures served { IfOk result (λ reply. let m = machine_of self.old (N.state nine.old) in let checked = open_check_of m.tree node.ino flags in
+            IsServed (opened m node.ino flags checked) (opened_messages checked) self.old self.new (N.state nine.old) (N.state nine.new) (N.faults nine.old) (N.faults nine.new) (N.asked nine.old) (N.asked nine.new) (plain reply)) }
+        ensures unfinished { OnErr result ((N.state nine.new).tree ≡ (N.state nine.old).tree) }
+        ensures fixed { (N.state nine.new).settings ≡ (N.state nine.old).settings }
+        ensures sized { (N.state nine.new).msize ≡ (N.state nine.old).msize }
+        ensures rises { N.faults nine.old ≤ N.faults nine.new }
+        ensures steady { N.steady nine.new ≡ N.steady nine.old }
+        ensures steadily { Steadily (N.steady nine.old) (N.faults nine.old) (N.faults nine.new) }
     {
         let fresh = self.next;
         let copied = copy_fid(self.alloc, nine, id, fresh)?;
