@@ -14,8 +14,9 @@ use Rattle.p9_tmsg.specs.Messages.{Message}
 use Rattle.p9_tmsg.specs.Messages.Message.{attach as t_attach, clunk as t_clunk, getattr as t_getattr, lopen as t_lopen, read as t_read, walk as t_walk}
 use Rattle.p9_rmsg.specs.Replies.{Reply, Attributes}
 use Rattle.p9_rmsg.specs.Replies.Reply.{attach as r_attach, clunk as r_clunk, getattr as r_getattr, lerror as r_lerror, lopen as r_lopen, read as r_read, walk as r_walk}
-use Rattle.fid_model.specs.Fids.{Fid, Fids, OpenState, ServerState, closed, settled}
-use Rattle.fid_model.specs.Fids.OpenState.{Closed, Opened}
+use Rattle.fid_model.specs.Fids.{Fid, Fids, ServerState, closed, is_readable, settled}
+use Rattle.fid_model.specs.Fids.OpenState.{Opened}
+use Rattle.fid_model.specs.declared.sizes.TheConstants.{READ_HEAD}
 
 -- the most names of a walk
 abbrev pub WALK_LIMIT : ℕ
@@ -132,22 +133,14 @@ lopen_by s fid flags (Some f) = lopen_told s fid flags f (open_check_of s.tree f
 abbrev pub lopen_core : ServerState → ℕ → ℕ → Reply × ServerState
 lopen_core s fid flags = if has_flag TRUNC flags then (r_lerror EOPNOTSUPP, s) else lopen_by s fid flags (map.get s.fids fid)
 
--- the bytes of a reply around its data: size, type, tag and length
-abbrev pub READ_HEAD : ℕ
-READ_HEAD = 11
-
 abbrev pub piece_told : Result (List ℕ) ℕ → Reply
 piece_told (Ok bytes) = r_read bytes
 piece_told (Err e) = r_lerror e
 
--- what is open for writing alone isn't read
-abbrev pub read_open : Tree → ℕ → ℕ → ℕ → OpenState → Reply
-read_open t ino offset count Closed = r_lerror EBADF
-read_open t ino offset count (Opened access append) = if access == 1 then r_lerror EBADF else piece_told (read_of t ino offset count)
-
+-- as many bytes as there are, are asked for and fit a frame
 abbrev pub read_by : ServerState → ℕ → ℕ → Option Fid → Reply
 read_by s offset count None = r_lerror EBADF
-read_by s offset count (Some f) = read_open s.tree f.ino offset (min count (s.msize - READ_HEAD)) f.open_state
+read_by s offset count (Some f) = if is_readable f.open_state then piece_told (read_of s.tree f.ino offset (min count (s.msize - READ_HEAD))) else r_lerror EBADF
 
 -- ---- clunk
 

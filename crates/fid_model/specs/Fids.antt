@@ -1,5 +1,5 @@
 -- The state of a 9P server: a tree, and fids that name its inodes.
-use Rattle.std.specs.Prelude.{◌≡◌, ℕ, ◌<◌, ◌≤◌, ◌^◌, Bool, true, false, cond, ◌==◌, nat_lt}
+use Rattle.std.specs.Prelude.{◌≡◌, ℕ, ◌<◌, ◌≤◌, ◌^◌, Bool, true, false, cond, not, ◌==◌, nat_lt}
 use Rattle.std.specs.Ordering.{nat_cmp}
 use Rattle.std.specs.FinMap as map
 use Rattle.std.specs.FinMap.{FinMap}
@@ -12,6 +12,11 @@ use Rattle.tree_model.specs.Settings.{Settings}
 pub data OpenState : Type 0 where
   Closed : OpenState
   Opened : (access : ℕ) (append : Bool) → OpenState
+
+-- open, and not for writing alone
+abbrev pub is_readable : OpenState → Bool
+is_readable Closed = false
+is_readable (Opened access append) = not (access == 1)
 
 -- what a fid names: an inode, whatever becomes of its names
 pub record Fid : Type 0 where

@@ -3,5 +3,6 @@
 
 pub mod laws;
 mod nine;
+pub mod sizes;
 
 pub use nine::Nine;

@@ -6,3 +6,4 @@ mod Settled
 mod Attaching
 pub mod Only
 mod Opening
+mod Sizes

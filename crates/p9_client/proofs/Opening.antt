@@ -22,15 +22,15 @@ use Rattle.p9_rmsg.specs.declared.message.Rread.{Rread}
 use Rattle.p9_rmsg.specs.declared.message.Rlerror.{Rlerror}
 use Rattle.p9_rmsg.specs.Replies.{Reply, reply_of}
 use Rattle.p9_rmsg.specs.Replies.Reply.{walk as r_walk, lopen as r_lopen, read as r_read, lerror as r_lerror}
-use Rattle.fid_model.specs.Fids.{ServerState, Fid, OpenState, settled, IsGoodServer, closed, fid_count, fid_weight}
-use Rattle.fid_model.specs.Fids.OpenState.{Closed, Opened}
-use Rattle.fid_model.specs.Answers.{READ_HEAD, answer, core, walk_core, walk_from, walk_told, opened, lopen_core, lopen_by, lopen_told, read_by, read_open, piece_told, qid_at}
+use Rattle.fid_model.specs.Fids.{ServerState, Fid, settled, IsGoodServer, closed, is_readable, fid_count, fid_weight}
+use Rattle.fid_model.specs.declared.sizes.TheConstants.{READ_HEAD}
+use Rattle.fid_model.specs.Answers.{answer, core, walk_core, walk_from, walk_told, opened, lopen_core, lopen_by, lopen_told, read_by, piece_told, qid_at}
 use Rattle.fid_model.specs.Handling.{Outcome, IsHurtReply, IsPartOfWalk}
 use Rattle.fid_model.specs.Asked.{Asks}
 use Rattle.fid_model.proofs.Keeping.{settled_same, settled_kept}
 use Rattle.fid_model.proofs.FidCounts.{fid_count-replaced}
 use Rattle.p9_client.specs.Asking.{IsUnfinished}
-use Rattle.p9_client.specs.Opening.{copied_told, opened_by, opened_told, reads_by, is_readable_at, read_told}
+use Rattle.p9_client.specs.Opening.{copied_told, opened_by, opened_told, is_readable_at, read_told}
 use Rattle.p9_client.proofs.Settled.{settled_new}
 
 abbrev pair : Reply → ServerState → Reply × ServerState
@@ -154,15 +154,7 @@ ReadAsked told s0 s1 f0 f1 (r_read bytes) = Asks told (Ok bytes) s0 s1 f0 f1
 ReadAsked told s0 s1 f0 f1 (r_lerror e) = Asks told (Err e) s0 s1 f0 f1
 ReadAsked told s0 s1 f0 f1 _ = ⊥
 
-module _ (s : ServerState) (g : IsGoodServer s) (fid offset count : ℕ) (f : Fid) (known : map.get s.fids fid ≡ Some f) (reads : reads_by f.open_state ≡ true) where
-  for_reading : (writes : Bool) (r : Reply) → not writes ≡ true → cond writes (r_lerror EBADF) r ≡ r
-  for_reading true r h = absurd (false≢true h)
-  for_reading false r h = refl
-
-  by_state : (o : OpenState) → reads_by o ≡ true → read_open s.tree f.ino offset (min count (s.msize - READ_HEAD)) o ≡ piece_told (read_of s.tree f.ino offset (min count (s.msize - READ_HEAD)))
-  by_state Closed h = absurd (false≢true h)
-  by_state (Opened access append) h = for_reading (access == 1) (piece_told (read_of s.tree f.ino offset (min count (s.msize - READ_HEAD)))) h
-
+module _ (s : ServerState) (g : IsGoodServer s) (fid offset count : ℕ) (f : Fid) (known : map.get s.fids fid ≡ Some f) (reads : is_readable f.open_state ≡ true) where
   by_piece : (r : Result (List ℕ) ℕ) → piece_told r ≡ reply_to r_read r
   by_piece (Ok bytes) = refl
   by_piece (Err e) = refl
@@ -170,7 +162,8 @@ module _ (s : ServerState) (g : IsGoodServer s) (fid offset count : ℕ) (f : Fi
   read_answer : answer s (t_read fid offset count) ≡ pair (reply_to r_read (read_told s f.ino offset count).0) s
   read_answer =
       ap (λ (o : Option Fid). pair (read_by s offset count o) (settled s)) known
-      ∙ (λ j. pair ((by_state f.open_state reads ∙ by_piece (read_of s.tree f.ino offset (min count (s.msize - READ_HEAD)))) j) (settled_same s g j))
+      ∙ ap (λ b. pair (cond b (piece_told (read_of s.tree f.ino offset (min count (s.msize - READ_HEAD)))) (r_lerror EBADF)) (settled s)) reads
+      ∙ (λ j. pair (by_piece (read_of s.tree f.ino offset (min count (s.msize - READ_HEAD))) j) (settled_same s g j))
 
   pub read_asked : (r : Reply) (s1 : ServerState) (f0 f1 : ℕ) → Outcome s (t_read fid offset count) r s1 f0 f1 → ReadAsked (read_told s f.ino offset count) s s1 f0 f1 r
   read_asked r s1 f0 f1 o = asked_by r_read (ReadAsked (read_told s f.ino offset count) s s1 f0 f1) s s1 f0 f1 (read_told s f.ino offset count) (λ bytes h. h) (λ e h. h) (t_read fid offset count) read_answer r (λ h. h) o

@@ -16,10 +16,10 @@ use Rattle.p9_tmsg.specs.Messages.{Message}
 use Rattle.p9_tmsg.specs.Messages.Message.{attach as t_attach, clunk as t_clunk, getattr as t_getattr, lopen as t_lopen, read as t_read, walk as t_walk}
 use Rattle.p9_rmsg.specs.Replies.{Reply, IsReadableReply}
 use Rattle.p9_rmsg.specs.Replies.Reply.{lerror as r_lerror, walk as r_walk}
-use Rattle.fid_model.specs.Fids.{ServerState, Fid, OpenState}
-use Rattle.fid_model.specs.Fids.OpenState.{Closed, Opened}
+use Rattle.fid_model.specs.Fids.{ServerState, Fid, is_readable}
 use Rattle.p9_client.specs.Asking.{IsBounded}
-use Rattle.fid_model.specs.Answers.{WALK_LIMIT, READ_HEAD, lopen_told, lopen_by, piece_told, read_open, read_by, answer, core, attached, walk_told, walk_from, walk_names, Walked, got, getattr_by, clunk_by}
+use Rattle.fid_model.specs.declared.sizes.TheConstants.{READ_HEAD}
+use Rattle.fid_model.specs.Answers.{WALK_LIMIT, lopen_told, lopen_by, piece_told, read_by, answer, core, attached, walk_told, walk_from, walk_names, Walked, got, getattr_by, clunk_by}
 use Rattle.fid_model.specs.Handling.{Outcome, IsHurtReply, IsPartOfWalk}
 
 readable_either : (b : Bool) (x y : Reply × ServerState) → IsReadableReply x.0 → IsReadableReply y.0 → IsReadableReply (cond b x y).0
@@ -74,13 +74,11 @@ one_readable : (b : Bool) (x y : Reply) → IsReadableReply x → IsReadableRepl
 one_readable true x y h k = h
 one_readable false x y h k = k
 
-read_open_readable : (t : Tree) (ino offset most : ℕ) → most ≤ 33554432 → (s : OpenState) → IsReadableReply (read_open t ino offset most s)
-read_open_readable t ino offset most few Closed = tt
-read_open_readable t ino offset most few (Opened access append) = one_readable (access == 1) (r_lerror EBADF) (piece_told (read_of t ino offset most)) tt (piece_readable most few offset (body_at t.records ino))
-
 read_readable : (s : ServerState) (offset count : ℕ) → count ≤ 33554432 → (f : Option Fid) → IsReadableReply (read_by s offset count f)
 read_readable s offset count few None = tt
-read_readable s offset count few (Some f) = read_open_readable s.tree f.ino offset (min count (s.msize - READ_HEAD)) (omega (arith, few)) f.open_state
+read_readable s offset count few (Some f) =
+    let most : ℕ = min count (s.msize - READ_HEAD) in
+    one_readable (is_readable f.open_state) (piece_told (read_of s.tree f.ino offset most)) (r_lerror EBADF) (piece_readable most (omega (arith, few)) offset (body_at s.tree.records f.ino)) tt
 
 core_readable : (s : ServerState) (m : Message) → IsBounded m → IsReadableReply (core s m).0
 core_readable s (t_lopen fid flags) b =

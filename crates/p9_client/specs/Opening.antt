@@ -1,11 +1,11 @@
 -- What opening and reading answer, in the terms of those that ask.
-use Rattle.std.specs.Prelude.{ℕ, ◌-◌, min, Bool, true, false, not, ◌==◌, List, Option, Some, None, Result, Ok, Err}
+use Rattle.std.specs.Prelude.{ℕ, ◌-◌, min, Bool, false, List, Option, Some, None, Result, Ok, Err}
 use Rattle.std.specs.FinMap as map
 use Rattle.tree_model.specs.Attributes.{Qid}
 use Rattle.tree_model.specs.Opening.{open_check_of, read_of}
-use Rattle.fid_model.specs.Fids.{ServerState, Fid, OpenState, closed}
-use Rattle.fid_model.specs.Fids.OpenState.{Closed, Opened}
-use Rattle.fid_model.specs.Answers.{READ_HEAD, opened, qid_at}
+use Rattle.fid_model.specs.Fids.{ServerState, Fid, closed, is_readable}
+use Rattle.fid_model.specs.declared.sizes.TheConstants.{READ_HEAD}
+use Rattle.fid_model.specs.Answers.{opened, qid_at}
 
 -- a new fid names an inode that another names
 abbrev pub copied_told : ServerState → ℕ → ℕ → Result (Unit {0}) ℕ × ServerState
@@ -19,14 +19,10 @@ opened_by s fid f flags (Err e) = (Err e, s)
 abbrev pub opened_told : ServerState → ℕ → Fid → ℕ → Result Qid ℕ × ServerState
 opened_told s fid f flags = opened_by s fid f flags (open_check_of s.tree f.ino flags)
 
-abbrev pub reads_by : OpenState → Bool
-reads_by Closed = false
-reads_by (Opened access append) = not (access == 1)
-
 -- the fid is there, and open for more than writing
 abbrev pub is_readable_at : Option Fid → Bool
 is_readable_at None = false
-is_readable_at (Some f) = reads_by f.open_state
+is_readable_at (Some f) = is_readable f.open_state
 
 -- the bytes of an inode from an offset on, as many as there are, are asked for and fit a frame
 abbrev pub read_told : ServerState → ℕ → ℕ → ℕ → Result (List ℕ) ℕ × ServerState

@@ -68,6 +68,7 @@ pub fn walk_one<N: Nine>(
     ensures unfinished { OnErr result ((N.state nine.new).tree ≡ (N.state nine.old).tree) }
     ensures rises { N.faults nine.old ≤ N.faults nine.new }
     ensures fixed { (N.state nine.new).settings ≡ (N.state nine.old).settings }
+    ensures sized { (N.state nine.new).msize ≡ (N.state nine.old).msize }
     ensures asked { OnOk result (N.asked nine.new ≡ min (N.asked nine.old + 1) (2 ^ 64 - 1)) }
     ensures steady { N.steady nine.new ≡ N.steady nine.old }
     ensures steadily { Steadily (N.steady nine.old) (N.faults nine.old) (N.faults nine.new) }
@@ -95,6 +96,7 @@ pub fn get_attr<N: Nine>(
     ensures unfinished { OnErr result ((N.state nine.new).tree ≡ (N.state nine.old).tree) }
     ensures rises { N.faults nine.old ≤ N.faults nine.new }
     ensures fixed { (N.state nine.new).settings ≡ (N.state nine.old).settings }
+    ensures sized { (N.state nine.new).msize ≡ (N.state nine.old).msize }
     ensures asked { OnOk result (N.asked nine.new ≡ min (N.asked nine.old + 1) (2 ^ 64 - 1)) }
     ensures steady { N.steady nine.new ≡ N.steady nine.old }
     ensures steadily { Steadily (N.steady nine.old) (N.faults nine.old) (N.faults nine.new) }
@@ -118,6 +120,7 @@ pub fn clunk<N: Nine>(alloc: Global, nine: &mut N, fid: u32) -> Result<(), NoMem
     ensures unfinished { OnErr result ((N.state nine.new ≡ N.state nine.old) ⊎ (N.state nine.new ≡ clunked (N.state nine.old) fid)) }
     ensures rises { N.faults nine.old ≤ N.faults nine.new }
     ensures fixed { (N.state nine.new).settings ≡ (N.state nine.old).settings }
+    ensures sized { (N.state nine.new).msize ≡ (N.state nine.old).msize }
     ensures asked { OnOk result (N.asked nine.new ≡ min (N.asked nine.old + 1) (2 ^ 64 - 1)) }
     ensures steady { N.steady nine.new ≡ N.steady nine.old }
     ensures steadily { Steadily (N.steady nine.old) (N.faults nine.old) (N.faults nine.new) }
@@ -160,6 +163,7 @@ pub fn attach<N: Nine>(alloc: Global, nine: &mut N, fid: u32) -> Result<Result<Q
     ensures unfinished { OnErr result ((N.state nine.new).tree ≡ (N.state nine.old).tree) }
     ensures rises { N.faults nine.old ≤ N.faults nine.new }
     ensures fixed { (N.state nine.new).settings ≡ (N.state nine.old).settings }
+    ensures sized { (N.state nine.new).msize ≡ (N.state nine.old).msize }
     ensures asked { OnOk result (N.asked nine.new ≡ min (N.asked nine.old + 1) (2 ^ 64 - 1)) }
     ensures steady { N.steady nine.new ≡ N.steady nine.old }
     ensures steadily { Steadily (N.steady nine.old) (N.faults nine.old) (N.faults nine.new) }

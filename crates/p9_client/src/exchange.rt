@@ -38,6 +38,7 @@ fn reply_to<N: Nine>(alloc: Global, nine: &mut N, frame: &[u8]) -> Result<MemSin
     ensures err { OnErr result (N.state nine.new ≡ N.state nine.old) }
     ensures rises { N.faults nine.old ≤ N.faults nine.new }
     ensures fixed { (N.state nine.new).settings ≡ (N.state nine.old).settings }
+    ensures sized { (N.state nine.new).msize ≡ (N.state nine.old).msize }
     ensures asked { N.asked nine.new ≡ min (N.asked nine.old + 1) (2 ^ 64 - 1) }
     ensures steady { N.steady nine.new ≡ N.steady nine.old }
     ensures steadily { Steadily (N.steady nine.old) (N.faults nine.old) (N.faults nine.new) }
@@ -77,6 +78,7 @@ pub fn exchange<N: Nine>(
     ensures err { OnErr result (IsUnfinished (N.state nine.old) (message_of message.now) (N.state nine.new) (N.faults nine.old) (N.faults nine.new)) }
     ensures rises { N.faults nine.old ≤ N.faults nine.new }
     ensures fixed { (N.state nine.new).settings ≡ (N.state nine.old).settings }
+    ensures sized { (N.state nine.new).msize ≡ (N.state nine.old).msize }
     ensures asked { OnOk result (N.asked nine.new ≡ min (N.asked nine.old + 1) (2 ^ 64 - 1)) }
     ensures steady { N.steady nine.new ≡ N.steady nine.old }
     ensures steadily { Steadily (N.steady nine.old) (N.faults nine.old) (N.faults nine.new) }

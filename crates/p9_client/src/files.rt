@@ -33,6 +33,7 @@ pub fn copy_fid<N: Nine>(
     ensures unfinished { OnErr result ((N.state nine.new).tree ≡ (N.state nine.old).tree) }
     ensures rises { N.faults nine.old ≤ N.faults nine.new }
     ensures fixed { (N.state nine.new).settings ≡ (N.state nine.old).settings }
+    ensures sized { (N.state nine.new).msize ≡ (N.state nine.old).msize }
     ensures asked { OnOk result (N.asked nine.new ≡ min (N.asked nine.old + 1) (2 ^ 64 - 1)) }
     ensures steady { N.steady nine.new ≡ N.steady nine.old }
     ensures steadily { Steadily (N.steady nine.old) (N.faults nine.old) (N.faults nine.new) }
@@ -63,6 +64,7 @@ pub fn open<N: Nine>(
     ensures unfinished { OnErr result ((N.state nine.new).tree ≡ (N.state nine.old).tree) }
     ensures rises { N.faults nine.old ≤ N.faults nine.new }
     ensures fixed { (N.state nine.new).settings ≡ (N.state nine.old).settings }
+    ensures sized { (N.state nine.new).msize ≡ (N.state nine.old).msize }
     ensures asked { OnOk result (N.asked nine.new ≡ min (N.asked nine.old + 1) (2 ^ 64 - 1)) }
     ensures steady { N.steady nine.new ≡ N.steady nine.old }
     ensures steadily { Steadily (N.steady nine.old) (N.faults nine.old) (N.faults nine.new) }
@@ -90,6 +92,7 @@ pub fn read<N: Nine>(
     ensures unfinished { OnErr result ((N.state nine.new).tree ≡ (N.state nine.old).tree) }
     ensures rises { N.faults nine.old ≤ N.faults nine.new }
     ensures fixed { (N.state nine.new).settings ≡ (N.state nine.old).settings }
+    ensures sized { (N.state nine.new).msize ≡ (N.state nine.old).msize }
     ensures asked { OnOk result (N.asked nine.new ≡ min (N.asked nine.old + 1) (2 ^ 64 - 1)) }
     ensures steady { N.steady nine.new ≡ N.steady nine.old }
     ensures steadily { Steadily (N.steady nine.old) (N.faults nine.old) (N.faults nine.new) }

@@ -1,6 +1,6 @@
 -- What is read of a fid that is open to be read.
 use Rattle.std.proofs.Common.{◌≡◌, ℕ, ◌+◌, ◌-◌, ◌<◌, ◌≤◌, Bool, true, false, cond, List, length, take, refl, sym, ap, ◌∙◌, subst, Option, Some, None, Result, Ok, Err, arith}
-use Rattle.std.specs.Prelude.{◌==◌, min, not}
+use Rattle.std.specs.Prelude.{min}
 use Rattle.std.specs.FinMap.{get}
 use Rattle.port_base.specs.declared.errno.TheConstants.{EBADF}
 use Rattle.tree_model.specs.Tree.{Tree}
@@ -14,49 +14,40 @@ use Rattle.tree_host.specs.Host.{Reads, Causes}
 use Rattle.p9_tmsg.specs.Messages.Message.{read}
 use Rattle.p9_rmsg.specs.Replies.{Reply}
 use Rattle.p9_rmsg.specs.Replies.Reply.{read as r_read, lerror}
-use Rattle.fid_model.specs.Fids.{Fids, Fid, OpenState, ServerState, fid_count, settled, is_held as is_named}
-use Rattle.fid_model.specs.Fids.OpenState.{Closed, Opened}
-use Rattle.fid_model.specs.Answers.{answer, core, read_by, read_open, piece_told}
+use Rattle.fid_model.specs.Fids.{Fids, Fid, ServerState, fid_count, is_readable, settled, is_held as is_named}
+use Rattle.fid_model.specs.declared.sizes.TheConstants.{READ_HEAD}
+use Rattle.fid_model.specs.Answers.{answer, core, read_by, piece_told}
 use Rattle.fid_model.proofs.FidCounts.{fid_count-named}
 use Rattle.fid_model.proofs.Keeping.{settled_kept}
 use Rattle.p9_server.specs.Holding.{AreFids}
-use Rattle.p9_server.specs.OpenModes.{is_readable}
 use Rattle.p9_server.specs.Steps.{Steps, server_state, readable_told}
 use Rattle.p9_server.proofs.Stepping.{pair, step_ok, step_errno, step_refused, step_fault, step_no_memory}
 
 -- ---- fids that are open to be read
 
 module _ (t : Tree) (offset most : ℕ) where
-  refused_for : (writes : Bool) (ino : ℕ) (e : HostError) → Err e ≡ cond {A = Result ℕ HostError} (not writes) (Ok ino) (Err (Errno EBADF)) → (cond writes (lerror EBADF) (piece_told (read_of t ino offset most)) ≡ lerror EBADF) × (e ≡ Errno EBADF)
-  refused_for true ino e is = let same : e ≡ Errno EBADF = cc in (refl, same)
-  refused_for false ino e is = absurd (cc)
+  refused_for : (readable : Bool) (ino : ℕ) (e : HostError) → Err e ≡ cond {A = Result ℕ HostError} readable (Ok ino) (Err (Errno EBADF)) → (cond readable (piece_told (read_of t ino offset most)) (lerror EBADF) ≡ lerror EBADF) × (e ≡ Errno EBADF)
+  refused_for true ino e is = absurd (cc)
+  refused_for false ino e is = let same : e ≡ Errno EBADF = cc in (refl, same)
 
-  refused_at : (s : OpenState) (ino : ℕ) (e : HostError) → Err e ≡ cond {A = Result ℕ HostError} (is_readable s) (Ok ino) (Err (Errno EBADF)) → (read_open t ino offset most s ≡ lerror EBADF) × (e ≡ Errno EBADF)
-  refused_at Closed ino e is = let same : e ≡ Errno EBADF = cc in (refl, same)
-  refused_at (Opened access append) ino e is = refused_for (access == 1) ino e is
-
-  taken_for : (writes : Bool) (own ino : ℕ) → Ok ino ≡ cond {A = Result ℕ HostError} (not writes) (Ok own) (Err (Errno EBADF)) → (cond writes (lerror EBADF) (piece_told (read_of t own offset most)) ≡ piece_told (read_of t own offset most)) × (own ≡ ino)
-  taken_for true own ino is = absurd (cc)
-  taken_for false own ino is = let same : own ≡ ino = cc in (refl, same)
-
-  taken_at : (s : OpenState) (own ino : ℕ) → Ok ino ≡ cond {A = Result ℕ HostError} (is_readable s) (Ok own) (Err (Errno EBADF)) → (read_open t own offset most s ≡ piece_told (read_of t own offset most)) × (own ≡ ino)
-  taken_at Closed own ino is = absurd (cc)
-  taken_at (Opened access append) own ino is = taken_for (access == 1) own ino is
+  taken_for : (readable : Bool) (own ino : ℕ) → Ok ino ≡ cond {A = Result ℕ HostError} readable (Ok own) (Err (Errno EBADF)) → (cond readable (piece_told (read_of t own offset most)) (lerror EBADF) ≡ piece_told (read_of t own offset most)) × (own ≡ ino)
+  taken_for true own ino is = let same : own ≡ ino = cc in (refl, same)
+  taken_for false own ino is = absurd (cc)
 
 module _ (t : Tree) (fids : Fids) (msize : ℕ) (settings : Settings) (offset count : ℕ) where
   abbrev state : ServerState
   state = server_state t fids msize settings
 
   abbrev most : ℕ
-  most = min count (msize - 11)
+  most = min count (msize - READ_HEAD)
 
   refused_by : (o : Option Fid) (e : HostError) → Err e ≡ readable_told o → (read_by state offset count o ≡ lerror EBADF) × (e ≡ Errno EBADF)
   refused_by None e is = let same : e ≡ Errno EBADF = cc in (refl, same)
-  refused_by (Some f) e is = refused_at t offset most f.open_state f.ino e is
+  refused_by (Some f) e is = refused_for t offset most (is_readable f.open_state) f.ino e is
 
   taken_by : (o : Option Fid) (ino : ℕ) → Ok ino ≡ readable_told o → (f : Fid) × (o ≡ Some f) × (read_by state offset count o ≡ piece_told (read_of t f.ino offset most)) × (f.ino ≡ ino)
   taken_by None ino is = absurd (cc)
-  taken_by (Some f) ino is = let x = taken_at t offset most f.open_state f.ino ino is in (f, refl, x.0, x.1)
+  taken_by (Some f) ino is = let x = taken_for t offset most (is_readable f.open_state) f.ino ino is in (f, refl, x.0, x.1)
 
 -- what such a fid names is held
 pub readable_held : (h : Holds) (fids : Fids) → AreFids h fids → (n ino : ℕ) → Ok ino ≡ readable_told (get fids n) → (t : Tree) (msize : ℕ) (settings : Settings) → 0 < hold_count h ino
@@ -88,18 +79,18 @@ module _ {A : Type 0} (items : A → List ℕ) (t : Tree) (fids : Fids) (msize :
     pub after_read : after ≡ before
     after_read j = server_state (same j) fids msize settings
 
-    told : (r : Result (List ℕ) ℕ) → read_of t ino offset (min count (msize - 11)) ≡ r → answer before (read n offset count) ≡ pair (piece_told r) before
+    told : (r : Result (List ℕ) ℕ) → read_of t ino offset (min count (msize - READ_HEAD)) ≡ r → answer before (read n offset count) ≡ pair (piece_told r) before
     told r is =
         let f = taken_by t fids msize settings offset count (get fids n) ino known in
         ap (λ (r : Reply). pair r (settled before)) f.2
-        ∙ ap (λ (i : ℕ). pair (piece_told (read_of t i offset (min count (msize - 11)))) (settled before)) f.3
+        ∙ ap (λ (i : ℕ). pair (piece_told (read_of t i offset (min count (msize - READ_HEAD)))) (settled before)) f.3
         ∙ ap (λ (r : Result (List ℕ) ℕ). pair (piece_told r) (settled before)) is
         ∙ (λ j. pair (piece_told r) (settled_kept before kept j))
 
     pub unread_step : f1 ≡ f0 → Steps (read n offset count) reads before after steady f0 f1 (Err NoMemory)
     unread_step calm = step_no_memory (read n offset count) reads before after steady f0 f1 after_read calm
 
-    module _ (most : ℕ) (is : most ≡ min count (msize - 11)) (old new : List ℕ) where
+    module _ (most : ℕ) (is : most ≡ min count (msize - READ_HEAD)) (old new : List ℕ) where
       pub read_step : (v : A) (k : ℕ) → Reads (read_of t ino offset most) old new (Ok k) → items v ≡ take k new → f1 ≡ f0 → Steps (read n offset count) reads before after steady f0 f1 (Ok v)
       read_step v k r front calm = step_ok (read n offset count) reads before after steady f0 f1 v
           ((λ j. pair (r_read (front j)) (after_read j)) ∙ sym (told (Ok (take k new)) (sym (ap (λ (m : ℕ). read_of t ino offset m) is) ∙ r.exactly.0))) calm

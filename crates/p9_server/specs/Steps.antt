@@ -9,10 +9,9 @@ use Rattle.tree_model.specs.declared.attributes.HostError.TheVariants.{Errno, Fa
 use Rattle.p9_tmsg.specs.Messages.{Message}
 use Rattle.p9_rmsg.specs.Replies.{Reply}
 use Rattle.p9_rmsg.specs.Replies.Reply.{lerror}
-use Rattle.fid_model.specs.Fids.{ServerState, Fids, Fid}
+use Rattle.fid_model.specs.Fids.{ServerState, Fids, Fid, is_readable}
 use Rattle.fid_model.specs.Answers.{WALK_LIMIT}
 use Rattle.fid_model.specs.Handling.{Outcome, Steadily}
-use Rattle.p9_server.specs.OpenModes.{is_readable}
 
 abbrev pub server_state : Tree → Fids → ℕ → Settings → ServerState
 server_state tree fids msize settings = record { tree = tree; fids = fids; msize = msize; settings = settings }

@@ -1,8 +1,7 @@
 //! What a fid names.
 ghost use Rattle.std.specs.Prelude.{◌≡◌};
-ghost use Rattle.fid_model.specs.Fids.{closed};
+ghost use Rattle.fid_model.specs.Fids.{closed, is_readable};
 ghost use Rattle.fid_model.specs.Answers.{opened};
-ghost use Rattle.p9_server.specs.OpenModes.{is_readable};
 
 use port_base::oflag::APPEND;
 use std::marker::Model;

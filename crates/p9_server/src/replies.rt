@@ -2,6 +2,7 @@
 ghost use Rattle.std.specs.Prelude.{◌≡◌, ◌+◌, ◌≤◌, ◌<◌, ◌^◌, Err, length, map, IfOk, IfErr, OnOk};
 ghost use Rattle.std.specs.Io.KnownBytes.{Keeps};
 ghost use Rattle.tree_model.specs.Attributes.{blocks_of};
+ghost use Rattle.fid_model.specs.declared.sizes.TheConstants.{READ_HEAD};
 ghost use Rattle.fid_model.specs.Answers.{attributes_of};
 ghost use Rattle.std.specs.List.{AllByRecursion};
 ghost use Rattle.p9_wire.specs.Values.{QidSpells};
@@ -177,7 +178,7 @@ pub fn open_reply(step: Result<Qid, HostError>) -> Result<Rmessage, WireError>
 /// The reply to Tread, in a frame of at most `msize` bytes.
 pub fn read_reply(step: Result<Vec<u8>, HostError>, msize: u32) -> Result<Rmessage, WireError>
     requires roomy { 256 ≤ msize }
-    requires fits { IfOk step (λ bytes. length bytes.items + 11 ≤ msize) }
+    requires fits { IfOk step (λ bytes. length bytes.items + READ_HEAD ≤ msize) }
     ensures reply { result_view reply_of result ≡ reply_told (λ bytes. read bytes.items) step }
     ensures fits { IfOk result (λ m. Fits msize (reply_of m)) }
 {
@@ -186,6 +187,20 @@ pub fn read_reply(step: Result<Vec<u8>, HostError>, msize: u32) -> Result<Rmessa
             payload: Data(bytes),
         })),
         Err(e) => refusal(e),
+    }
+}
+
+/// Makes room for so many bytes.
+pub fn make_room<K: Sink>(writer: &mut K, bytes: usize) -> Result<(), WireError>
+    ensures room { OnOk result (bytes ≤ K.room writer.new) }
+    ensures memory { IfErr result (λ e. e ≡ WireError.NoMemory) }
+    ensures sent { Keeps (K.sent writer.old) (K.sent writer.new) }
+    ensures faults { K.faults writer.new ≡ K.faults writer.old }
+    ensures kept { K.kept writer.new ≡ K.kept writer.old }
+{
+    match writer.reserve(bytes) {
+        Ok(()) => Ok(()),
+        Err(_) => Err(WireError::NoMemory),
     }
 }
 
@@ -204,10 +219,7 @@ pub fn reserve_long<K: Sink>(reply: &Rmessage, writer: &mut K) -> Result<(), Wir
     if length <= REPLY_ROOM {
         return Ok(());
     }
-    match writer.reserve(length) {
-        Ok(()) => Ok(()),
-        Err(_) => Err(WireError::NoMemory),
-    }
+    make_room(writer, length)
 }
 
 /// Sends a reply, for which there is room.

@@ -1,12 +1,11 @@
 //! The server as what serves a tree by 9P2000.L.
-ghost use Rattle.std.specs.Prelude.{◌≡◌, ◌≤◌, OnOk, IfErr};
-ghost use Rattle.std.specs.Io.KnownBytes.{Keeps};
+ghost use Rattle.std.specs.Prelude.{◌≡◌};
 ghost use Rattle.p9_server.specs.Steps.{server_state};
 ghost use Rattle.p9_server.specs.Handling.{ReadsFrame};
 
 use super::Server;
 use crate::naming::release_all;
-use crate::replies::{REPLY_ROOM, reserve_long, send_reply};
+use crate::replies::{REPLY_ROOM, make_room, reserve_long, send_reply};
 use fid_model::Nine;
 use p9_tmsg::Tframe;
 use p9_wire::error::WireError;
@@ -25,20 +24,6 @@ fn read_frame<S: Source>(alloc: Global, reader: &mut S, limit: u32) -> Result<Tf
         Ok(frame) => Ok(frame),
         Err(WireError::InvalidInput) => Err(WireError::InvalidData),
         Err(fault) => Err(fault),
-    }
-}
-
-// Makes room for a reply.
-fn reserve_reply<K: Sink>(writer: &mut K) -> Result<(), WireError>
-    ensures room { OnOk result (REPLY_ROOM ≤ K.room writer.new) }
-    ensures memory { IfErr result (λ e. e ≡ WireError.NoMemory) }
-    ensures sent { Keeps (K.sent writer.old) (K.sent writer.new) }
-    ensures faults { K.faults writer.new ≡ K.faults writer.old }
-    ensures kept { K.kept writer.new ≡ K.kept writer.old }
-{
-    match writer.reserve(REPLY_ROOM) {
-        Ok(()) => Ok(()),
-        Err(_) => Err(WireError::NoMemory),
     }
 }
 
@@ -63,7 +48,7 @@ impl<H: Host> Nine for Server<H> {
             Ok(frame) => frame,
             Err(e) => return Err(e),
         };
-        match reserve_reply(writer) {
+        match make_room(writer, REPLY_ROOM) {
             Ok(()) => {}
             Err(e) => return Err(e),
         }

@@ -13,14 +13,12 @@ ghost use Rattle.p9_server.specs.Opening.{Opens};
 use super::Server;
 use crate::fid_state::FidState;
 use crate::qids::qid_of;
+use fid_model::sizes::READ_HEAD;
 use p9_wire::qid::Qid;
 use port_base::errno::{EBADF, EOPNOTSUPP};
 use port_base::oflag::TRUNC;
 use tree_host::Host;
 use tree_model::{Attr, HostError};
-
-/// The bytes of Rread around its data: size, type, tag and length.
-const READ_HEAD: u32 = 11;
 
 impl<H: Host> Server<H> {
     // The inode of a fid that is open to be read.

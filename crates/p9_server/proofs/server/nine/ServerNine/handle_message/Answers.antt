@@ -14,6 +14,6 @@ returns-in-Ok-reserve_long-clause-handled g c =
     (g.S.Source.faults c.args.reader.now) (g.S.Source.faults c.read_frame.new.reader)
     (g.K.Sink.faults c.args.writer.now) (g.K.Sink.faults c.reserve_long.new.writer) (g.K.Sink.faults c.send_reply.new.writer)
     c.in-Ok.frame c.in-Ok.ensures.frame
-    (kept_twice (g.K.Sink.sent c.args.writer.now) (g.K.Sink.sent c.reserve_reply.new.writer) (g.K.Sink.sent c.reserve_long.new.writer) c.reserve_reply.ensures.sent c.reserve_long.ensures.sent)
-    (c.reserve_long.ensures.faults ∙ c.reserve_reply.ensures.faults) (g.H.Host.steady s.host)
+    (kept_twice (g.K.Sink.sent c.args.writer.now) (g.K.Sink.sent c.make_room.new.writer) (g.K.Sink.sent c.reserve_long.new.writer) c.make_room.ensures.sent c.reserve_long.ensures.sent)
+    (c.reserve_long.ensures.faults ∙ c.make_room.ensures.faults) (g.H.Host.steady s.host)
     c.in-Ok-answer.reply c.in-Ok-answer.ensures.answered c.send_reply.result c.send_reply.ensures.sent
