@@ -15,3 +15,4 @@ pub mod Roots
 pub mod Played
 mod Telling
 mod Stored
+pub mod Replying

@@ -8,7 +8,7 @@ use Rattle.tree_machine.specs.State.Phase.{New, Started, Over}
 use Rattle.tree_machine.specs.Good.{IsGoodMachine}
 use Rattle.fid_model.specs.Fids.{ServerState, Fid, closed}
 use Rattle.fid_model.specs.Fids.OpenState.{Opened}
-use Rattle.fid_model.specs.Answers.{READ_HEAD}
+use Rattle.fid_model.specs.declared.sizes.TheConstants.{READ_HEAD}
 use Rattle.fuse_gate.specs.Mapped.{mapped}
 use Rattle.fuse_gate.specs.declared.gate.TheConstants.{LEAST_MSIZE, GREATEST_MSIZE}
 use Rattle.fuse_gate.specs.declared.gate.Node.{Node}
