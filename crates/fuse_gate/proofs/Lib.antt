@@ -16,3 +16,4 @@ pub mod Played
 mod Telling
 mod Stored
 pub mod Replying
+pub mod Reading
