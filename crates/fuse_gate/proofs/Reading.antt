@@ -1,20 +1,23 @@
 -- READ, piece by piece.
-use Rattle.std.proofs.Common.{◌≡◌, ◌≢◌, ℕ, ◌+◌, ◌-◌, ◌^◌, ◌<◌, ◌≤◌, min, Bool, true, IsTrue, List, [], ◌++◌, length, take, drop, Some, None, Option, Result, Ok, Err, refl, sym, ap, ◌∙◌, subst, arith, ◌⊎◌, ⊎_elim, inl, inr}
-use Rattle.std.specs.Prelude.{option_map}
+use Rattle.std.proofs.Common.{◌≡◌, ◌≢◌, ℕ, ◌+◌, ◌-◌, ◌^◌, ◌<◌, ◌≤◌, min, Bool, true, false, cond, IsTrue, List, [], ◌++◌, length, take, drop, Some, None, Option, Result, Ok, Err, refl, sym, ap, ◌∙◌, subst, arith, ◌⊎◌, ⊎_elim, inl, inr}
+use Rattle.std.specs.Prelude.{◌==◌, not, option_map, unwrap_or}
+use Rattle.std.proofs.lemmas.Bool.Decides.{nat_tests}
 use Rattle.std.specs.FinMap.{get}
 use Rattle.std.proofs.lemmas.List.{length-take, take_min, length-append, length-drop, drop-drop}
 use Rattle.std.proofs.Math.Seq.{take-add}
 use Rattle.port_base.specs.Faults.{Rose}
-use Rattle.port_base.specs.declared.errno.TheConstants.{EIO}
-use Rattle.tree_model.specs.Tree.{Tree, Record, Body, body_at}
+use Rattle.port_base.specs.declared.errno.TheConstants.{EBADF, EIO, EISDIR}
+use Rattle.tree_model.specs.Tree.{Tree, Record, Body, body_at, is_directory_at}
 use Rattle.tree_model.specs.Good.{IsGoodTree, IsGoodBody}
-use Rattle.tree_model.specs.Tree.Body.{File}
+use Rattle.tree_model.specs.Tree.Body.{File, Directory, Link}
+use Rattle.tree_model.specs.Attributes.{kind_of, qid_type}
 use Rattle.tree_model.specs.Opening.{asked, read_body, read_of}
-use Rattle.tree_model.specs.Reading.{part}
-use Rattle.tree_machine.specs.Core.{Reply as MachineReply}
-use Rattle.tree_machine.specs.Core.Reply.{BytesOf}
-use Rattle.tree_machine.specs.State.{MachineState}
-use Rattle.tree_machine.specs.Messages.{pieces}
+use Rattle.tree_model.specs.Reading.{part, bytes_of, bytes_at}
+use Rattle.tree_machine.specs.Core.{Reply as MachineReply, read_core, bytes_reply, READ_LIMIT}
+use Rattle.tree_machine.specs.Core.Reply.{BytesOf, Refused as MachineRefused}
+use Rattle.tree_machine.specs.State.{MachineState, Handle as MachineHandle}
+use Rattle.tree_machine.specs.Good.{IsOpenable}
+use Rattle.tree_machine.specs.Messages.{pieces, read_messages}
 use Rattle.tree_machine.proofs.Pieces.{last_short, last_whole, one_more}
 use Rattle.p9_wire.specs.declared.data.Data.{Data}
 use Rattle.p9_client.specs.Views.{bytes_answer}
@@ -24,14 +27,18 @@ use Rattle.fid_model.specs.Handling.{Steadily}
 use Rattle.fid_model.specs.Fids.{ServerState, Fid, IsGoodServer}
 use Rattle.fid_model.specs.declared.sizes.TheConstants.{READ_HEAD}
 use Rattle.frame_pump.specs.Sessions.{Counted}
-use Rattle.fuse_gate.specs.Standing.{IsInStep, machine_of, piece_of}
+use Rattle.fuse_gate.specs.Standing.{IsInStep, machine_of, piece_of, handle_of, opened}
+use Rattle.fuse_gate.specs.Mapped.{mapped}
+use Rattle.fuse_gate.specs.Replies.{laid_out}
 use Rattle.fuse_gate.specs.Steps.{IsServed}
 use Rattle.fuse_gate.specs.Laying.{LaidOut}
 use Rattle.fuse_gate.specs.Laying.LaidOut.{Refused, Bytes}
 use Rattle.fuse_gate.specs.Changes.{one_sent}
 use Rattle.fuse_gate.specs.Files.{file_at, ReadsFile}
 use Rattle.fuse_gate.specs.declared.gate.Gate.{Gate}
-use Rattle.fuse_gate.proofs.Standings.{kept, hurt}
+use Rattle.fuse_gate.specs.declared.gate.Handle.{Handle}
+use Rattle.fuse_gate.proofs.MappedLemmas.{get-mapped}
+use Rattle.fuse_gate.proofs.Standings.{unmoved, kept, hurt, handle_fid, handle_good}
 use Rattle.fuse_gate.proofs.Showing.{first_of_pair, second_of_pair}
 
 -- ---- parts of a list
@@ -291,3 +298,88 @@ module _ {g : Gate} {s : ServerState} (st : IsInStep g s) {fid : ℕ} {file : Li
             steady = steady ∙ r.steady;
             steadily = λ t. steadily (subst IsTrue (sym r.steady) t) ∙ r.steadily t;
           }
+
+-- ---- a handle that is read
+
+not_one : (access : ℕ) → access ≢ 1 → (access == 1) ≡ false
+not_one access ne = grind (arith, nat_tests)
+
+module _ {g : Gate} {s : ServerState} (st : IsInStep g s) (handle : ℕ) where
+  -- what is open is a directory or a file, as its kind says
+  abbrev IsOfKind : ℕ → Option Body → Type 0
+  IsOfKind kind b = ((kind ≡ 128) × (is_directory_at b ≡ true)) ⊎ ((kind ≢ 128) × ((file : List ℕ) × (b ≡ Some (File file))))
+
+  kind_is : (h : Handle) → get g.handles handle ≡ Some h → IsOfKind h.kind (body_at s.tree.records h.ino)
+  kind_is h at = by_record (get s.tree.records h.ino) refl (handle_good st handle h at).openable where
+    by_body : (b : Body) → h.kind ≡ qid_type (kind_of b) → IsOpenable (Some b) (handle_of h) → IsOfKind h.kind (Some b)
+    by_body (File bytes) kind able = inr ((λ is. let none : 0 ≡ 128 = sym kind ∙ is in absurd (omega arith)), (bytes, refl))
+    by_body (Directory es next above) kind able = inl (kind, refl)
+    by_body (Link target) kind able = absurd able
+
+    by_record : (r : Option Record) → get s.tree.records h.ino ≡ r → IsOpenable (option_map (λ (r : Record). r.body) r) (handle_of h) → IsOfKind h.kind (option_map (λ (r : Record). r.body) (get s.tree.records h.ino))
+    by_record None is able = absurd able
+    by_record (Some r) is able = subst (λ (o : Option Record). IsOfKind h.kind (option_map (λ (r : Record). r.body) o)) (sym is) (by_body r.body (st.paired.handle_kinds handle h r at is) able)
+
+  directory_at : (h : Handle) → get g.handles handle ≡ Some h → h.kind ≡ 128 → is_directory_at (body_at s.tree.records h.ino) ≡ true
+  directory_at h at kind = ⊎_elim (λ d. d.1) (λ f. absurd (f.0 kind)) (kind_is h at)
+
+  file_body : (h : Handle) → get g.handles handle ≡ Some h → h.kind ≢ 128 → (file : List ℕ) × (body_at s.tree.records h.ino ≡ Some (File file))
+  file_body h at kind = ⊎_elim (λ d. absurd (kind d.0)) (λ f. f.1) (kind_is h at)
+
+  module _ (offset size : ℕ) where
+    abbrev answer_of : Option MachineHandle → MachineReply
+    answer_of o = read_core (machine_of g s) offset size o
+
+    abbrev answer_now : MachineReply
+    answer_now = answer_of (get (mapped handle_of g.handles) handle)
+
+    found : (o : Option Handle) → get g.handles handle ≡ o → answer_now ≡ answer_of (option_map handle_of o)
+    found o at = ap answer_of (get-mapped handle_of g.handles handle ∙ ap (option_map handle_of) at)
+
+    refusal : IsGoodServer s → (errno f a : ℕ) → answer_now ≡ MachineRefused errno
+        → IsServed (answer_now, machine_of g s) (read_messages (piece_of s) (min size READ_LIMIT) answer_now) g g s s f f a a (Refused errno)
+    refusal good errno f a is = unmoved st good (answer_now, machine_of g s) (read_messages (piece_of s) (min size READ_LIMIT) answer_now) f f a (Refused errno) (ap (read_messages (piece_of s) (min size READ_LIMIT)) is) (sym (ap laid_out is)) refl
+
+    pub read_unknown : IsGoodServer s → (f a : ℕ) → get g.handles handle ≡ None
+        → IsServed (answer_now, machine_of g s) (read_messages (piece_of s) (min size READ_LIMIT) answer_now) g g s s f f a a (Refused EBADF)
+    read_unknown good f a at = refusal good EBADF f a (found None at)
+
+    module _ (h : Handle) (at : get g.handles handle ≡ Some h) where
+      pub read_directory : IsGoodServer s → (f a : ℕ) → h.kind ≡ 128
+          → IsServed (answer_now, machine_of g s) (read_messages (piece_of s) (min size READ_LIMIT) answer_now) g g s s f f a a (Refused EISDIR)
+      read_directory good f a kind = refusal good EISDIR f a (found (Some h) at
+          ∙ ap (λ b. cond b (MachineRefused EISDIR) (cond (h.access == 1) (MachineRefused EBADF) (bytes_reply (read_of s.tree h.ino offset (min size READ_LIMIT))))) (directory_at h at kind))
+
+      -- it is no directory
+      opened_file : h.kind ≢ 128 → answer_now ≡ cond (h.access == 1) (MachineRefused EBADF) (bytes_reply (read_of s.tree h.ino offset (min size READ_LIMIT)))
+      opened_file kind = found (Some h) at
+          ∙ ap (λ b. cond (is_directory_at b) (MachineRefused EISDIR) (cond (h.access == 1) (MachineRefused EBADF) (bytes_reply (read_of s.tree h.ino offset (min size READ_LIMIT))))) (file_body h at kind).1
+
+      pub read_write_only : IsGoodServer s → (f a : ℕ) → h.kind ≢ 128 → h.access ≡ 1
+          → IsServed (answer_now, machine_of g s) (read_messages (piece_of s) (min size READ_LIMIT) answer_now) g g s s f f a a (Refused EBADF)
+      read_write_only good f a kind one = refusal good EBADF f a (opened_file kind
+          ∙ ap (λ n. cond (n == 1) (MachineRefused EBADF) (bytes_reply (read_of s.tree h.ino offset (min size READ_LIMIT)))) one)
+
+      module _ (kind : h.kind ≢ 128) (access : h.access ≢ 1) where
+        file_is : file_at s handle ≡ (file_body h at kind).0
+        file_is = ap (λ (o : Option Fid). unwrap_or (option_map (λ (f : Fid). bytes_at s.tree f.ino) o) []) (handle_fid st handle h at)
+            ∙ ap (λ b. unwrap_or (option_map bytes_of b) []) (file_body h at kind).1
+
+        body_is : body_at s.tree.records h.ino ≡ Some (File (file_at s handle))
+        body_is = (file_body h at kind).1 ∙ ap (λ xs. Some (File xs)) (sym file_is)
+
+        pub reads_file : ReadsFile s handle (file_at s handle)
+        reads_file = record { f = opened h; at = handle_fid st handle h at; readable = ap not (not_one h.access access); body = body_is }
+
+        answer_is : (most : ℕ) → most ≡ min size READ_LIMIT → answer_now ≡ BytesOf (part (file_at s handle) offset most)
+        answer_is most is = opened_file kind
+            ∙ ap (λ b. cond b (MachineRefused EBADF) (bytes_reply (read_of s.tree h.ino offset (min size READ_LIMIT)))) (not_one h.access access)
+            ∙ ap (λ b. bytes_reply (asked (read_body offset (min size READ_LIMIT)) b)) body_is
+            ∙ ap (λ k. BytesOf (part (file_at s handle) offset k)) (sym is)
+
+        pub read_served : (most : ℕ) → most ≡ min size READ_LIMIT → (g1 : Gate) (s1 : ServerState) (f0 f1 a0 a1 : ℕ) (reply : LaidOut)
+            → IsServed (BytesOf (part (file_at s handle) offset most), machine_of g s) (pieces (piece_of s) most (length (part (file_at s handle) offset most))) g g1 s s1 f0 f1 a0 a1 reply
+            → IsServed (answer_now, machine_of g s) (read_messages (piece_of s) (min size READ_LIMIT) answer_now) g g1 s s1 f0 f1 a0 a1 reply
+        read_served most is g1 s1 f0 f1 a0 a1 reply served =
+            subst (λ (x : MachineReply). IsServed (x, machine_of g s) (read_messages (piece_of s) (min size READ_LIMIT) x) g g1 s s1 f0 f1 a0 a1 reply) (sym (answer_is most is))
+            (subst (λ k. IsServed (BytesOf (part (file_at s handle) offset most), machine_of g s) (pieces (piece_of s) k (length (part (file_at s handle) offset most))) g g1 s s1 f0 f1 a0 a1 reply) is served)

@@ -34,7 +34,7 @@ impl Gate {
         size: u32,
     ) -> Result<Reply, NoMemory>
         requires stands { IsInStep self.old (N.state nine.old) }
-        requires open { ReadsFile (N.state nine.old) fid (file_at (N.state nine.old) fid) }
+        requires opened { ReadsFile (N.state nine.old) fid (file_at (N.state nine.old) fid) }
         requires few { size ≤ READ_LIMIT }
         ensures served { IfOk result (λ reply. let bytes = part (file_at (N.state nine.old) fid) offset size in
             IsServed (BytesOf bytes, machine_of self.old (N.state nine.old)) (pieces (piece_of (N.state nine.old)) size (length bytes)) self.old self.new (N.state nine.old) (N.state nine.new) (N.faults nine.old) (N.faults nine.new) (N.asked nine.old) (N.asked nine.new) (plain reply)) }
