@@ -19,3 +19,5 @@ pub mod Roots
 pub mod Played
 mod Telling
 mod Stored
+pub mod Replying
+pub mod Reading

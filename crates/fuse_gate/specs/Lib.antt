@@ -7,3 +7,4 @@ pub mod Attaching
 pub mod Changes
 pub mod Pump
 pub mod Playing
+pub mod Files
