@@ -20,7 +20,7 @@ use Rattle.libmount.specs.Parts.{parts}
 use Rattle.libmount.specs.Reading.{bad_number, field_at}
 use Rattle.libmount.specs.Rows.{borrowed, fields_of, optional_at, owned, row, row_of, text_at, text_of}
 use Rattle.libmount.specs.Texts.{shown}
-use Rattle.libmount.specs.Worked.{all_options, mounted_twice, option_words, returned_line, short_fields, short_line, small_table}
+use Rattle.libmount.specs.Worked.{alike_fields, alike_line, all_options, mounted_twice, option_words, returned_line, short_fields, short_line, small_table}
 
 pub cut_at_dash : cut dash (codes "shared:1 - ext4 s") ≡ (codes "shared:1 ", codes "ext4 s")
 unfolding cut
@@ -36,11 +36,11 @@ leading = refl
 pub trailing : without_trailing_spaces (codes " a b  ") ≡ codes " a b"
 trailing = refl
 
-pub field_there : field_at space (codes "  a  b") ≡ Ok (codes "a", codes " b")
+pub field_there : field_at space (10, codes "  a  b") ≡ Ok ((12, codes "a"), (14, codes " b"))
 unfolding field_at cut
 field_there = refl
 
-pub field_missing : field_at space [] ≡ Err (codes "Expected more fields")
+pub field_missing : field_at space (10, []) ≡ Err (codes "Expected more fields")
 unfolding field_at cut
 field_missing = refl
 
@@ -60,19 +60,19 @@ pub escape_of_256 : unescaped (codes "\\400") ≡ 0 ∷ []
 unfolding has_escape unescaped
 escape_of_256 = refl
 
-pub text_owned : text_of (codes "a\\040b") ≡ owned (codes "a b")
+pub text_owned : text_of (10, codes "a\\040b") ≡ owned (codes "a b")
 unfolding has_escape unescaped text_at optional_at field_at cut
 text_owned = refl
 
-pub text_borrowed : text_of (codes "a\\4b") ≡ borrowed (codes "a\\4b")
+pub text_borrowed : text_of (10, codes "a\\4b") ≡ borrowed (10, codes "a\\4b")
 unfolding has_escape unescaped text_at optional_at field_at cut
 text_borrowed = refl
 
-pub text_before_space : text_at (codes " /p rw") ≡ Ok (borrowed (codes "/p"), codes "rw")
+pub text_before_space : text_at (10, codes " /p rw") ≡ Ok (borrowed (11, codes "/p"), (14, codes "rw"))
 unfolding has_escape unescaped text_at optional_at field_at cut
 text_before_space = refl
 
-pub optional_before_dash : optional_at (codes "shared:12 master:1 - proc") ≡ Ok (borrowed (codes "shared:12 master:1"), codes "proc")
+pub optional_before_dash : optional_at (10, codes "shared:12 master:1 - proc") ≡ Ok (borrowed (10, codes "shared:12 master:1"), (31, codes "proc"))
 unfolding has_escape unescaped text_at optional_at field_at cut
 optional_before_dash = refl
 
@@ -100,15 +100,15 @@ pub number_large : number_of (codes "18446744073709551616x") ≡ Err number_faul
 unfolding number_of digits_value
 number_large = refl
 
-pub number_before_space : number_at (codes " 76 24") ≡ Ok (76, codes "24")
+pub number_before_space : number_at (10, codes " 76 24") ≡ Ok (76, (14, codes "24"))
 unfolding number_at number_field number_of digits_value field_at cut
 number_before_space = refl
 
-pub number_before_colon : number_field colon (codes "8 7:6") ≡ Ok (8, codes "6")
+pub number_before_colon : number_field colon (10, codes "8 7:6") ≡ Ok (8, (14, codes "6"))
 unfolding number_at number_field number_of digits_value field_at cut
 number_before_colon = refl
 
-pub number_missing : number_field colon (codes " :4") ≡ Err (codes "Expected more fields")
+pub number_missing : number_field colon (10, codes " :4") ≡ Err (codes "Expected more fields")
 unfolding number_at number_field number_of digits_value field_at cut
 number_missing = refl
 
@@ -146,35 +146,39 @@ pub flags_known : map (λ (flag : List ℕ × ℕ). flag.1) flag_table ≡ 1 ∷
 unfolding flag_of flags_of
 flags_known = refl
 
-pub lines_ended : lines (codes "a\nb\n") ≡ (1, codes "a") ∷ (2, codes "b") ∷ (2, []) ∷ []
+pub lines_ended : lines (10, codes "ab\nc\n") ≡ (1, (10, codes "ab")) ∷ (2, (13, codes "c")) ∷ (2, (15, [])) ∷ []
 unfolding lines
 lines_ended = refl
 
-pub lines_open : lines (codes "a\nb") ≡ (1, codes "a") ∷ (1, codes "b") ∷ []
+pub lines_open : lines (10, codes "ab\nc") ≡ (1, (10, codes "ab")) ∷ (1, (13, codes "c")) ∷ []
 unfolding lines
 lines_open = refl
 
-pub row_comment : row (9 ∷ codes " # More") ≡ Ok None
+pub row_comment : row (0, 9 ∷ codes " # More") ≡ Ok None
 unfolding cut has_escape unescaped digits_value number_at number_field number_of field_at bad_number quoted quoted_byte fields_of optional_at row row_of text_at
 row_comment = refl
 
-pub row_return : row (13 ∷ []) ≡ Ok None
+pub row_return : row (0, 13 ∷ []) ≡ Ok None
 unfolding cut has_escape unescaped digits_value number_at number_field number_of field_at bad_number quoted quoted_byte fields_of optional_at row row_of text_at
 row_return = refl
 
-pub row_returned : row returned_line ≡ Ok (Some short_fields)
+pub row_returned : row (0, returned_line) ≡ Ok (Some (short_fields 0))
 unfolding cut has_escape unescaped digits_value number_at number_field number_of field_at bad_number quoted quoted_byte fields_of optional_at row row_of text_at
 row_returned = refl
 
-pub row_spaces : row (codes "  ") ≡ Err (codes "Cannot parse integer \"\": empty")
+pub row_alike : row (0, alike_line) ≡ Ok (Some alike_fields)
+unfolding cut has_escape unescaped digits_value number_at number_field number_of field_at bad_number quoted quoted_byte fields_of optional_at row row_of text_at
+row_alike = refl
+
+pub row_spaces : row (0, codes "  ") ≡ Err (codes "Cannot parse integer \"\": empty")
 unfolding cut has_escape unescaped digits_value number_at number_field number_of field_at bad_number quoted quoted_byte fields_of optional_at row row_of text_at
 row_spaces = refl
 
-pub row_short : row (codes "19 24 0:4 / /proc rw,relatime shared:12 - proc proc") ≡ Err (codes "Expected more fields")
+pub row_short : row (0, codes "19 24 0:4 / /proc rw,relatime shared:12 - proc proc") ≡ Err (codes "Expected more fields")
 unfolding cut has_escape unescaped digits_value number_at number_field number_of field_at bad_number quoted quoted_byte fields_of optional_at row row_of text_at
 row_short = refl
 
-pub items_small : items small_table ≡ Ok short_fields ∷ Err (record { message = codes "Cannot parse integer \"bad\": invalid digit"; number = 2; row = codes "bad" }) ∷ []
+pub items_small : items (0, small_table) ≡ Ok (short_fields 7) ∷ Err (record { message = codes "Cannot parse integer \"bad\": invalid digit"; number = 2; row = codes "bad" }) ∷ []
 unfolding cut has_escape unescaped digits_value number_at number_field number_of field_at bad_number quoted quoted_byte fields_of optional_at row row_of text_at lines item_of items
 items_small = refl
 

@@ -2,7 +2,7 @@
 use Rattle.std.proofs.Common.{◌≡◌, ℕ, ◌+◌, ◌-◌, ◌≤◌, ◌<◌, Bool, true, false, List, [], ◌∷◌, ◌++◌, length, take, drop, get_or, refl, sym, ap, ◌∙◌, subst, arith, append_assoc, append-nil, nat_eq, take_all}
 use Rattle.std.specs.List.{starts_with}
 use Rattle.std.proofs.lemmas.List.{drop_all, drop_more, length-drop, take_more, take_rest}
-use Rattle.libmount.specs.Cuts.{after_byte, cut}
+use Rattle.libmount.specs.Cuts.{after_byte, cut, cut_at}
 
 abbrev pub onto : List ℕ → List ℕ × List ℕ → List ℕ × List ℕ
 onto front found = (front ++ found.0, found.1)
@@ -53,3 +53,9 @@ module _ (mark bytes : List ℕ) (at : ℕ) (within : at < length bytes) (r : Bo
             (sym (append_assoc (take at bytes) (get_or bytes at 0 ∷ []) (cut mark (drop (at + 1) bytes)).0))
             ∙ ap (λ (front : List ℕ). onto front (cut mark (drop (at + 1) bytes))) (sym (take_more bytes at 0 within));
       }
+
+-- a cut, with the places of its parts
+pub cut-placed : (mark bytes : List ℕ) (a front_place rest_place : ℕ) (front rest : List ℕ) → front ≡ (cut mark bytes).0 → rest ≡ (cut mark bytes).1
+    → front_place ≡ a → rest_place ≡ a + (length bytes - length rest) → ((front_place, front), (rest_place, rest)) ≡ cut_at mark (a, bytes)
+cut-placed mark bytes a front_place rest_place front rest f r h k =
+    (λ j. ((h j, f j), (k j, rest))) ∙ ap (λ (t : List ℕ). ((a, (cut mark bytes).0), (a + (length bytes - length t), t))) r

@@ -6,13 +6,14 @@ use Rattle.libmount.specs.declared.mountinfo.errors.ParseError.TheVariants.{Row 
 use Rattle.libmount.specs.declared.mountinfo.errors.RowFault.{RowFault}
 use Rattle.libmount.specs.declared.mountinfo.errors.RowFault.TheVariants.{Row as RefusedRow, NoMemory as NoRowMemory}
 use Rattle.libmount.specs.declared.mountinfo.rows.MountPoint.{MountPoint}
+use Rattle.libmount.specs.Cuts.{Placed}
 use Rattle.libmount.specs.Items.{Item, Line, item_by, item_of, items, lines}
 use Rattle.libmount.specs.Parsers.{TakesItem}
 use Rattle.libmount.specs.Reading.{Message}
 use Rattle.libmount.specs.Rows.{Row, row}
 use Rattle.libmount.specs.Views.{GivesItem, GivesRow, IsRefused}
 
-module _ (number : ℕ) (line : List ℕ) where
+module _ (number : ℕ) (line : Placed) where
   pub item-some : (fields : Row) → row line ≡ Ok (Some fields) → item_of (number, line) ≡ Some (Ok fields)
   unfolding item_of
   item-some fields h = rw h refl
@@ -26,7 +27,7 @@ module _ (number : ℕ) (line : List ℕ) where
   not-none (Ok (Some fields)) h = refl
   not-none (Err message) h = refl
 
-  pub item-err : (fault : RowFault) (e : ParseError) → GivesRow (Err fault) (row line) → IsRefused fault number line e → GivesItem (Some (Err e)) (item_of (number, line))
+  pub item-err : (fault : RowFault) (e : ParseError) → GivesRow (Err fault) (row line) → IsRefused fault number line.1 e → GivesItem (Some (Err e)) (item_of (number, line))
   unfolding item_of
   item-err (RefusedRow error) (ErrorRow e) h is = rw (h, is) refl
   item-err (RefusedRow error) NoErrorMemory h is = rw h refl
@@ -55,6 +56,6 @@ module _ (all : List Item) (ls : List Line) (line : Line) (rest : List Line) (so
 pub takes-none : (all : List Item) (ls ms : List Line) → all ≡ filter_map item_of ls → ls ≡ [] → ms ≡ [] → (all ≡ []) × (filter_map item_of ms ≡ [])
 takes-none all ls ms so none after = (so ∙ ap (filter_map item_of) none, ap (filter_map item_of) after)
 
-pub items-by : (text : List ℕ) (ls : List Line) → ls ≡ lines text → filter_map item_of ls ≡ items text
+pub items-by : (text : Placed) (ls : List Line) → ls ≡ lines text → filter_map item_of ls ≡ items text
 unfolding items
 items-by text ls h = ap (filter_map item_of) h

@@ -8,4 +8,5 @@ mod LineLemmas
 mod LookupLemmas
 mod NumberLemmas
 mod PartLemmas
+mod PlaceLemmas
 mod SliceLemmas

@@ -1,5 +1,5 @@
 -- The last line that has a say is the first from the end.
-use Rattle.std.proofs.Common.{◌≡◌, ℕ, List, [], ◌∷◌, ◌++◌, Option, Some, None, Result, Ok, Err, refl, ap, ◌∙◌, reverse}
+use Rattle.std.proofs.Common.{◌≡◌, ℕ, List, [], ◌∷◌, ◌++◌, Option, Some, None, Result, Ok, Err, refl, sym, subst, ap, ◌∙◌, reverse}
 use Rattle.std.specs.Prelude.{slice_get}
 use Rattle.std.specs.List.{cons_option, filter_map}
 use Rattle.std.specs.Option.{option_map}
@@ -9,28 +9,33 @@ use Rattle.port_base.specs.Flags.{bits_of}
 use Rattle.libmount.specs.declared.remount.RemountError.{RemountError}
 use Rattle.libmount.specs.declared.remount.RemountError.TheVariants.{ParseMountInfo, NoMemory}
 use Rattle.libmount.specs.Items.{line_feed}
-use Rattle.libmount.specs.Lookup.{flags_at, or_none, verdict, verdicts}
+use Rattle.libmount.specs.Cuts.{Placed}
+use Rattle.libmount.specs.Lookup.{flags_at, or_none, verdict, verdict_by, verdicts}
+use Rattle.libmount.proofs.PlaceLemmas.{verdict-anywhere}
 use Rattle.libmount.specs.Parts.{parts}
 use Rattle.libmount.specs.Reading.{Message}
 use Rattle.libmount.specs.Rows.{Row, row}
 use Rattle.libmount.specs.Views.{GivesFlags, GivesVerdict}
 
-module _ (path line : List ℕ) where
-  pub verdict-none : row line ≡ Ok None → verdict path line ≡ None
+module _ (path : List ℕ) (line : Placed) where
+  by_row : (read : Result (Option Row) Message) → row line ≡ read → verdict path line.1 ≡ verdict_by path read
   unfolding verdict
-  verdict-none h = rw h refl
+  by_row read h = verdict-anywhere path 0 line.0 line.1 ∙ ap (verdict_by path) h
 
-  pub verdict-err : (message : Message) → row line ≡ Err message → verdict path line ≡ Some (Err message)
-  unfolding verdict
-  verdict-err message h = rw h refl
+  pub verdict-none : row line ≡ Ok None → verdict path line.1 ≡ None
+  verdict-none h = by_row (Ok None) h
+
+  pub verdict-err : (message : Message) → row line ≡ Err message → verdict path line.1 ≡ Some (Err message)
+  verdict-err message h = by_row (Err message) h
 
   by_flags : (found : Option MsFlags) → GivesVerdict (Ok found) (option_map Ok (option_map bits_of found))
   by_flags None = refl
   by_flags (Some flags) = refl
 
-  pub verdict-some : (r : Row) (found : Option MsFlags) → row line ≡ Ok (Some r) → option_map bits_of found ≡ flags_at path r → GivesVerdict (Ok found) (verdict path line)
-  unfolding verdict
-  verdict-some r found h e = rw (h, ← e) (by_flags found)
+  pub verdict-some : (r : Row) (found : Option MsFlags) → row line ≡ Ok (Some r) → option_map bits_of found ≡ flags_at path r → GivesVerdict (Ok found) (verdict path line.1)
+  verdict-some r found h e =
+      subst (GivesVerdict (Ok found)) (sym (by_row (Ok (Some r)) h))
+      (subst (λ (flags : Option ℕ). GivesVerdict (Ok found) (option_map Ok flags)) e (by_flags found))
 
 -- what the lines so far leave to say
 abbrev pub last_say : List ℕ → Option (List ℕ) → Result (Option ℕ) Message

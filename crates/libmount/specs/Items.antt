@@ -1,31 +1,32 @@
 -- What the rows of a table say, in order.
-use Rattle.std.specs.Prelude.{ℕ, ◌+◌, List, [], ◌∷◌, Option, Some, None, Result, Ok, Err, IfSome, option_copied}
+use Rattle.std.specs.Prelude.{ℕ, ◌+◌, List, [], ◌∷◌, length, Option, Some, None, Result, Ok, Err, IfSome, option_copied}
 use Rattle.std.specs.Borrow.{Bor}
 use Rattle.std.specs.Iterator.{YieldsFirstBy}
 use Rattle.std.specs.List.{filter_map}
 use Rattle.libmount.specs.declared.mountinfo.lines.Lines.{Lines}
+use Rattle.libmount.specs.Cuts.{Placed}
 use Rattle.libmount.specs.Parts.{parts}
-use Rattle.libmount.specs.Slices.{LiesInRest, StaysIn}
+use Rattle.libmount.specs.Slices.{LiesInRest, StaysIn, placed}
 use Rattle.libmount.specs.Reading.{Message}
 use Rattle.libmount.specs.Rows.{Row, row}
 
 abbrev pub line_feed : ℕ
 line_feed = 10
 
--- a line, with its number
+-- a line's number, the place where it begins, and its bytes
 abbrev pub Line : Type 0
-Line = ℕ × List ℕ
+Line = ℕ × Placed
 
 -- Lines with their numbers, where so many line feeds stand before them: one that a line feed ends counts it,
--- and the last doesn't.
-abbrev pub numbered : ℕ → List (List ℕ) → List Line
-numbered before [] = []
-numbered before (line ∷ []) = (before, line) ∷ []
-numbered before (line ∷ next ∷ lines) = (before + 1, line) ∷ numbered (before + 1) (next ∷ lines)
+-- and the last doesn't. The first begins at the place, and each other one behind the line feed before it.
+abbrev pub numbered : ℕ → ℕ → List (List ℕ) → List Line
+numbered before place [] = []
+numbered before place (line ∷ []) = (before, (place, line)) ∷ []
+numbered before place (line ∷ next ∷ lines) = (before + 1, (place, line)) ∷ numbered (before + 1) (place + (length line + 1)) (next ∷ lines)
 
 -- the lines of a text with their numbers
-unfoldable pub lines : List ℕ → List Line
-lines text = numbered 0 (parts line_feed (Some text))
+unfoldable pub lines : Placed → List Line
+lines text = numbered 0 text.0 (parts line_feed (Some text.1))
 
 -- a row that is refused
 pub record Refused : Type 0 where
@@ -40,21 +41,26 @@ Item = Result Row Refused
 abbrev pub item_by : Line → Result (Option Row) Message → Option Item
 item_by line (Ok None) = None
 item_by line (Ok (Some fields)) = Some (Ok fields)
-item_by line (Err message) = Some (Err (record { message = message; number = line.0; row = line.1 }))
+item_by line (Err message) = Some (Err (record { message = message; number = line.0; row = line.1.1 }))
 
 unfoldable pub item_of : Line → Option Item
 item_of line = item_by line (row line.1)
 
 -- what the rows of a table say, in order
-unfoldable pub items : List ℕ → List Item
+unfoldable pub items : Placed → List Item
 items text = filter_map item_of (lines text)
+
+-- the address of a slice, where there is one
+abbrev pub place_of : Option (Bor (List ℕ)) → ℕ
+place_of None = 0
+place_of (Some slice) = slice.ref_ptr.1
 
 -- the lines that are still to come
 abbrev pub lines_left : Lines → List Line
-lines_left left = numbered left.line_feeds (parts line_feed (option_copied left.rest))
+lines_left left = numbered left.line_feeds (place_of left.rest) (parts line_feed (option_copied left.rest))
 
 abbrev pub numbered_line : ℕ × Bor (List ℕ) → Line
-numbered_line line = (line.0, line.1.now)
+numbered_line line = (line.0, placed line.1)
 
 -- one call of the iterator: the first line goes, and lies in the text that was left, as what is left now does
 pub record NextLine (old : Lines) (found : Option (ℕ × Bor (List ℕ))) (new : Lines) : Type 0 where

@@ -19,8 +19,9 @@ verdict_by path (Ok None) = None
 verdict_by path (Ok (Some row)) = option_map Ok (flags_at path row)
 verdict_by path (Err message) = Some (Err message)
 
+-- where the line begins doesn't matter
 unfoldable pub verdict : List ℕ → List ℕ → Option (Result ℕ Message)
-verdict path line = verdict_by path (row line)
+verdict path line = verdict_by path (row (0, line))
 
 abbrev pub or_none : Option (Result ℕ Message) → Result (Option ℕ) Message
 or_none None = Ok None

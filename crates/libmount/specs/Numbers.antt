@@ -3,7 +3,7 @@ use Rattle.std.specs.Prelude.{◌≡◌, ℕ, ◌+◌, ◌-◌, ◌*◌, ◌^◌
 use Rattle.std.specs.List.{fold, take_while}
 use Rattle.libmount.specs.declared.mountinfo.numbers.NumberFault.{NumberFault}
 use Rattle.libmount.specs.declared.mountinfo.numbers.NumberFault.TheVariants.{Empty, InvalidDigit, TooLarge}
-use Rattle.libmount.specs.Cuts.{space}
+use Rattle.libmount.specs.Cuts.{Placed, space}
 use Rattle.libmount.specs.Reading.{Message, ◌>>=◌, bad_number, field_at}
 
 abbrev pub is_digit : ℕ → Bool
@@ -38,16 +38,16 @@ or_bad_number text (Ok number) = Ok number
 or_bad_number text (Err fault) = Err (bad_number text fault)
 
 -- a number up to a space, and what follows it
-unfoldable pub number_at : List ℕ → Result (ℕ × List ℕ) Message
-number_at bytes = do
-  text ← field_at space bytes
-  number ← or_bad_number text.0 (number_of text.0)
+unfoldable pub number_at : Placed → Result (ℕ × Placed) Message
+number_at part = do
+  text ← field_at space part
+  number ← or_bad_number text.0.1 (number_of text.0.1)
   Ok (number, text.1)
 
 -- a number in a field that another mark ends
-unfoldable pub number_field : List ℕ → List ℕ → Result (ℕ × List ℕ) Message
-number_field mark bytes = do
-  field ← field_at mark bytes
+unfoldable pub number_field : List ℕ → Placed → Result (ℕ × Placed) Message
+number_field mark part = do
+  field ← field_at mark part
   number ← number_at field.0
   Ok (number.0, field.1)
 

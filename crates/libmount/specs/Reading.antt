@@ -5,7 +5,7 @@ use Rattle.libmount.specs.declared.mountinfo.numbers.NumberFault.{NumberFault}
 use Rattle.libmount.specs.declared.mountinfo.numbers.NumberFault.TheVariants.{Empty, InvalidDigit, TooLarge}
 use Rattle.libmount.specs.declared.mountinfo.refusals.Refusal.{Refusal}
 use Rattle.libmount.specs.declared.mountinfo.refusals.Refusal.TheVariants.{MoreFields, Number, NoMemory}
-use Rattle.libmount.specs.Cuts.{cut, without_leading_spaces}
+use Rattle.libmount.specs.Cuts.{Placed, cut_at, last_of, without_leading_spaces}
 
 abbrev pub Message : Type 0
 Message = List ℕ
@@ -29,8 +29,8 @@ unfoldable pub bad_number : List ℕ → NumberFault → Message
 bad_number field fault = codes "Cannot parse integer " ++ (quoted field ++ (codes ": " ++ fault_text fault))
 
 -- a field up to a mark, after leading spaces, and what follows the mark
-unfoldable pub field_at : List ℕ → List ℕ → Result (List ℕ × List ℕ) Message
-field_at mark bytes = if length bytes == 0 then Err more_fields else Ok (cut mark (without_leading_spaces bytes))
+unfoldable pub field_at : List ℕ → Placed → Result (Placed × Placed) Message
+field_at mark part = if length part.1 == 0 then Err more_fields else Ok (cut_at mark (last_of part (without_leading_spaces part.1)))
 
 -- the code's refusal is the reading's, unless memory ran out
 abbrev pub Fails : {Y : Type 0} → Refusal → Result Y Message → Type 0

@@ -2,22 +2,22 @@
 use Rattle.std.specs.Prelude.{ℕ, List, length, drop, Bool, ◌==◌, ◌||◌, if◌then◌else◌, slice_index, Option, Some, None, Result, Ok}
 use Rattle.std.specs.List.{prefix_len}
 use Rattle.std.specs.Str.Lines.{strip_carriage_return}
-use Rattle.libmount.specs.Cuts.{space, colon, dash, without_trailing_spaces}
+use Rattle.libmount.specs.Cuts.{Placed, space, colon, dash, without_trailing_spaces}
 use Rattle.libmount.specs.Escapes.{has_escape, unescaped}
 use Rattle.libmount.specs.Numbers.{number_at, number_field}
 use Rattle.libmount.specs.Reading.{Message, ◌>>=◌, field_at}
 
--- a text field: a part of the row as it stands there, or what its escapes were decoded to
+-- a text field: a part of the row as it stands there, with its place, or what its escapes were decoded to
 pub data Text : Type 0 where
-  borrowed : List ℕ → Text
+  borrowed : Placed → Text
   owned : List ℕ → Text
 
 abbrev pub text_bytes : Text → List ℕ
-text_bytes (borrowed bytes) = bytes
+text_bytes (borrowed part) = part.1
 text_bytes (owned bytes) = bytes
 
-abbrev pub text_of : List ℕ → Text
-text_of field = if has_escape field then owned (unescaped field) else borrowed field
+abbrev pub text_of : Placed → Text
+text_of field = if has_escape field.1 then owned (unescaped field.1) else borrowed field
 
 -- a mounted file system
 pub record Row : Type 0 where
@@ -34,19 +34,19 @@ pub record Row : Type 0 where
   pub super_options : Text
 
 -- a text up to a space, and what follows it
-unfoldable pub text_at : List ℕ → Result (Text × List ℕ) Message
-text_at bytes = do
-  field ← field_at space bytes
+unfoldable pub text_at : Placed → Result (Text × Placed) Message
+text_at part = do
+  field ← field_at space part
   Ok (text_of field.0, field.1)
 
 -- the optional fields, which a dash and a space end
-unfoldable pub optional_at : List ℕ → Result (Text × List ℕ) Message
-optional_at bytes = do
-  field ← field_at dash bytes
-  Ok (text_of (without_trailing_spaces field.0), field.1)
+unfoldable pub optional_at : Placed → Result (Text × Placed) Message
+optional_at part = do
+  field ← field_at dash part
+  Ok (text_of (field.0.0, without_trailing_spaces field.0.1), field.1)
 
 -- the eleven fields in order; what follows them is passed over
-unfoldable pub fields_of : List ℕ → Result Row Message
+unfoldable pub fields_of : Placed → Result Row Message
 fields_of row = do
   mount_id ← number_at row
   parent_id ← number_at mount_id.1
@@ -81,9 +81,9 @@ abbrev pub is_skipped : List ℕ → Bool
 is_skipped row = (length row == 0) || (slice_index (drop (prefix_len is_blank row) row) 0 == 35)
 
 -- a row without its carriage return: nothing where it is skipped, else its fields
-unfoldable pub row_of : List ℕ → Result (Option Row) Message
-row_of row = if is_skipped row then Ok None else (fields_of row >>= λ fields. Ok (Some fields))
+unfoldable pub row_of : Placed → Result (Option Row) Message
+row_of row = if is_skipped row.1 then Ok None else (fields_of row >>= λ fields. Ok (Some fields))
 
--- what a line says
-unfoldable pub row : List ℕ → Result (Option Row) Message
-row line = row_of (strip_carriage_return line)
+-- what a line says that begins at a place
+unfoldable pub row : Placed → Result (Option Row) Message
+row line = row_of (line.0, strip_carriage_return line.1)

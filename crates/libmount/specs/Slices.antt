@@ -1,9 +1,14 @@
 -- Parts of a text in memory.
 use Rattle.std.specs.Prelude.{◌≡◌, ℕ, ◌+◌, ◌≤◌, List, length, take, drop, Option, Some, None}
 use Rattle.std.specs.Borrow.{Bor}
+use Rattle.libmount.specs.Cuts.{Placed}
 use Rattle.libmount.specs.declared.mountinfo.escapes.Field.{Field}
 use Rattle.libmount.specs.declared.mountinfo.escapes.Field.TheVariants.{Borrowed, Owned}
 use Rattle.libmount.specs.declared.mountinfo.rows.MountPoint.{MountPoint}
+
+-- a slice's bytes and its address
+abbrev pub placed : Bor (List ℕ) → Placed
+placed slice = (slice.ref_ptr.1, slice.now)
 
 -- a slice is that very part of another one that begins at this place: it lies there in memory
 pub record LiesIn (whole part : Bor (List ℕ)) : Type 0 where

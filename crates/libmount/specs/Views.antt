@@ -1,4 +1,4 @@
--- What the code returns, without where it lies in memory.
+-- What the code returns: of a part of the text its bytes and its address.
 use Rattle.std.specs.Prelude.{◌≡◌, ℕ, List, Option, Some, None, IsSome, Result, Ok, Err}
 use Rattle.std.specs.Option.{option_map}
 use Rattle.port_base.specs.declared.flags.MsFlags.{MsFlags}
@@ -18,9 +18,10 @@ use Rattle.libmount.specs.declared.remount.RemountError.TheVariants.{ParseMountI
 use Rattle.libmount.specs.Items.{Item, Refused}
 use Rattle.libmount.specs.Reading.{Message, bad_number, more_fields}
 use Rattle.libmount.specs.Rows.{Row, Text, borrowed, owned}
+use Rattle.libmount.specs.Slices.{placed}
 
 abbrev pub text : Field → Text
-text (Borrowed bytes) = borrowed bytes.now
+text (Borrowed bytes) = borrowed (placed bytes)
 text (Owned bytes) = owned bytes.items
 
 -- the field is this text, unless memory ran out

@@ -1,5 +1,5 @@
 -- Worked texts: a row of proc(5), and small tables.
-use Rattle.std.specs.Prelude.{ℕ, List, [], ◌∷◌, ◌++◌, codes}
+use Rattle.std.specs.Prelude.{ℕ, ◌+◌, List, [], ◌∷◌, ◌++◌, codes}
 use Rattle.libmount.specs.Rows.{Row, borrowed, owned}
 
 abbrev pub worked_line : List ℕ
@@ -11,13 +11,13 @@ worked_fields = record {
   parent_id = 24;
   major = 8;
   minor = 6;
-  root = borrowed (codes "/");
+  root = borrowed (10, codes "/");
   mount_point = owned (codes "/home/my super" ++ 9 ∷ codes "name" ++ 10 ∷ 92 ∷ []);
-  mount_options = borrowed (codes "rw,relatime");
-  optional_fields = borrowed (codes "shared:29");
-  fstype = borrowed (codes "ext4");
-  mount_source = borrowed (codes "/dev/sda1");
-  super_options = borrowed (codes "rw,data=ordered");
+  mount_options = borrowed (46, codes "rw,relatime");
+  optional_fields = borrowed (58, codes "shared:29");
+  fstype = borrowed (70, codes "ext4");
+  mount_source = borrowed (75, codes "/dev/sda1");
+  super_options = borrowed (85, codes "rw,data=ordered");
 }
 
 -- a short row, and the same with a carriage return
@@ -27,19 +27,39 @@ short_line = codes "1 2 0:4 / /p ro - t s rw"
 abbrev pub returned_line : List ℕ
 returned_line = short_line ++ 13 ∷ []
 
-abbrev pub short_fields : Row
-short_fields = record {
+-- its fields, where it begins at a place
+abbrev pub short_fields : ℕ → Row
+short_fields place = record {
   mount_id = 1;
   parent_id = 2;
   major = 0;
   minor = 4;
-  root = borrowed (codes "/");
-  mount_point = borrowed (codes "/p");
-  mount_options = borrowed (codes "ro");
-  optional_fields = borrowed [];
-  fstype = borrowed (codes "t");
-  mount_source = borrowed (codes "s");
-  super_options = borrowed (codes "rw");
+  root = borrowed (place + 8, codes "/");
+  mount_point = borrowed (place + 10, codes "/p");
+  mount_options = borrowed (place + 13, codes "ro");
+  optional_fields = borrowed (place + 16, []);
+  fstype = borrowed (place + 18, codes "t");
+  mount_source = borrowed (place + 20, codes "s");
+  super_options = borrowed (place + 22, codes "rw");
+}
+
+-- a row whose type, source and super options are equal, after extra spaces
+abbrev pub alike_line : List ℕ
+alike_line = codes "1 2 0:4 /  /p ro - t  t t"
+
+abbrev pub alike_fields : Row
+alike_fields = record {
+  mount_id = 1;
+  parent_id = 2;
+  major = 0;
+  minor = 4;
+  root = borrowed (8, codes "/");
+  mount_point = borrowed (11, codes "/p");
+  mount_options = borrowed (14, codes "ro");
+  optional_fields = borrowed (17, []);
+  fstype = borrowed (19, codes "t");
+  mount_source = borrowed (22, codes "t");
+  super_options = borrowed (24, codes "t");
 }
 
 -- a comment, the short row and a bad last line without a line feed

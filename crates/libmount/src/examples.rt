@@ -15,7 +15,7 @@ ghost use Rattle.libmount.specs.Parts.{parts};
 ghost use Rattle.libmount.specs.Reading.{bad_number, field_at};
 ghost use Rattle.libmount.specs.Rows.{borrowed, optional_at, owned, row, text_at, text_of};
 ghost use Rattle.libmount.specs.Texts.{shown};
-ghost use Rattle.libmount.specs.Worked.{all_options, mounted_twice, option_words, returned_line, short_fields, short_line, small_table};
+ghost use Rattle.libmount.specs.Worked.{alike_fields, alike_line, all_options, mounted_twice, option_words, returned_line, short_fields, short_line, small_table};
 ghost use Rattle.port_base.specs.Flags.{flag_table};
 
 /// A text is cut at a dash and a space, and not at a dash alone.
@@ -32,11 +32,11 @@ pub fn a_text_between_spaces()
     ensures trailing { without_trailing_spaces (codes " a b  ") ≡ codes " a b" }
 {}
 
-/// A field begins behind spaces and ends at its mark; where nothing is left, fields are missing.
+/// A field begins behind spaces and ends at its mark, in a text that begins at place 10; where nothing is left, fields are missing.
 #[tactic(auto, using(crate::proofs::ByComputing::field_there, crate::proofs::ByComputing::field_missing))]
 pub fn a_field_and_none()
-    ensures there { field_at space (codes "  a  b") ≡ Ok (codes "a", codes " b") }
-    ensures missing { field_at space [] ≡ Err (codes "Expected more fields") }
+    ensures there { field_at space (10, codes "  a  b") ≡ Ok ((12, codes "a"), (14, codes " b")) }
+    ensures missing { field_at space (10, []) ≡ Err (codes "Expected more fields") }
 {}
 
 /// A backslash and three octal digits are an escape, and the byte of a number from 256 on is its low one.
@@ -48,13 +48,13 @@ pub fn escapes_in_a_text()
     ensures low { unescaped (codes "\\400") ≡ 0 ∷ [] }
 {}
 
-/// A text field is owned where it has an escape.
+/// A text field is owned where it has an escape, and is else that very part of the row, with the place where it begins.
 #[tactic(auto, using(crate::proofs::ByComputing::text_owned, crate::proofs::ByComputing::text_borrowed, crate::proofs::ByComputing::text_before_space, crate::proofs::ByComputing::optional_before_dash))]
 pub fn texts_of_fields()
-    ensures owned { text_of (codes "a\\040b") ≡ owned (codes "a b") }
-    ensures borrowed { text_of (codes "a\\4b") ≡ borrowed (codes "a\\4b") }
-    ensures at_space { text_at (codes " /p rw") ≡ Ok (borrowed (codes "/p"), codes "rw") }
-    ensures at_dash { optional_at (codes "shared:12 master:1 - proc") ≡ Ok (borrowed (codes "shared:12 master:1"), codes "proc") }
+    ensures owned { text_of (10, codes "a\\040b") ≡ owned (codes "a b") }
+    ensures borrowed { text_of (10, codes "a\\4b") ≡ borrowed (10, codes "a\\4b") }
+    ensures at_space { text_at (10, codes " /p rw") ≡ Ok (borrowed (11, codes "/p"), (14, codes "rw")) }
+    ensures at_dash { optional_at (10, codes "shared:12 master:1 - proc") ≡ Ok (borrowed (10, codes "shared:12 master:1"), (31, codes "proc")) }
 {}
 
 /// Numbers, and texts that are none.
@@ -71,9 +71,9 @@ pub fn texts_as_numbers()
 /// Numbers in fields. What follows a space in a field is passed over.
 #[tactic(auto, using(crate::proofs::ByComputing::number_before_space, crate::proofs::ByComputing::number_before_colon, crate::proofs::ByComputing::number_missing))]
 pub fn numbers_in_fields()
-    ensures at_space { number_at (codes " 76 24") ≡ Ok (76, codes "24") }
-    ensures at_colon { number_field colon (codes "8 7:6") ≡ Ok (8, codes "6") }
-    ensures missing { number_field colon (codes " :4") ≡ Err (codes "Expected more fields") }
+    ensures at_space { number_at (10, codes " 76 24") ≡ Ok (76, (14, codes "24")) }
+    ensures at_colon { number_field colon (10, codes "8 7:6") ≡ Ok (8, (14, codes "6")) }
+    ensures missing { number_field colon (10, codes " :4") ≡ Err (codes "Expected more fields") }
 {}
 
 /// What is said of a field that is no number.
@@ -100,27 +100,28 @@ pub fn flags_of_options()
     ensures known { map (λ (flag : List ℕ × ℕ). flag.1) flag_table ≡ 1 ∷ 2 ∷ 4 ∷ 8 ∷ 16 ∷ 32 ∷ 64 ∷ 128 ∷ 1024 ∷ 2048 ∷ 4096 ∷ 8192 ∷ 16384 ∷ 2097152 ∷ 16777216 ∷ [] }
 {}
 
-/// Lines with their numbers: a last one without a line feed repeats the number before it.
+/// Lines with their numbers and the places where they begin: a last one without a line feed repeats the number before it.
 #[tactic(auto, using(crate::proofs::ByComputing::lines_ended, crate::proofs::ByComputing::lines_open))]
 pub fn numbers_of_lines()
-    ensures ended { lines (codes "a\nb\n") ≡ (1, codes "a") ∷ (2, codes "b") ∷ (2, []) ∷ [] }
-    ensures open { lines (codes "a\nb") ≡ (1, codes "a") ∷ (1, codes "b") ∷ [] }
+    ensures ended { lines (10, codes "ab\nc\n") ≡ (1, (10, codes "ab")) ∷ (2, (13, codes "c")) ∷ (2, (15, [])) ∷ [] }
+    ensures open { lines (10, codes "ab\nc") ≡ (1, (10, codes "ab")) ∷ (1, (13, codes "c")) ∷ [] }
 {}
 
-/// Rows that are passed over, a row that ends in a carriage return, and refused ones.
-#[tactic(auto, using(crate::proofs::ByComputing::row_comment, crate::proofs::ByComputing::row_return, crate::proofs::ByComputing::row_returned, crate::proofs::ByComputing::row_spaces, crate::proofs::ByComputing::row_short))]
+/// Rows that are passed over, a row that ends in a carriage return, one with equal fields, and refused ones.
+#[tactic(auto, using(crate::proofs::ByComputing::row_comment, crate::proofs::ByComputing::row_return, crate::proofs::ByComputing::row_returned, crate::proofs::ByComputing::row_alike, crate::proofs::ByComputing::row_spaces, crate::proofs::ByComputing::row_short))]
 pub fn rows_of_lines()
-    ensures comment { row (9 ∷ codes " # More") ≡ Ok None }
-    ensures lone_return { row (13 ∷ []) ≡ Ok None }
-    ensures returned { row returned_line ≡ Ok (Some short_fields) }
-    ensures spaces { row (codes "  ") ≡ Err (codes "Cannot parse integer \"\": empty") }
-    ensures short { row (codes "19 24 0:4 / /proc rw,relatime shared:12 - proc proc") ≡ Err (codes "Expected more fields") }
+    ensures comment { row (0, 9 ∷ codes " # More") ≡ Ok None }
+    ensures lone_return { row (0, 13 ∷ []) ≡ Ok None }
+    ensures returned { row (0, returned_line) ≡ Ok (Some (short_fields 0)) }
+    ensures alike { row (0, alike_line) ≡ Ok (Some alike_fields) }
+    ensures spaces { row (0, codes "  ") ≡ Err (codes "Cannot parse integer \"\": empty") }
+    ensures short { row (0, codes "19 24 0:4 / /proc rw,relatime shared:12 - proc proc") ≡ Err (codes "Expected more fields") }
 {}
 
-/// A table of a comment, a row and a bad last line.
+/// A table of a comment, a row and a bad last line. The row begins at place 7.
 #[tactic(auto, using(crate::proofs::ByComputing::items_small))]
 pub fn items_of_a_table()
-    ensures { items small_table ≡ Ok short_fields ∷ Err (record { message = codes "Cannot parse integer \"bad\": invalid digit"; number = 2; row = codes "bad" }) ∷ [] }
+    ensures { items (0, small_table) ≡ Ok (short_fields 7) ∷ Err (record { message = codes "Cannot parse integer \"bad\": invalid digit"; number = 2; row = codes "bad" }) ∷ [] }
 {}
 
 /// Flags come from the last row of a path; a bad line counts only behind it.

@@ -16,7 +16,7 @@ ghost use Rattle.libmount.specs.Worked.{worked_fields, worked_line};
 
 /// A worked row, whose mount point has escapes.
 pub fn worked_row()
-    ensures { row worked_line ≡ Ok (Some worked_fields) }
+    ensures { row (0, worked_line) ≡ Ok (Some worked_fields) }
 {}
 
 /// A text is cut at the first place where the mark stands, and at its end where it stands nowhere.

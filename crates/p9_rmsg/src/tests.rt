@@ -112,7 +112,7 @@ fn each_type_has_its_bytes(rt: HostRuntime) -> Result<(), Fail> {
 }
 
 // Frames that are refused, and the fault that is told.
-const MALFORMED: [(&[u8], WireError); 9] = [
+const MALFORMED: [(&[u8], WireError); 14] = [
     (b"\x07\0\0\0x\x01\0", WireError::InvalidData),
     (b"\x08\0\0\0y\x01\0\0", WireError::InvalidData),
     (
@@ -126,6 +126,23 @@ const MALFORMED: [(&[u8], WireError); 9] = [
     (b"\x0b\0\0\0u\x01\0\x01\0\0\x02", WireError::InvalidData),
     (b"\x0d\0\0\0u\x01\0\0\0\0\x02ab", WireError::UnexpectedEof),
     (b"\x0b\0\0\0\x17\x01\0\x02\0a\0", WireError::InvalidInput),
+    (b"\x07\0\0\0\x35\x01\0", WireError::UnexpectedEof),
+    (
+        b"\x1f\0\0\0\x36\x01\0\x01\x02\0\0\0\0\0\0\0\x03\0\0\0\0\0\0\0\x04\0\0\0\x01\0a",
+        WireError::InvalidData,
+    ),
+    (
+        b"\x20\0\0\0\x37\x01\0\x01\x02\0\0\0\0\0\0\0\x03\0\0\0\0\0\0\0\x04\0\0\0\x01\0a\0",
+        WireError::InvalidData,
+    ),
+    (
+        b"\x1e\0\0\0\x37\x01\0\x01\x02\0\0\0\0\0\0\0\x03\0\0\0\0\0\0\0\x04\0\0\0\x01\0",
+        WireError::UnexpectedEof,
+    ),
+    (
+        b"\x1f\0\0\0\x37\x01\0\x01\x02\0\0\0\0\0\0\0\x03\0\0\0\0\0\0\0\x04\0\0\0\x01\0\0",
+        WireError::InvalidInput,
+    ),
     (b"\x06\0\0\0", WireError::InvalidData),
     (b"\x07\0\0\0y\x01", WireError::UnexpectedEof),
 ];

@@ -122,11 +122,17 @@ const FRAMES: [(&[u8], &[u8]); 28] = [
 ];
 
 // These bytes are read as the message that prints so, and it is spelled by them.
-fn is_spelled(rt: &impl Abort, alloc: Global, bytes: &[u8], text: &[u8]) -> Result<(), Fail> {
+fn is_spelled(
+    rt: &impl Abort,
+    alloc: Global,
+    bytes: &[u8],
+    tag: u16,
+    text: &[u8],
+) -> Result<(), Fail> {
     let mut source = SliceSource::new(bytes);
     let frame = Tframe::decode(alloc, &mut source)?;
     assert!(rt; source.is_at_end());
-    assert_eq!(rt; frame.tag, 0x0102);
+    assert_eq!(rt; frame.tag, tag);
     match &frame.msg {
         Ok(message) => assert_eq!(rt; format!(in alloc; "{message:?}")?.as_bytes(), text),
         Err(_) => assert!(rt; false),
@@ -141,13 +147,20 @@ fn is_spelled(rt: &impl Abort, alloc: Global, bytes: &[u8], text: &[u8]) -> Resu
 fn each_type_has_its_bytes(rt: HostRuntime) -> Result<(), Fail> {
     let alloc = rt.alloc();
     for (bytes, text) in FRAMES {
-        is_spelled(&rt, alloc, bytes, text)?;
+        is_spelled(&rt, alloc, bytes, 0x0102, text)?;
     }
     Ok(())
 }
 
+#[test]
+fn the_greatest_tag_is_kept(rt: HostRuntime) -> Result<(), Fail> {
+    let bytes = b"\x15\0\0\0d\xff\xff\0\x20\0\0\x08\x009P2000.L";
+    let text = b"Version(Tversion { msize: 8192, version: \"9P2000.L\" })";
+    is_spelled(&rt, rt.alloc(), bytes, 65535, text)
+}
+
 // Frames with the tag 1 whose body is malformed, and the fault that is told.
-const MALFORMED: [(&[u8], WireError); 8] = [
+const MALFORMED: [(&[u8], WireError); 13] = [
     (b"\x0b\0\0\0y\x01\0\x05\0\0\0", WireError::InvalidData),
     (b"\x0c\0\0\0x\x01\0\x05\0\0\0\0", WireError::InvalidData),
     (b"\x0a\0\0\0x\x01\0\x05\0\0", WireError::UnexpectedEof),
@@ -167,6 +180,26 @@ const MALFORMED: [(&[u8], WireError); 8] = [
     (
         b"\x16\0\0\0h\x01\0\x01\0\0\0\x02\0\0\0\x01\0\xff\0\0\0\0",
         WireError::InvalidInput,
+    ),
+    (
+        b"\x1b\0\0\0y\x01\0\x01\0\0\0\x02\0\0\0\x01\0a\x02\0bc\x03\0\0\0\0",
+        WireError::InvalidData,
+    ),
+    (
+        b"\x1b\0\0\0h\x01\0\x01\0\0\0\x02\0\0\0\x01\0a\x02\0bc\x03\0\0\0\0",
+        WireError::InvalidData,
+    ),
+    (
+        b"\x19\0\0\0h\x01\0\x01\0\0\0\x02\0\0\0\x01\0a\x02\0bc\x03\0\0",
+        WireError::UnexpectedEof,
+    ),
+    (
+        b"\x0e\0\0\0d\x01\0\x01\0\0\0\x01\0\0",
+        WireError::InvalidInput,
+    ),
+    (
+        b"\x0e\0\0\0d\x01\0\x01\0\0\0\x02\0a",
+        WireError::UnexpectedEof,
     ),
 ];
 
@@ -262,10 +295,14 @@ fn a_long_frame_comes_in_pieces(rt: HostRuntime) -> Result<(), Fail> {
 #[test]
 fn frames_are_counted_up_to_a_fault(rt: HostRuntime) -> Result<(), Fail> {
     let alloc = rt.alloc();
-    let table: [(&[u8], usize); 4] = [
+    let table: [(&[u8], usize); 5] = [
         (b"", 0),
         (b"\x0b\0\0\0x\x01\0\x05\0\0\0", 1),
         (b"\x07\0\0\0y\x01\0\x0b\0\0\0x\x01\0\x05\0\0\0", 2),
+        (
+            b"\x0c\0\0\0x\x05\0\x01\0\0\0\xaa\x15\0\0\0d\xff\xff\0\x20\0\0\x08\x009P2000.L",
+            2,
+        ),
         (
             b"\x0b\0\0\0x\x01\0\x05\0\0\0\x0b\0\0\0x\x01\0\x05\0\0\0\x06\0\0\0",
             2,

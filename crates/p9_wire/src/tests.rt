@@ -41,9 +41,10 @@ fn numbers_have_the_least_byte_first(rt: HostRuntime) -> Result<(), Fail> {
 #[test]
 fn texts_are_utf8_behind_their_length(rt: HostRuntime) -> Result<(), Fail> {
     let alloc = rt.alloc();
-    let good: [(&str, &[u8]); 3] = [
+    let good: [(&str, &[u8]); 4] = [
         ("", b"\0\0"),
         ("a", b"\x01\0a"),
+        ("Google Video", b"\x0c\0Google Video"),
         (
             "전체서비스",
             b"\x0f\0\xec\xa0\x84\xec\xb2\xb4\xec\x84\x9c\xeb\xb9\x84\xec\x8a\xa4",
@@ -60,10 +61,12 @@ fn texts_are_utf8_behind_their_length(rt: HostRuntime) -> Result<(), Fail> {
         );
         assert_eq!(rt; came.len() + 2, bytes.len(), "{text}");
     }
-    let bad: [(&[u8], WireError); 6] = [
+    let bad: [(&[u8], WireError); 8] = [
         (b"\x05\0\xf8\x80\x80\x80\xbf", WireError::InvalidInput),
         (b"\x04\0\xf4\x90\x80\x80", WireError::InvalidInput),
         (b"\x04\0\xb0\xa1\xb0\xa2", WireError::InvalidInput),
+        (b"\x04\0caf\xe9", WireError::InvalidInput),
+        (b"\x06\0\xed\xa0\x80\xed\xbf\xbf", WireError::InvalidInput),
         (b"\x03\0a\0b", WireError::InvalidInput),
         (b"\x03\0ab", WireError::UnexpectedEof),
         (b"\x03", WireError::UnexpectedEof),

@@ -5,3 +5,4 @@ pub mod TableOrder
 pub mod PathParts
 mod PathWalks
 pub mod Escaping
+pub mod ByComputing

@@ -1,13 +1,13 @@
 -- What the loops over a source and a sink keep.
-use Rattle.std.proofs.Common.{◌≡◌, ℕ, ◌+◌, ◌-◌, ◌≤◌, ◌<◌, List, ◌++◌, length, take, drop, slice_range, refl, sym, ap, ◌∙◌, subst, arith, le_refl, drop_at, length-take-le, take_all}
+use Rattle.std.proofs.Common.{◌≡◌, ℕ, ◌+◌, ◌-◌, ◌≤◌, List, ◌++◌, length, take, drop, sym, ap, ◌∙◌, subst, arith, le_refl, drop_at, length-take-le}
 use Rattle.std.proofs.Common.{rules}
-use Rattle.std.proofs.lemmas.List.{take-append-le, take-take, length-append, length-take, length-drop, take_rest, places}
+use Rattle.std.proofs.lemmas.List.{take-append-le, length-take, length-drop, take_rest, places}
 use Rattle.std.proofs.lemmas.Slice.{take-put_mid_below}
 use Rattle.std.specs.declared.option.Option.{Option}
 use Rattle.std.specs.Io.KnownBytes.{Consumes, Appends}
-use Rattle.std.proofs.KnownBytes.{Consumes-trans, Consumes-kept, Appends-trans, Appends-kept, Consumes-nil, Appends-nil}
+use Rattle.std.proofs.KnownBytes.{Consumes-trans, Appends-trans}
 use borrow.Rule.Slice.PartMut.{put_mid, post_of}
-use Rattle.std.proofs.Math.Seq.{take-append_seam, take-add}
+use Rattle.std.proofs.Math.Seq.{take-add}
 
 pub record Sending (sent0 sent : Option (List ℕ)) (room0 room faults0 faults : ℕ) (bytes : List ℕ) (at : ℕ) : Type 0 where
   pub within : at ≤ length bytes

@@ -3,6 +3,7 @@
 
 pub mod errno;
 pub mod escapes;
+pub mod examples;
 pub mod failing;
 pub mod flags;
 pub mod memory;

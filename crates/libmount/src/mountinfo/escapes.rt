@@ -2,7 +2,7 @@
 ghost use Rattle.std.specs.Prelude.{◌≡◌, ◌<◌, ◌≤◌, ◌∷◌, ◌+◌, IsTrue, IfOk, length, slice_index};
 ghost use Rattle.libmount.specs.Escapes.{has_escape, is_octal, octal_value, starts_with_escape, unescaped, TakesByte};
 ghost use Rattle.libmount.specs.Reading.{Gives};
-ghost use Rattle.libmount.specs.Slices.{FieldLiesIn};
+ghost use Rattle.libmount.specs.Slices.{FieldLiesIn, placed};
 ghost use Rattle.libmount.specs.Views.{text, GivesText};
 ghost use Rattle.libmount.specs.Rows.{text_bytes, text_of};
 
@@ -10,7 +10,7 @@ use crate::mountinfo::refusals::Refusal;
 use port_base::sink::NoMemory;
 use std::alloc::Global;
 
-/// A text field of a row: where no escape stands in it, that part of the row, and else its decoded bytes.
+/// A text field of a row: where no escape stands in it, that very part of the row, and else its decoded bytes.
 #[derive(Debug, Drop)]
 pub enum Field<'a> {
     Borrowed(&'a [u8]),
@@ -99,7 +99,7 @@ fn unescape(alloc: Global, text: &[u8]) -> Result<Vec<u8>, NoMemory>
 
 /// A field as a text: borrowed where no escape stands in it.
 pub(crate) fn text_of<'a>(alloc: Global, field: &'a [u8]) -> Result<Field<'a>, Refusal<'a>>
-    ensures value { GivesText result (text_of field.now) }
+    ensures value { GivesText result (text_of (placed field.entry)) }
     ensures part { IfOk result (FieldLiesIn field.entry) }
 {
     if !has_escape(field) {

@@ -27,9 +27,10 @@ pub(crate) struct Lines<'a> {
 impl<'a> Lines<'a> {
     ghost use Rattle.std.specs.Prelude.{◌≡◌, [], None, Some};
     ghost use Rattle.libmount.specs.Items.{lines, lines_left};
+    ghost use Rattle.libmount.specs.Slices.{placed};
 
     pub(crate) fn new(text: &'a [u8]) -> Lines<'a>
-        ensures lines { lines_left result ≡ lines text.now }
+        ensures lines { lines_left result ≡ lines (placed text.entry) }
         ensures rest { result.rest ≡ Some text.entry }
     {
         Lines {

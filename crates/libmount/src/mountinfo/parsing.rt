@@ -3,7 +3,7 @@ ghost use Rattle.std.specs.Prelude.{◌≡◌, IfSome, Some};
 ghost use Rattle.std.specs.Iterator.{item_count};
 ghost use Rattle.libmount.specs.Items.{item_of, items};
 ghost use Rattle.libmount.specs.Parsers.{items_left, text_left, ItemLiesIn, ItemLiesInRest, NextItem, TakesItem};
-ghost use Rattle.libmount.specs.Slices.{StaysIn};
+ghost use Rattle.libmount.specs.Slices.{StaysIn, placed};
 ghost use Rattle.libmount.specs.Views.{GivesItem, IsRefused};
 
 use crate::mountinfo::errors::{ParseError, RowError, RowFault};
@@ -34,7 +34,7 @@ fn item_of<'a>(
     number: usize,
     line: &'a [u8],
 ) -> Option<Result<MountPoint<'a>, ParseError>>
-    ensures value { GivesItem result (item_of (number, line.now)) }
+    ensures value { GivesItem result (item_of (number, placed line.entry)) }
     ensures parts { IfSome result (ItemLiesIn line.entry) }
 {
     match parse_mount_point(alloc, line) {
@@ -57,7 +57,7 @@ pub struct Parser<'a> {
 impl<'a> Parser<'a> {
     /// A parser of the whole text of a table.
     pub fn new(alloc: Global, text: &'a [u8]) -> Parser<'a>
-        ensures items { items_left result ≡ items text.now }
+        ensures items { items_left result ≡ items (placed text.entry) }
         ensures text { text_left result ≡ Some text.entry }
     {
         Parser {

@@ -1,5 +1,5 @@
 // The parts of a text between bytes of one kind, as lines or options are.
-ghost use Rattle.std.specs.Prelude.{◌≡◌, ◌<◌, ◌++◌, ◌∷◌, [], length, option_copied, position, IfSome, Some};
+ghost use Rattle.std.specs.Prelude.{◌≡◌, ◌<◌, ◌+◌, ◌++◌, ◌∷◌, [], length, option_copied, position, IfSome, Some};
 ghost use Rattle.libmount.specs.Parts.{is_mark, parts, EndsPart};
 ghost use Rattle.libmount.specs.Slices.{LiesIn, StaysIn};
 
@@ -14,6 +14,8 @@ pub(crate) fn first_part(text: &[u8], mark: u8) -> (&[u8], Option<&[u8]>)
     ensures parts { parts mark (Some text.now) ≡ result.0.now ∷ parts mark (option_copied result.1) }
     ensures shorter { IfSome result.1 (λ rest. length rest.now < length text.now) }
     ensures front { LiesIn text.entry result.0 }
+    ensures front_place { result.0.ref_ptr.1 ≡ text.entry.ref_ptr.1 }
+    ensures rest_place { IfSome result.1 (λ rest. rest.ref_ptr.1 ≡ text.entry.ref_ptr.1 + (length result.0.now + 1)) }
     ensures rest { StaysIn (Some text.entry) result.1 }
 {
     match first_mark(text, mark) {

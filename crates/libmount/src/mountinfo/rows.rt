@@ -6,7 +6,7 @@ ghost use Rattle.std.specs.Str.Lines.{strip_carriage_return};
 ghost use Rattle.libmount.specs.Cuts.{dash};
 ghost use Rattle.libmount.specs.Reading.{Gives};
 ghost use Rattle.libmount.specs.Rows.{fields_of, is_blank, is_skipped, optional_at, row, row_of, text_at};
-ghost use Rattle.libmount.specs.Slices.{FieldLiesIn, LiesIn, RowLiesIn};
+ghost use Rattle.libmount.specs.Slices.{FieldLiesIn, LiesIn, RowLiesIn, placed};
 ghost use Rattle.libmount.specs.Views.{row_view, text, GivesRow};
 
 use crate::mountinfo::cuts::{field, without_trailing_spaces};
@@ -46,7 +46,7 @@ pub struct MountPoint<'a> {
 // A text up to a space, and what follows it.
 #[tactic(auto, unfolding(crate::specs::Rows::text_at))]
 fn text_at(alloc: Global, bytes: &[u8]) -> Result<(Field<'_>, &[u8]), Refusal<'_>>
-    ensures value { Gives (λ found. (text found.0, found.1.now)) result (text_at bytes.now) }
+    ensures value { Gives (λ found. (text found.0, placed found.1)) result (text_at (placed bytes.entry)) }
     ensures parts { IfOk result (λ found. FieldLiesIn bytes.entry found.0 × LiesIn bytes.entry found.1) }
 {
     let (field, rest) = field(b" ", bytes)?;
@@ -57,7 +57,7 @@ fn text_at(alloc: Global, bytes: &[u8]) -> Result<(Field<'_>, &[u8]), Refusal<'_
 // The optional fields, and what follows their dash.
 #[tactic(auto, unfolding(crate::specs::Rows::optional_at))]
 fn optional_at(alloc: Global, bytes: &[u8]) -> Result<(Field<'_>, &[u8]), Refusal<'_>>
-    ensures value { Gives (λ found. (text found.0, found.1.now)) result (optional_at bytes.now) }
+    ensures value { Gives (λ found. (text found.0, placed found.1)) result (optional_at (placed bytes.entry)) }
     ensures parts { IfOk result (λ found. FieldLiesIn bytes.entry found.0 × LiesIn bytes.entry found.1) }
 {
     let (field, rest) = field(b"- ", bytes)?;
@@ -68,7 +68,7 @@ fn optional_at(alloc: Global, bytes: &[u8]) -> Result<(Field<'_>, &[u8]), Refusa
 // The eleven fields of a row.
 #[tactic(auto, unfolding(crate::specs::Rows::fields_of))]
 fn fields_of(alloc: Global, row: &[u8]) -> Result<MountPoint<'_>, Refusal<'_>>
-    ensures value { Gives row_view result (fields_of row.now) }
+    ensures value { Gives row_view result (fields_of (placed row.entry)) }
     ensures parts { IfOk result (RowLiesIn row.entry) }
 {
     let (mount_id, rest) = number_at(row)?;
@@ -115,7 +115,7 @@ fn is_skipped(row: &[u8]) -> bool
 }
 
 fn without_return(line: &[u8]) -> &[u8]
-    ensures value { result.now ≡ strip_carriage_return line.now }
+    ensures value { placed result ≡ (line.entry.ref_ptr.1, strip_carriage_return line.now) }
     ensures part { LiesIn line.entry result }
 {
     if !line.is_empty() && line[line.len() - 1] == b'\r' {
@@ -128,8 +128,8 @@ fn without_return(line: &[u8]) -> &[u8]
 // What a row without its carriage return says.
 #[tactic(auto, unfolding(crate::specs::Rows::row_of))]
 fn row_of(alloc: Global, row: &[u8]) -> Result<Option<MountPoint<'_>>, Refusal<'_>>
-    ensures gives { Gives (option_map row_view) result (row_of row.now) }
-    ensures not_skipped { OnErr result (row_of row.now ≡ Ok None → ⊥) }
+    ensures gives { Gives (option_map row_view) result (row_of (placed row.entry)) }
+    ensures not_skipped { OnErr result (row_of (placed row.entry) ≡ Ok None → ⊥) }
     ensures parts { IfOk result (λ found. IfSome found (RowLiesIn row.entry)) }
 {
     if is_skipped(row) {
@@ -143,7 +143,7 @@ fn row_of(alloc: Global, row: &[u8]) -> Result<Option<MountPoint<'_>>, Refusal<'
 /// row is, and spaces and tabs and then a number sign.
 #[tactic(auto, unfolding(crate::specs::Rows::row))]
 pub fn parse_mount_point(alloc: Global, line: &[u8]) -> Result<Option<MountPoint<'_>>, RowFault>
-    ensures value { GivesRow result (row line.now) }
+    ensures value { GivesRow result (row (placed line.entry)) }
     ensures parts { IfOk result (λ found. IfSome found (RowLiesIn line.entry)) }
 {
     match row_of(alloc, without_return(line)) {

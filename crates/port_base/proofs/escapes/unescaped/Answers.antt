@@ -1,5 +1,5 @@
 -- What was read so far, escaped, and the rest are the field.
-use Rattle.std.proofs.Common.{◌≡◌, ◌++◌, ap, rules}
+use Rattle.std.proofs.Common.{◌++◌, ap, rules}
 use Rattle.port_base.specs.Escapes.{escaped}
 use Rattle.port_base.proofs.Escaping.{none_escaped, one_more}
 use Rattle.port_base.proofs.escapes.unescaped.Goals as goal

@@ -1,4 +1,4 @@
-use Rattle.std.proofs.Common.{◌≡◌, ◌++◌, ℕ, length}
+use Rattle.std.proofs.Common.{◌≡◌, ◌++◌, length}
 use Rattle.port_base.specs.Escapes.{escaped}
 use Rattle.port_base.proofs.escapes.unescaped.Given as goal
 

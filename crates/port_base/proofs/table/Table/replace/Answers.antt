@@ -1,8 +1,7 @@
-use Rattle.std.proofs.Common.{◌≡◌, sym, ap, ◌∙◌, IsSome, None, subst}
+use Rattle.std.proofs.Common.{sym, ap, ◌∙◌, IsSome, subst}
 use Rattle.std.proofs.lemmas.Bool.{false≢true}
-use Rattle.std.specs.Ordering.{nat_cmp}
 use Rattle.std.specs.FinMap as map
-use Rattle.port_base.proofs.TableViews.{get_view, insert_view, either_way, at}
+use Rattle.port_base.proofs.TableViews.{get_view, insert_view, either_way}
 use Rattle.port_base.proofs.table.Table.replace.Goals as goal
 
 pub returns : goal.returns

@@ -1,4 +1,4 @@
-use Rattle.std.proofs.Common.{◌≡◌, ◌∙◌, ◌≤◌, ◌<◌, ◌++◌, ap, sym, subst, take, drop, length, arith, rules, refl, inl, inr, ◌-◌}
+use Rattle.std.proofs.Common.{◌≤◌, sym, take, drop, length, arith, inl, inr, ◌-◌}
 use Rattle.std.proofs.lemmas.List.{take-append-le, length-append, length-take, length-drop}
 use Rattle.std.proofs.lemmas.Bool.{cases_eq}
 use Rattle.port_base.proofs.Takes.{kept_at, took_front, kept_beyond, end_of, nothing_of}
