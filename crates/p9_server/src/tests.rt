@@ -97,8 +97,8 @@ fn a_server_answers_frames(rt: HostRuntime) -> Result<(), Fail> {
     Ok(())
 }
 
-// A server of a host with the one file `f`, with the bytes `hello`, which is inode 2.
-fn server_of_a_file(alloc: Global) -> Result<Server<TreeHost>, Fail> {
+// A server of a host with the one file `f`, with these bytes, which is inode 2; frames have at most `msize` bytes.
+fn server_of_a_file(alloc: Global, bytes: &[u8], msize: u32) -> Result<Server<TreeHost>, Fail> {
     let mut host = small_host(alloc)?;
     if name_fault(b"f").is_some() {
         return Err(Fail::from("no name"));
@@ -107,12 +107,13 @@ fn server_of_a_file(alloc: Global) -> Result<Server<TreeHost>, Fail> {
         mode: 0o644,
         uid: 0,
         gid: 0,
-        bytes: b"hello",
+        bytes,
     };
     host.add(1, b"f", item)?;
-    let Ok(config) = Config::standard(alloc) else {
+    let Ok(mut config) = Config::standard(alloc) else {
         return Err(Fail::from("no memory"));
     };
+    config.msize = msize;
     match Server::with_config(alloc, host, config) {
         Ok(server) => Ok(server),
         Err(_) => Err(Fail::from("no server")),
@@ -122,7 +123,7 @@ fn server_of_a_file(alloc: Global) -> Result<Server<TreeHost>, Fail> {
 #[test]
 fn a_file_is_opened_and_read(rt: HostRuntime) -> Result<(), Fail> {
     let alloc = rt.alloc();
-    let mut server = server_of_a_file(alloc)?;
+    let mut server = server_of_a_file(alloc, b"hello", 65560)?;
     let exchanges: [(&[u8], &[u8]); 11] = [
         // an attach of fid 1
         (
@@ -179,6 +180,120 @@ fn a_file_is_opened_and_read(rt: HostRuntime) -> Result<(), Fail> {
     for (frame, want) in exchanges {
         let reply = reply_to(alloc, &mut server, frame)?;
         assert_eq!(rt; reply.as_bytes(), want);
+    }
+    Ok(())
+}
+
+#[test]
+fn opens_and_reads_are_refused(rt: HostRuntime) -> Result<(), Fail> {
+    let alloc = rt.alloc();
+    let mut server = server_of_a_file(alloc, b"hello", 65560)?;
+    let exchanges: [(&[u8], &[u8]); 15] = [
+        // an attach of fid 1, and a walk to `f` as fid 2
+        (
+            b"\x17\0\0\0\x68\0\0\x01\0\0\0\xff\xff\xff\xff\0\0\0\0\0\0\0\0",
+            b"\x14\0\0\0\x69\0\0\x80\0\x10\x5e\x5f\x01\0\0\0\0\0\0\0",
+        ),
+        (
+            b"\x14\0\0\0\x6e\x01\0\x01\0\0\0\x02\0\0\0\x01\0\x01\0\x66",
+            b"\x16\0\0\0\x6f\x01\0\x01\0\0\0\x10\x5e\x5f\x02\0\0\0\0\0\0\0",
+        ),
+        // fid 9 is unknown
+        (
+            b"\x0f\0\0\0\x0c\x02\0\x09\0\0\0\0\0\0\0",
+            b"\x0b\0\0\0\x07\x02\0\x09\0\0\0",
+        ),
+        (
+            b"\x17\0\0\0\x74\x03\0\x09\0\0\0\0\0\0\0\0\0\0\0\x05\0\0\0",
+            b"\x0b\0\0\0\x07\x03\0\x09\0\0\0",
+        ),
+        // an access of 3, a file that is to be made anew, a file as a directory
+        (
+            b"\x0f\0\0\0\x0c\x04\0\x02\0\0\0\x03\0\0\0",
+            b"\x0b\0\0\0\x07\x04\0\x16\0\0\0",
+        ),
+        (
+            b"\x0f\0\0\0\x0c\x05\0\x02\0\0\0\xc0\0\0\0",
+            b"\x0b\0\0\0\x07\x05\0\x11\0\0\0",
+        ),
+        (
+            b"\x0f\0\0\0\x0c\x06\0\x02\0\0\0\0\0\x01\0",
+            b"\x0b\0\0\0\x07\x06\0\x14\0\0\0",
+        ),
+        // after refusals it is not open
+        (
+            b"\x17\0\0\0\x74\x07\0\x02\0\0\0\0\0\0\0\0\0\0\0\x05\0\0\0",
+            b"\x0b\0\0\0\x07\x07\0\x09\0\0\0",
+        ),
+        // a directory is opened to be read, but has no bytes
+        (
+            b"\x0f\0\0\0\x0c\x08\0\x01\0\0\0\0\0\0\0",
+            b"\x18\0\0\0\x0d\x08\0\x80\0\x10\x5e\x5f\x01\0\0\0\0\0\0\0\0\0\0\0",
+        ),
+        (
+            b"\x17\0\0\0\x74\x09\0\x01\0\0\0\0\0\0\0\0\0\0\0\x05\0\0\0",
+            b"\x0b\0\0\0\x07\x09\0\x15\0\0\0",
+        ),
+        // what is open to be written is not read
+        (
+            b"\x0f\0\0\0\x0c\x0a\0\x02\0\0\0\x01\0\0\0",
+            b"\x18\0\0\0\x0d\x0a\0\0\0\x10\x5e\x5f\x02\0\0\0\0\0\0\0\0\0\0\0",
+        ),
+        (
+            b"\x17\0\0\0\x74\x0b\0\x02\0\0\0\0\0\0\0\0\0\0\0\x05\0\0\0",
+            b"\x0b\0\0\0\x07\x0b\0\x09\0\0\0",
+        ),
+        // opened once more, for both, it is; a refusal leaves it open so
+        (
+            b"\x0f\0\0\0\x0c\x0c\0\x02\0\0\0\x02\0\0\0",
+            b"\x18\0\0\0\x0d\x0c\0\0\0\x10\x5e\x5f\x02\0\0\0\0\0\0\0\0\0\0\0",
+        ),
+        (
+            b"\x0f\0\0\0\x0c\x0d\0\x02\0\0\0\x03\0\0\0",
+            b"\x0b\0\0\0\x07\x0d\0\x16\0\0\0",
+        ),
+        (
+            b"\x17\0\0\0\x74\x0e\0\x02\0\0\0\0\0\0\0\0\0\0\0\x05\0\0\0",
+            b"\x10\0\0\0\x75\x0e\0\x05\0\0\0\x68\x65\x6c\x6c\x6f",
+        ),
+    ];
+    for (frame, want) in exchanges {
+        let reply = reply_to(alloc, &mut server, frame)?;
+        assert_eq!(rt; reply.as_bytes(), want);
+    }
+    Ok(())
+}
+
+#[test]
+fn a_read_fits_a_frame(rt: HostRuntime) -> Result<(), Fail> {
+    let alloc = rt.alloc();
+    let bytes = vec![in alloc; b'a'; 300]?;
+    let mut server = server_of_a_file(alloc, &bytes, 256)?;
+    let before: [&[u8]; 3] = [
+        b"\x17\0\0\0\x68\0\0\x01\0\0\0\xff\xff\xff\xff\0\0\0\0\0\0\0\0",
+        b"\x14\0\0\0\x6e\x01\0\x01\0\0\0\x02\0\0\0\x01\0\x01\0\x66",
+        b"\x0f\0\0\0\x0c\x02\0\x02\0\0\0\0\0\0\0",
+    ];
+    for frame in before {
+        let _reply = reply_to(alloc, &mut server, frame)?;
+    }
+    // of all bytes, as many as fit 256 behind 11; from there on the rest
+    let reads: [(&[u8], &[u8], usize); 2] = [
+        (
+            b"\x17\0\0\0\x74\x03\0\x02\0\0\0\0\0\0\0\0\0\0\0\x2c\x01\0\0",
+            b"\0\x01\0\0\x75\x03\0\xf5\0\0\0\x61",
+            256,
+        ),
+        (
+            b"\x17\0\0\0\x74\x04\0\x02\0\0\0\xf5\0\0\0\0\0\0\0\x2c\x01\0\0",
+            b"\x42\0\0\0\x75\x04\0\x37\0\0\0\x61",
+            66,
+        ),
+    ];
+    for (frame, head, length) in reads {
+        let reply = reply_to(alloc, &mut server, frame)?;
+        assert!(rt; reply.as_bytes().starts_with(head));
+        assert_eq!(rt; reply.as_bytes().len(), length);
     }
     Ok(())
 }
