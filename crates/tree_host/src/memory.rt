@@ -7,11 +7,11 @@ ghost use Rattle.tree_host.specs.Scripts.{is_quiet};
 ghost use Rattle.std.specs.Prelude.{◌≡◌};
 
 mod adding;
+#[cfg(test)]
+mod call_tests;
 mod changing;
 mod creating;
 mod readers;
-#[cfg(test)]
-mod call_tests;
 #[cfg(test)]
 mod tests;
 mod unlinking;

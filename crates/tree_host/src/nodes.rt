@@ -24,17 +24,16 @@ ghost use Rattle.tree_model.specs.declared.attributes.Stamp.{Stamp};
 mod creating;
 mod unlinking;
 
-pub use creating::{create_node, link_node, make_node};
-pub use unlinking::{find_empty, find_file, remove_entry};
-
 use crate::change::Change;
 use crate::entry::Entry;
 use crate::holds::is_held;
 use crate::node::{Name, Node, TOP};
+pub use creating::{create_node, link_node, make_node};
 use port_base::errno::{ENOENT, ENOTDIR};
 use port_base::table::Table;
 use std::alloc::{AllocError, Global};
 use tree_model::{HostError, Limits, Stamp};
+pub use unlinking::{find_empty, find_file, remove_entry};
 
 /// The inode that a name of a directory names.
 pub fn find_in(nodes: &Table<Node>, dir: u64, name: &[u8]) -> Result<u64, HostError>

@@ -12,12 +12,7 @@ impl TreeHost {
     ghost use Rattle.tree_host.specs.Host.{Leaves};
     ghost use Rattle.tree_host.specs.TreeHosts.{tree, holds, KeepsPlan, KeepsRest};
 
-    pub(super) fn create_file(
-        &mut self,
-        dir: u64,
-        name: &[u8],
-        mode: u32,
-    ) -> Result<u64, HostError>
+    pub(super) fn create_file(&mut self, dir: u64, name: &[u8], mode: u32) -> Result<u64, HostError>
         requires { name_fault name.now ≡ None }
         ensures leaves { Leaves (create_of (tree self.old) dir name.now mode) (tree self.old) (tree self.new) result }
         ensures fault { result ≢ Err HostError.Fault }
