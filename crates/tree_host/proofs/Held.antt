@@ -10,7 +10,7 @@ use Rattle.tree_model.specs.Tree.{Tree, Records, is_linked, keep, top}
 use Rattle.tree_model.specs.Good.{IsGoodTree}
 use Rattle.tree_model.specs.Making.{new_tree, top_record}
 use Rattle.tree_model.specs.Sound.{IsKeptBut, AreStored, swept}
-use Rattle.tree_model.proofs.Maps.{inserted, insert_keeps, removed, remove_keeps}
+use Rattle.tree_model.proofs.Maps.{inserted, insert_keeps, removed, remove_keeps, undone}
 use Rattle.tree_model.proofs.Sweeping.{kept_is_swept}
 use Rattle.tree_model.proofs.Keeping.{keep_kept, keep_stored}
 use Rattle.tree_model.proofs.Files.{good_is_counted}
@@ -27,7 +27,7 @@ is_held_some h i n e more = rw e (grind (arith, nat_tests))
 pub is_held_counted : (h : Holds) (i : ℕ) → 0 < hold_count h i → is_held h i ≡ true
 is_held_counted h i more = grind (arith, nat_tests)
 
-more_there : (h : Holds) (i q : ℕ) → q ≢ i → is_held (held_more h i) q ≡ is_held h q
+pub more_there : (h : Holds) (i q : ℕ) → q ≢ i → is_held (held_more h i) q ≡ is_held h q
 more_there h i q ne = ap (λ o. nat_lt 0 (unwrap_or o 0)) (insert_keeps h i (hold_count h i + 1) q ne)
 
 less_by : (b : Bool) (h : Holds) (i q : ℕ) → q ≢ i → get (cond b (insert h i (hold_count h i - 1)) (remove h i)) q ≡ get h q
@@ -37,10 +37,10 @@ less_by false h i q ne = remove_keeps h i q ne
 less_there : (h : Holds) (i q : ℕ) → q ≢ i → is_held (held_less h i) q ≡ is_held h q
 less_there h i q ne = ap (λ o. nat_lt 0 (unwrap_or o 0)) (less_by (nat_lt 1 (hold_count h i)) h i q ne)
 
-abbrev ArePositive : Holds → Type 0
+abbrev pub ArePositive : Holds → Type 0
 ArePositive h = (i n : ℕ) → get h i ≡ Some n → 0 < n
 
-positive_insert : (h : Holds) (k v : ℕ) → 0 < v → ArePositive h → ArePositive (insert h k v)
+pub positive_insert : (h : Holds) (k v : ℕ) → 0 < v → ArePositive h → ArePositive (insert h k v)
 positive_insert h k v more p i n at = ⊎_elim
     (λ eq. let one : Some v ≡ Some n = sym (inserted h k v) ∙ subst (λ j. get (insert h k v) j ≡ Some n) eq at in let same : v ≡ n = cc in subst (λ n. 0 < n) same more)
     (λ ne. p i n (sym (insert_keeps h k v i ne) ∙ at))
@@ -119,6 +119,12 @@ less_count_by false h i is = let none = ap (λ o. unwrap_or o 0) (removed h i) i
 
 pub hold_count-less : (h : Holds) (i : ℕ) → hold_count (held_less h i) i ≡ hold_count h i - 1
 hold_count-less h i = less_count_by (nat_lt 1 (hold_count h i)) h i refl
+
+-- a first hold that is let go leaves none
+pub less_more : (h : Holds) (i : ℕ) → get h i ≡ None → held_less (held_more h i) i ≡ h
+less_more h i none =
+    let one : hold_count (held_more h i) i ≡ 1 = hold_count-more h i ∙ ap (λ o. unwrap_or o 0 + 1) none in
+    ap (λ n. cond (nat_lt 1 n) (insert (held_more h i) i (hold_count (held_more h i) i - 1)) (remove (held_more h i) i)) one ∙ undone h i (hold_count h i + 1) none
 
 pub hold_count-empty : (i : ℕ) → hold_count empty i ≡ 0
 hold_count-empty i = ap (λ o. unwrap_or o 0) (get-empty nat_cmp i)

@@ -1,5 +1,5 @@
 -- Which calls of a host fault, where it is told beforehand.
-use Rattle.std.specs.Prelude.{◌≡◌, ℕ, ◌+◌, ◌-◌, ◌^◌, Bool, true, false, List, [], ◌∷◌, min, Option, Some, None, Result, Ok, Err, ◌==◌}
+use Rattle.std.specs.Prelude.{◌≡◌, ℕ, ◌+◌, ◌-◌, ◌^◌, Bool, true, false, ◌&&◌, List, [], ◌∷◌, min, nat_lt, Option, Some, None, Result, Ok, Err, ◌==◌}
 use Rattle.std.specs.List.{list_any}
 use Rattle.port_base.specs.Faults.{Faulted}
 use Rattle.tree_model.specs.declared.attributes.HostError.{HostError}
@@ -13,9 +13,9 @@ pub record Plan : Type 0 where
 abbrev pub is_listed : List ℕ → ℕ → Bool
 is_listed fails n = list_any (λ m. m == n) fails
 
--- whether the next call faults
+-- whether the next call faults; the number 2^64 - 1 names no call
 abbrev pub is_due : Plan → Bool
-is_due s = is_listed s.fails s.calls
+is_due s = nat_lt s.calls (2 ^ 64 - 1) && is_listed s.fails s.calls
 
 -- one call more
 abbrev pub after_call : Plan → Plan

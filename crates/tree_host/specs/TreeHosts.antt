@@ -43,6 +43,13 @@ pub record KeepsRest (old new : TreeHost) : Type 0 where
   pub steady : is_steady new ≡ is_steady old
   pub plan : plan new ≡ plan old
 
+-- what a call that holds what it adds leaves as it was
+pub record KeepsPlan (old new : TreeHost) : Type 0 where
+  pub born : birth new ≡ birth old
+  pub faults : faults new ≡ faults old
+  pub steady : is_steady new ≡ is_steady old
+  pub plan : plan new ≡ plan old
+
 -- modes are permission bits, and targets those of good links
 abbrev pub IsGoodItem : NewItem → Type 0
 IsGoodItem (Dir mode uid gid) = mode < 4096

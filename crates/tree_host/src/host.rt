@@ -8,7 +8,8 @@ ghost use Rattle.std.specs.Result.{result_map_both};
 ghost use Rattle.tree_model.specs.Attributes.{stat_of, statfs_of};
 ghost use Rattle.tree_model.specs.Attributing.{touch_ctime_of, set_mode_of, set_owner_of, set_times_of, set_len_of, write_of};
 ghost use Rattle.tree_model.specs.Reading.{entry_after_of};
-ghost use Rattle.tree_model.specs.Unlinking.{unlink_of};
+ghost use Rattle.tree_model.specs.Creating.{create_of, mkdir_of, link_of};
+ghost use Rattle.tree_model.specs.Unlinking.{unlink_of, rmdir_of};
 ghost use Rattle.tree_model.specs.Opening.{open_check_of, read_of, readlink_of};
 ghost use Rattle.tree_host.specs.Holds.{Holds, hold_count, is_held, held_more, held_less};
 ghost use Rattle.tree_host.specs.Scripts.{Plan, Follows};
@@ -192,6 +193,46 @@ pub trait Host {
         ensures steady { steady self.new ≡ steady self.old }
         ensures plan { Follows (plan self.old) (plan self.new) result };
 
+    /// An empty file of the owners 0 and 0 and the permission bits `mode` modulo 4096, with an entry for it and a
+    /// hold; its times, and the directory's mtime and ctime, become the moment. ENOTDIR for what is no directory,
+    /// ENOENT for a directory that no entry names, EEXIST for a name that is there, ENOSPC where the directory is
+    /// full or no number or cookie is left.
+    fn create(&mut self, dir: u64, name: &[u8], mode: u32) -> Result<u64, HostError>
+        requires held { 0 < hold_count (holds self.old) dir }
+        requires named { name_fault name.now ≡ None }
+        ensures leaves { Leaves (create_of (tree self.old) dir name.now mode) (tree self.old) (tree self.new) result }
+        ensures held { IfOk result (λ ino. holds self.new ≡ held_more (holds self.old) ino) }
+        ensures refused { OnErr result (holds self.new ≡ holds self.old) }
+        ensures cause { Causes (steady self.old) (faults self.old) (faults self.new) result }
+        ensures steady { steady self.new ≡ steady self.old }
+        ensures plan { Follows (plan self.old) (plan self.new) result };
+
+    /// An empty directory of the owners 0 and 0 and the permission bits `mode` modulo 4096, with an entry for it, and
+    /// what is told of it; its times, and the mtime and ctime of the directory above, become the moment. The
+    /// refusals are those of `create`.
+    fn mkdir(&mut self, dir: u64, name: &[u8], mode: u32) -> Result<Attr, HostError>
+        requires held { 0 < hold_count (holds self.old) dir }
+        requires named { name_fault name.now ≡ None }
+        ensures leaves { Leaves (mkdir_of (tree self.old) dir name.now mode) (tree self.old) (tree self.new) result }
+        ensures holds { holds self.new ≡ holds self.old }
+        ensures cause { Causes (steady self.old) (faults self.old) (faults self.new) result }
+        ensures steady { steady self.new ≡ steady self.old }
+        ensures plan { Follows (plan self.old) (plan self.new) result };
+
+    /// One more name of a file or a link, whose ctime, with the directory's mtime and ctime, becomes the moment. ENOTDIR
+    /// for what is no directory, EPERM for the name of a directory, ENOENT where the directory or the inode has no
+    /// link, EEXIST for a name that is there, EMLINK where there are as many links as there may be, ENOSPC where
+    /// the directory is full or no cookie is left.
+    fn link(&mut self, ino: u64, dir: u64, name: &[u8]) -> Result<(), HostError>
+        requires held { 0 < hold_count (holds self.old) ino }
+        requires above { 0 < hold_count (holds self.old) dir }
+        requires named { name_fault name.now ≡ None }
+        ensures leaves { Leaves (link_of (tree self.old) ino dir name.now) (tree self.old) (tree self.new) result }
+        ensures holds { holds self.new ≡ holds self.old }
+        ensures cause { Causes (steady self.old) (faults self.old) (faults self.new) result }
+        ensures steady { steady self.new ≡ steady self.old }
+        ensures plan { Follows (plan self.old) (plan self.new) result };
+
     /// Takes the entry of a name away; what it names has a link less, its ctime becomes the moment, and so do the
     /// directory's mtime and ctime. What no entry and no hold names is gone then. ENOTDIR for what is no
     /// directory, ENOENT where no entry has the name, EISDIR where it names a directory. It takes no memory.
@@ -199,6 +240,20 @@ pub trait Host {
         requires held { 0 < hold_count (holds self.old) dir }
         requires named { name_fault name.now ≡ None }
         ensures leaves { Leaves (unlink_of (is_held (holds self.old)) (tree self.old) dir name.now) (tree self.old) (tree self.new) result }
+        ensures holds { holds self.new ≡ holds self.old }
+        ensures memory { result ≢ Err HostError.NoMemory }
+        ensures cause { Causes (steady self.old) (faults self.old) (faults self.new) result }
+        ensures steady { steady self.new ≡ steady self.old }
+        ensures plan { Follows (plan self.old) (plan self.new) result };
+
+    /// Takes the entry of an empty directory away, which has no links then; its ctime becomes the moment, and so do
+    /// the mtime and ctime of the directory above. What no entry and no hold names is gone then. ENOTDIR for what
+    /// is no directory, ENOENT where no entry has the name, ENOTDIR where it names no directory, ENOTEMPTY where
+    /// that has entries. It takes no memory.
+    fn rmdir(&mut self, dir: u64, name: &[u8]) -> Result<(), HostError>
+        requires held { 0 < hold_count (holds self.old) dir }
+        requires named { name_fault name.now ≡ None }
+        ensures leaves { Leaves (rmdir_of (is_held (holds self.old)) (tree self.old) dir name.now) (tree self.old) (tree self.new) result }
         ensures holds { holds self.new ≡ holds self.old }
         ensures memory { result ≢ Err HostError.NoMemory }
         ensures cause { Causes (steady self.old) (faults self.old) (faults self.new) result }

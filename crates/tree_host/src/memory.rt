@@ -7,10 +7,14 @@ ghost use Rattle.tree_host.specs.Scripts.{is_quiet};
 ghost use Rattle.std.specs.Prelude.{◌≡◌};
 
 mod adding;
+#[cfg(test)]
+mod call_tests;
 mod changing;
+mod creating;
 mod readers;
 #[cfg(test)]
 mod tests;
+mod unlinking;
 
 use crate::change::Change;
 use crate::entry::Entry;
@@ -18,7 +22,7 @@ use crate::holds::{hold, lower};
 use crate::host::Host;
 use crate::node::{Node, TOP};
 use crate::nodes::{
-    entry_after, find_file, find_in, open_check, read_link, remove_entry, sweep, walk,
+    entry_after, find_empty, find_file, find_in, open_check, read_link, sweep, walk,
 };
 use crate::script::Script;
 use port_base::errno::ENOENT;
@@ -282,14 +286,42 @@ impl Host for TreeHost {
         entry_after(self.alloc, &self.nodes, dir, cookie)
     }
 
+    fn create(&mut self, dir: u64, name: &[u8], mode: u32) -> Result<u64, HostError> {
+        if self.script.strikes(&mut self.faults) {
+            return Err(HostError::Fault);
+        }
+        self.create_file(dir, name, mode)
+    }
+
+    fn mkdir(&mut self, dir: u64, name: &[u8], mode: u32) -> Result<Attr, HostError> {
+        if self.script.strikes(&mut self.faults) {
+            return Err(HostError::Fault);
+        }
+        self.make_directory(dir, name, mode)
+    }
+
+    fn link(&mut self, ino: u64, dir: u64, name: &[u8]) -> Result<(), HostError> {
+        if self.script.strikes(&mut self.faults) {
+            return Err(HostError::Fault);
+        }
+        self.link_name(ino, dir, name)
+    }
+
     fn unlink(&mut self, dir: u64, name: &[u8]) -> Result<(), HostError> {
         if self.script.strikes(&mut self.faults) {
             return Err(HostError::Fault);
         }
         let ino = find_file(&self.nodes, dir, name)?;
-        remove_entry(&mut self.nodes, dir, name, ino, self.moment);
-        let holds = &self.holds;
-        sweep(&mut self.nodes, holds, ino);
+        self.remove(dir, name, ino);
+        Ok(())
+    }
+
+    fn rmdir(&mut self, dir: u64, name: &[u8]) -> Result<(), HostError> {
+        if self.script.strikes(&mut self.faults) {
+            return Err(HostError::Fault);
+        }
+        let ino = find_empty(&self.nodes, dir, name)?;
+        self.remove(dir, name, ino);
         Ok(())
     }
 

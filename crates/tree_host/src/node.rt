@@ -11,6 +11,7 @@ ghost use Rattle.tree_host.specs.Stored.{body_of};
 mod changing;
 mod making;
 mod opening;
+mod stamping;
 mod unlinking;
 
 pub use changing::fitting;

@@ -16,20 +16,24 @@ ghost use Rattle.tree_model.specs.Attributes.{kind_of};
 ghost use Rattle.tree_model.specs.Placing.{link_refused, one_link_more};
 ghost use Rattle.tree_host.specs.Stored.{links};
 ghost use Rattle.tree_host.specs.Kept.{tree_from};
-ghost use Rattle.tree_model.specs.Unlinking.{unless_directory, parted_by, one_link_less};
 ghost use Rattle.tree_host.specs.Changing.{change_refused, changed_by, is_small, Makes};
 ghost use Rattle.tree_model.specs.Attributing.{refused_at, write_refused, overwritten_at, fitting};
 ghost use Rattle.tree_model.specs.declared.attributes.Limits.{Limits};
 ghost use Rattle.tree_model.specs.declared.attributes.Stamp.{Stamp};
 
+mod creating;
+mod unlinking;
+
 use crate::change::Change;
 use crate::entry::Entry;
 use crate::holds::is_held;
 use crate::node::{Name, Node, TOP};
-use port_base::errno::{EISDIR, ENOENT, ENOTDIR};
+pub use creating::{create_node, link_node, make_node};
+use port_base::errno::{ENOENT, ENOTDIR};
 use port_base::table::Table;
 use std::alloc::{AllocError, Global};
 use tree_model::{HostError, Limits, Stamp};
+pub use unlinking::{find_empty, find_file, remove_entry};
 
 /// The inode that a name of a directory names.
 pub fn find_in(nodes: &Table<Node>, dir: u64, name: &[u8]) -> Result<u64, HostError>
@@ -283,44 +287,6 @@ pub fn write_node(
         Some(node) => node.write(offset, new, moment, limit),
         None => Err(HostError::Errno(ENOENT)),
     }
-}
-
-/// The inode that a name of a directory names, where it is no directory.
-pub fn find_file(nodes: &Table<Node>, dir: u64, name: &[u8]) -> Result<u64, HostError>
-    ensures { result ≡ as_errno (unless_directory nodes.now (ino_among false name.now (entries_at nodes.now dir))) }
-{
-    let ino = find_in(nodes, dir, name)?;
-    let directory = is_directory(nodes, ino);
-    if directory {
-        return Err(HostError::Errno(EISDIR));
-    }
-    Ok(ino)
-}
-
-fn link_less(nodes: &mut Table<Node>, ino: u64, moment: Stamp)
-    ensures { nodes.new ≡ change (one_link_less moment) nodes.old ino }
-{
-    match nodes.get_mut(ino) {
-        Some(node) => node.link_less(moment),
-        None => (),
-    }
-}
-
-fn part_from(nodes: &mut Table<Node>, dir: u64, name: &[u8], moment: Stamp)
-    ensures { nodes.new ≡ change (parted_by name.now moment) nodes.old dir }
-{
-    match nodes.get_mut(dir) {
-        Some(node) => node.part(name, moment),
-        None => (),
-    }
-}
-
-/// Takes an entry away, and a link of the record that it names.
-pub fn remove_entry(nodes: &mut Table<Node>, dir: u64, name: &[u8], ino: u64, moment: Stamp)
-    ensures { nodes.new ≡ change (parted_by name.now moment) (change (one_link_less moment) nodes.old ino) dir }
-{
-    link_less(nodes, ino, moment);
-    part_from(nodes, dir, name, moment);
 }
 
 // An entry with what is told of the inode that it names.

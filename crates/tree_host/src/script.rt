@@ -5,7 +5,8 @@ ghost use Rattle.tree_host.specs.Scripts.{is_due, after_call, CountsFault, is_qu
 use std::alloc::{AllocError, Global};
 use std::marker::Model;
 
-/// The numbers of the calls that fault, from 0 on, and how many calls there were, which stops at 2^64 - 1.
+/// The numbers of the calls that fault, from 0 on, and how many calls there were. This count stops at 2^64 - 1,
+/// and that number names no call.
 #[derive(Drop)]
 pub struct Script {
     fails: Vec<u64>,
@@ -37,7 +38,7 @@ impl Script {
         ensures after { self.new ≡ after_call self.old }
         ensures faults { CountsFault result faults.old faults.new }
     {
-        let due = self.fails.contains(&self.calls);
+        let due = self.calls < u64::MAX && self.fails.contains(&self.calls);
         self.calls = self.calls.saturating_add(1);
         if due {
             *faults = (*faults).saturating_add(1);

@@ -16,5 +16,6 @@ pub mod Rewriting
 pub mod Parting
 pub mod Unlinking
 pub mod Leaving
+pub mod Creating
 pub mod Reading
 pub mod Sampling

@@ -1,5 +1,5 @@
 -- Entries without the one of a name.
-use Rattle.std.proofs.Common.{◌≡◌, ◌≢◌, ℕ, zero, suc, ◌+◌, ◌<◌, ◌≤◌, Bool, true, false, cond, List, [], ◌∷◌, ◌++◌, length, refl, sym, ap, ◌∙◌, subst, Option, Some, None, arith, bytes_eq, get_or, nat_lt}
+use Rattle.std.proofs.Common.{◌≡◌, ◌≢◌, ℕ, zero, suc, ◌+◌, ◌<◌, ◌≤◌, Bool, true, false, cond, List, [], ◌∷◌, length, refl, sym, ap, ◌∙◌, subst, Some, None, arith, bytes_eq, get_or, nat_lt}
 use Rattle.std.specs.Prelude.{All, AllPairs, Contains, ◌==◌, position}
 use Rattle.std.specs.List.{remove, position_or_len}
 use Rattle.std.proofs.lemmas.Bool.Decides.{nat_tests}

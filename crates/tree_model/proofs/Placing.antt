@@ -1,5 +1,5 @@
 -- A good tree with a record more is good.
-use Rattle.std.proofs.Common.{◌≡◌, ℕ, ◌+◌, ◌-◌, ◌^◌, ◌<◌, Bool, List, refl, sym, ap, subst, Option, Some, None, Ok, arith}
+use Rattle.std.proofs.Common.{◌≡◌, ◌≢◌, ℕ, ◌+◌, ◌-◌, ◌^◌, ◌<◌, Bool, List, refl, sym, ap, subst, Option, Some, None, Ok, arith}
 use Rattle.port_base.specs.Names.{name_fault}
 use Rattle.tree_model.specs.declared.attributes.Stamp.{Stamp}
 use Rattle.tree_model.specs.Tree.{Tree, Record, Records}
@@ -39,11 +39,19 @@ module _ (t : Tree) (g : IsGoodTree t) (dir : ℕ) (name : List ℕ) (free : cre
   with_record_good fine = subst (λ (rs : Records). IsGoodTree (record t { records = rs; next = t.next + 1 })) (sym records_are)
       (added_good t g dir name w.d (joined_by name t.next w.d) r is_added (joined_good fine) new.good)
 
+  -- the holds that were there, and any of the new record
+  module _ (held held' : ℕ → Bool) (other : (q : ℕ) → q ≢ t.next → held' q ≡ held q) where
+    pub with_record_kept_more : IsKept t.records held → IsKept (with_record t dir name r).records held'
+    with_record_kept_more k = subst (λ (rs : Records). IsKept rs held') (sym records_are) (added_kept t g dir name w.d (joined_by name t.next w.d) r is_added held held' other k)
+
+    pub with_record_stored_more : AreStored t.records held → AreStored (with_record t dir name r).records held'
+    with_record_stored_more s = subst (λ (rs : Records). AreStored rs held') (sym records_are) (added_stored t g dir name w.d (joined_by name t.next w.d) r is_added held held' other s)
+
   pub with_record_kept : (held : ℕ → Bool) → IsKept t.records held → IsKept (with_record t dir name r).records held
-  with_record_kept held k = subst (λ (rs : Records). IsKept rs held) (sym records_are) (added_kept t g dir name w.d (joined_by name t.next w.d) r is_added held held (λ q ne. refl) k)
+  with_record_kept held = with_record_kept_more held held (λ q ne. refl)
 
   pub with_record_stored : (held : ℕ → Bool) → AreStored t.records held → AreStored (with_record t dir name r).records held
-  with_record_stored held s = subst (λ (rs : Records). AreStored rs held) (sym records_are) (added_stored t g dir name w.d (joined_by name t.next w.d) r is_added held held (λ q ne. refl) s)
+  with_record_stored held = with_record_stored_more held held (λ q ne. refl)
 
   -- room for one more cookie
   pub cookie_fits : next_cookie w.d.body < 2 ^ 64 - 1

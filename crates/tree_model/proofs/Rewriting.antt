@@ -4,10 +4,9 @@ use Rattle.std.proofs.lemmas.List.{length-replicate}
 use Rattle.std.specs.Prelude.{◌==◌}
 use Rattle.std.proofs.lemmas.Bool.Decides.{nat_tests}
 use Rattle.port_base.specs.declared.errno.TheConstants.{EFBIG}
-use Rattle.tree_model.specs.declared.attributes.Stamp.{Stamp}
-use Rattle.tree_model.specs.Tree.{Tree, Record, Body, Entry, listed, is_directory}
+use Rattle.tree_model.specs.Tree.{Tree, Body, Entry, listed, is_directory}
 use Rattle.tree_model.specs.Tree.Body.{File, Directory, Link}
-use Rattle.tree_model.specs.Good.{IsAt, IsGoodBody, IsGoodTree, links_of}
+use Rattle.tree_model.specs.Good.{IsGoodBody, IsGoodTree, links_of}
 use Rattle.tree_model.specs.Attributing.{resized, written, with_bytes, refused_unless_file, rewritten_at, len_refused, fitting, overwritten_at, write_refused}
 use Rattle.tree_model.proofs.Altering.{IsAltered}
 use Rattle.tree_model.proofs.Attributing.{same_body, Amends}

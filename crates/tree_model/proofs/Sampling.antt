@@ -1,10 +1,10 @@
 -- A tree with one file, `hello`: what is told of it follows by computation from what its map has.
-use Rattle.std.proofs.Common.{◌≡◌, ◌≢◌, ℕ, Bool, true, false, cond, List, [], ◌∷◌, length, refl, sym, ap, ◌∙◌, Option, Some, None, Result, Ok, Err, ⊎_elim, arith}
+use Rattle.std.proofs.Common.{◌≡◌, ◌≢◌, ℕ, Bool, true, false, cond, not, List, [], ◌∷◌, length, refl, sym, ap, ◌∙◌, Option, Some, None, Result, Ok, Err, ⊎_elim, arith}
 use Rattle.std.specs.Prelude.{codes, option_map, option_and_then}
 use Rattle.std.proofs.lemmas.Bool.{cases_eq}
 use Rattle.std.specs.Ordering.{nat_cmp}
 use Rattle.std.specs.FinMap.{get, insert, empty, get-empty, retain_keys}
-use Rattle.port_base.specs.declared.errno.TheConstants.{ENOENT, ENOTDIR, EISDIR, EINVAL, EFBIG}
+use Rattle.port_base.specs.declared.errno.TheConstants.{ENOENT, ENOTDIR, EISDIR, EINVAL, EFBIG, ENOTEMPTY}
 use Rattle.tree_model.specs.declared.attributes.Kind.TheVariants as kind
 use Rattle.tree_model.specs.declared.attributes.TimeSet.{TimeSet}
 use Rattle.tree_model.specs.Tree.{Tree, Record, Records, Body, body_at, is_directory_at, linked, keep, is_linked}
@@ -14,9 +14,10 @@ use Rattle.tree_model.specs.Attributes.{stat_of, attr_or_missing, kind_of}
 use Rattle.tree_model.specs.Making.{top_record, file_record, joined_by, changed, new_name_refused, add_refused, add_file_of, add_file_unless}
 use Rattle.tree_model.specs.Samples.{born, limits, alone, hello, world, sample}
 use Rattle.tree_model.specs.Opening.{asked, unless, open_refused, open_check_of, read_body, read_of, readlink_body, readlink_of, if_told, walk_to, found_at}
-use Rattle.tree_model.specs.Placing.{placed, placed_unless, link_refused, linked_unless, add_hard_of}
-use Rattle.tree_model.specs.Attributing.{changing, rewritten_at, resized, refused_at, refused_unless_file, set_len_of, write_of, write_refused, fitting, overwritten_at, set_times_of, times_refused, retimed, with_changed}
-use Rattle.tree_model.specs.Unlinking.{unless_directory, unlinked_at, without_entry, unlink_of}
+use Rattle.tree_model.specs.Placing.{create_refused, placed, placed_unless, link_refused, linked_unless, add_hard_of}
+use Rattle.tree_model.specs.Attributing.{changing, rewritten_at, resized, refused_at, refused_unless_file, set_len_of, write_of, write_refused, fitting, overwritten_at, set_times_of, times_refused, retimed}
+use Rattle.tree_model.specs.Unlinking.{unless_directory, is_empty_at, if_empty, removed_at, without_entry, unlink_of, rmdir_of}
+use Rattle.tree_model.specs.Creating.{made_unless, with_name, link_of}
 use Rattle.tree_model.specs.Reading.{peek_entry_of, entry_above, part}
 use Rattle.tree_model.proofs.Maps.{inserted, insert_keeps, retained, same_gets, rewritten}
 use Rattle.tree_model.proofs.Naming.{entry_is_counted}
@@ -183,10 +184,10 @@ time_file atime mtime = ap (λ o. changing tt (retimed atime mtime born) 2 sampl
 -- ---- what goes
 
 abbrev gone : (ℕ → Bool) → ℕ → List ℕ → Result ℕ ℕ → Result (Unit {0} × Tree) ℕ
-gone held dir name r = unlinked_at held sample dir name (unless_directory sample.records r)
+gone held dir name r = removed_at held sample dir name (unless_directory sample.records r)
 
 pub file_gone : (held : ℕ → Bool) → unlink_of held sample 1 hello ≡ Ok (tt, keep held (without_entry sample 1 hello 2))
-file_gone held = ap (gone held 1 hello) found ∙ ap (λ o. unlinked_at held sample 1 hello (cond (is_directory_at o) (Err EISDIR) (Ok 2))) body_of_file
+file_gone held = ap (gone held 1 hello) found ∙ ap (λ o. removed_at held sample 1 hello (cond (is_directory_at o) (Err EISDIR) (Ok 2))) body_of_file
 
 b_missing : lookup_of sample 1 (codes "b") ≡ Err ENOENT
 b_missing = ap (looked_up false (codes "b")) top_at
@@ -199,3 +200,41 @@ none_below held = ap (gone held 2 hello) in_file
 
 pub top_stays : unless_directory sample.records (Ok 1) ≡ Err EISDIR
 top_stays = ap (λ o. cond {A = Result ℕ ℕ} (is_directory_at o) (Err EISDIR) (Ok 1)) body_of_top
+
+-- ---- what is created, and what else goes
+
+pub made_in_top : {A : Type 0} (a : A) (name : List ℕ) (u : Tree) → made_unless (create_refused sample 1 name) a u ≡ made_unless (refused_in name 1 (Some directory.body)) a u
+made_in_top a name u = ap (λ o. made_unless (refused_in name 1 o) a u) body_of_top
+
+pub made_in_file : {A : Type 0} (a : A) (name : List ℕ) (u : Tree) → made_unless (create_refused sample 2 name) a u ≡ Err ENOTDIR
+made_in_file a name u = ap (λ o. made_unless (refused_in name 2 o) a u) body_of_file
+
+abbrev named : ℕ → List ℕ → Option Body → Option Record → Result (Unit {0} × Tree) ℕ
+named ino name b o = made_unless (refused_name name b o) tt (with_name sample 1 name ino)
+
+pub link_in_top : (name : List ℕ) → link_of sample 2 1 name ≡ named 2 name (Some directory.body) (Some (file_record born world))
+link_in_top name = ap (λ o. named 2 name o (get sample.records 2)) body_of_top ∙ ap (named 2 name (Some directory.body)) file_at
+
+pub top_not_linked : (name : List ℕ) → link_of sample 1 1 name ≡ named 1 name (Some directory.body) (Some directory)
+top_not_linked name = ap (λ o. named 1 name o (get sample.records 1)) body_of_top ∙ ap (named 1 name (Some directory.body)) top_at
+
+abbrev emptied : Option Body → Result ℕ ℕ
+emptied o = cond (not (is_directory_at o)) (Err ENOTDIR) (cond (is_empty_at o) (Ok 1) (Err ENOTEMPTY))
+
+pub alone_goes : if_empty alone.records (Ok 1) ≡ Ok 1
+alone_goes = ap (λ o. emptied (option_map (λ (r : Record). r.body) o)) first_at
+
+pub sample_stays : if_empty sample.records (Ok 1) ≡ Err ENOTEMPTY
+sample_stays = ap emptied body_of_top
+
+abbrev removed : (ℕ → Bool) → ℕ → List ℕ → Result ℕ ℕ → Result (Unit {0} × Tree) ℕ
+removed held dir name r = removed_at held sample dir name (if_empty sample.records r)
+
+pub file_not_removed : (held : ℕ → Bool) → rmdir_of held sample 1 hello ≡ Err ENOTDIR
+file_not_removed held = ap (removed held 1 hello) found ∙ ap (λ o. removed_at held sample 1 hello (cond (not (is_directory_at o)) (Err ENOTDIR) (cond (is_empty_at o) (Ok 2) (Err ENOTEMPTY)))) body_of_file
+
+pub none_removed : (held : ℕ → Bool) → rmdir_of held sample 1 (codes "b") ≡ Err ENOENT
+none_removed held = ap (removed held 1 (codes "b")) b_missing
+
+pub none_removed_below : (held : ℕ → Bool) → rmdir_of held sample 2 hello ≡ Err ENOTDIR
+none_removed_below held = ap (removed held 2 hello) in_file

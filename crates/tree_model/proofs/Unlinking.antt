@@ -1,21 +1,21 @@
--- A good tree is good without an entry whose record has a link less.
-use Rattle.std.proofs.Common.{◌≡◌, ◌≢◌, ℕ, zero, suc, ◌+◌, ◌-◌, ◌<◌, ◌≤◌, Bool, true, false, cond, ◌||◌, List, [], refl, sym, ap, ◌∙◌, subst, Option, Some, None, inl, inr, ⊎_elim, arith, IsSome, IsTrue, nat_lt}
+-- A good tree is good without an entry whose record lists nothing and has a name less.
+use Rattle.std.proofs.Common.{◌≡◌, ◌≢◌, ℕ, zero, suc, ◌+◌, ◌<◌, ◌≤◌, Bool, true, false, cond, ◌||◌, List, [], refl, sym, ap, ◌∙◌, subst, Some, None, inl, inr, ⊎_elim, arith, IsSome, IsTrue, nat_lt}
 use Rattle.std.specs.Prelude.{◌==◌, option_map, IfSome, Contains}
 use Rattle.std.proofs.Math.Logic.{∥∥₁_map}
 use Rattle.std.proofs.lemmas.Bool.{cases_eq, false≢true}
 use Rattle.std.proofs.lemmas.Bool.Decides.{nat_tests}
 use Rattle.std.specs.FinMap.{get, insert}
-use Rattle.tree_model.specs.Tree.{Tree, Record, Records, Entry, top, listed, is_directory, is_directory_at, name_count, names_in, is_linked, count_names, weight}
-use Rattle.tree_model.specs.Tree.Body.{Directory}
+use Rattle.tree_model.specs.Tree.{Tree, Record, Records, Body, Entry, top, listed, is_directory, is_directory_at, name_count, names_in, is_linked, count_names, weight}
+use Rattle.tree_model.specs.Tree.Body.{File, Directory, Link}
 use Rattle.tree_model.specs.Good.{IsAt, IsGoodRecord, IsGoodTree, Climbs, links_of}
 use Rattle.tree_model.specs.Finding.{entry_named}
 use Rattle.tree_model.specs.Sound.{IsKept, IsKeptBut, AreStored}
 use Rattle.tree_model.specs.Making.{with_entries, next_cookie}
-use Rattle.tree_model.specs.Unlinking.{without}
+use Rattle.tree_model.specs.Unlinking.{without, links_left}
 use Rattle.tree_model.proofs.Maps.{inserted, insert_keeps}
 use Rattle.tree_model.proofs.Counting.{weigh-insert}
-use Rattle.tree_model.proofs.Bodies.{shows_links, with_entries-is_directory, with_entries-listed, with_entries-above, same_some, lists_none}
-use Rattle.tree_model.proofs.Linking.{names_of}
+use Rattle.tree_model.proofs.Naming.{names_in-le, top_is_unnamed}
+use Rattle.tree_model.proofs.Bodies.{shows_links, with_entries-is_directory, with_entries-listed, with_entries-above, same_some}
 use Rattle.tree_model.proofs.Parting.{without-Contains, count_names-without}
 
 -- what changes: the directory, and the record that loses a name
@@ -28,9 +28,18 @@ pub record IsUnlinkedIn (t : Tree) (dir ino : ℕ) (name : List ℕ) (e : Entry)
   pub names : e.ino ≡ ino
   pub parted : d'.body ≡ with_entries d.body (without name (listed d.body)) (next_cookie d.body)
   pub same_links : d'.links ≡ d.links
-  pub plain : is_directory x.body ≡ false
+  pub nothing : listed x.body ≡ []
   pub same_body : x'.body ≡ x.body
-  pub one_less : x'.links + 1 ≡ x.links
+  pub left : x'.links ≡ links_left x.body x.links
+
+-- the links that are left are those that are shown then
+links_shown : (b : Body) (n m : ℕ) (was now : Bool) → m + 1 ≡ n → (is_directory b ≡ true → now ≡ false) → links_left b (links_of b n was) ≡ links_of b m now
+links_shown (File bytes) n m was now one loose = omega arith
+links_shown (Directory es next above) n m was now one loose = ap (λ b. cond {A = ℕ} b 2 0) (sym (loose refl))
+links_shown (Link target) n m was now one loose = omega arith
+
+loose_by : (i n : ℕ) → i ≢ top → n ≡ 0 → ((i == top) || nat_lt 0 n) ≡ false
+loose_by i n ne none = grind (arith, nat_tests)
 
 module _ (t : Tree) (g : IsGoodTree t) (dir ino : ℕ) (name : List ℕ) (e : Entry) (d d' x x' : Record) (w : IsUnlinkedIn t dir ino name e d d' x x') where
   abbrev pub rs : Records
@@ -45,10 +54,9 @@ module _ (t : Tree) (g : IsGoodTree t) (dir ino : ℕ) (name : List ℕ) (e : En
   pub apart : dir ≢ ino
   apart is =
       let same : d ≡ x = same_some d x (sym w.at ∙ ap (get rs) is ∙ w.there) in
-      absurd (false≢true (sym w.plain ∙ ap (λ (r : Record). is_directory r.body) (sym same) ∙ w.directory))
-
-  not_top : ino ≢ top
-  not_top is = absurd (false≢true (sym (ap (λ o. is_directory_at (option_map (λ (r : Record). r.body) o)) (sym (ap (get rs) is) ∙ w.there) ∙ w.plain) ∙ g.top_is_directory))
+      let none : entry_named name (listed d.body) ≡ None = ap (λ (r : Record). entry_named name (listed r.body)) same ∙ ap (entry_named name) w.nothing in
+      let some = w.goes in
+      cc
 
   pub mid_dir : get mid dir ≡ Some d
   mid_dir = insert_keeps rs ino x' dir apart ∙ w.at
@@ -68,6 +76,17 @@ module _ (t : Tree) (g : IsGoodTree t) (dir ino : ℕ) (name : List ℕ) (e : En
   fewer_names : (q : ℕ) → names_in q d' + cond {A = ℕ} (e.ino == q) 1 0 ≡ names_in q d
   fewer_names q = ap (λ es. count_names q es + cond {A = ℕ} (e.ino == q) 1 0) lists_less ∙ count_names-without q name (listed d.body) e w.goes
 
+  named : 0 < name_count rs ino
+  named =
+      let fewer = fewer_names ino in
+      let is = w.names in
+      let one : cond {A = ℕ} (e.ino == ino) 1 0 ≡ 1 = grind (arith, nat_tests) in
+      let among = names_in-le rs dir ino d w.at in
+      omega arith
+
+  not_top : ino ≢ top
+  not_top is = let none = top_is_unnamed t g in let some = subst (λ i. 0 < name_count rs i) is named in omega arith
+
   counts : (q : ℕ) → name_count made q + cond {A = ℕ} (e.ino == q) 1 0 ≡ name_count rs q
   counts q =
       let one = weigh-insert (names_in q) rs ino x' in
@@ -86,6 +105,13 @@ module _ (t : Tree) (g : IsGoodTree t) (dir ino : ℕ) (name : List ℕ) (e : En
 
   one_name_less : name_count made ino + 1 ≡ name_count rs ino
   one_name_less = let c = counts ino in let is = w.names in let one : cond {A = ℕ} (e.ino == ino) 1 0 ≡ 1 = grind (arith, nat_tests) in omega arith
+
+  -- of a directory no name is left
+  unnamed : is_directory x'.body ≡ true → name_count made ino ≡ 0
+  unnamed is = let once = g.once ino x w.there (sym (ap is_directory w.same_body) ∙ is) in let less = one_name_less in omega arith
+
+  loose : is_directory x'.body ≡ true → is_linked made ino ≡ false
+  loose is = loose_by ino (name_count made ino) not_top (unnamed is)
 
   same_linked : (q : ℕ) → q ≢ ino → is_linked made q ≡ is_linked rs q
   same_linked q ne = ap (λ n. (q == top) || nat_lt 0 n) (same_count q ne)
@@ -130,13 +156,14 @@ module _ (t : Tree) (g : IsGoodTree t) (dir ino : ℕ) (name : List ℕ) (e : En
         w.parted ∙ ap (λ b. with_entries b (without name (listed d.body)) (next_cookie d.body)) (ap (λ (r : Record). r.body) same ∙ s.5),
         climbs_on n s.3 s.6,
       ))
-      (λ nd. inr (s.0, s.1, s.2, s.3, at_other i (λ is. not_file s.0 s.1 s.2 s.3 (sym (ap (get rs) is) ∙ s.4) s.5) nd ∙ s.4, s.5, climbs_on n s.3 s.6))
+      (λ nd. ⊎_elim
+      (λ eq.
+      let same : x ≡ s.0 = same_some x s.0 (sym w.there ∙ sym (ap (get rs) eq) ∙ s.4) in
+      inr (x', s.1, s.2, s.3, ap (get made) eq ∙ at_ino, w.same_body ∙ ap (λ (r : Record). r.body) same ∙ s.5, climbs_on n s.3 s.6))
+      (λ ne. inr (s.0, s.1, s.2, s.3, at_other i ne nd ∙ s.4, s.5, climbs_on n s.3 s.6))
+      (cases_eq i ino))
       (cases_eq i dir))
-      c where
-        not_file : (r : Record) (es : List Entry) (m up : ℕ) → IsAt rs ino r → r.body ≡ Directory es m up → ⊥
-        not_file r es m up at is =
-            let same : x ≡ r = same_some x r (sym w.there ∙ at) in
-            false≢true (sym w.plain ∙ ap (λ (r : Record). is_directory r.body) same ∙ ap is_directory is)
+      c
 
   still_above : (q up : ℕ) → q ≢ ino → IfSome (get rs up) (λ r. 1 ≤ names_in q r) → IfSome (get made up) (λ r. 1 ≤ names_in q r)
   still_above q up other names = ⊎_elim
@@ -157,10 +184,10 @@ module _ (t : Tree) (g : IsGoodTree t) (dir ino : ℕ) (name : List ℕ) (e : En
 
   module _ (good_d : IsGoodRecord d') (good_x : IsGoodRecord x') where
     lists_nothing : listed x'.body ≡ []
-    lists_nothing = ap listed w.same_body ∙ lists_none x.body w.plain
+    lists_nothing = ap listed w.same_body ∙ w.nothing
 
-    not_directory : is_directory x'.body ≡ true → ⊥
-    not_directory is = false≢true (sym w.plain ∙ ap is_directory (sym w.same_body) ∙ is)
+    not_live : is_directory x'.body ≡ true → is_linked made ino ≡ true → ⊥
+    not_live is live = false≢true (sym (loose is) ∙ live)
 
     pub unlinked_in_good : IsGoodTree (record t { records = made })
     unlinked_in_good = record {
@@ -175,16 +202,17 @@ module _ (t : Tree) (g : IsGoodTree t) (dir ino : ℕ) (name : List ℕ) (e : En
           (λ q r ne nd was y c. let had = g.entries q r y was c in (stored y.ino had.0, had.1))
           q r is y c;
       links = by_place (λ q r. r.links ≡ links_of r.body (name_count made q) (is_linked made q))
-          (let l : x.links ≡ name_count rs ino = g.links ino x w.there ∙ names_of x.body (name_count rs ino) (is_linked rs ino) w.plain in let less = one_name_less in let one = w.one_less in
-          let now : x'.links ≡ name_count made ino = omega arith in now ∙ sym (ap (λ b. links_of b (name_count made ino) (is_linked made ino)) w.same_body ∙ names_of x.body (name_count made ino) (is_linked made ino) w.plain))
+          (w.left ∙ ap (links_left x.body) (g.links ino x w.there)
+          ∙ links_shown x.body (name_count rs ino) (name_count made ino) (is_linked rs ino) (is_linked made ino) one_name_less (λ is. loose (ap is_directory w.same_body ∙ is))
+          ∙ sym (ap (λ b. links_of b (name_count made ino) (is_linked made ino)) w.same_body))
           (w.same_links ∙ g.links dir d w.at ∙ ap (links_of d.body (name_count rs dir)) (sym (same_linked dir apart)) ∙ shows_links d.body _ _ (name_count rs dir) (name_count made dir) (is_linked made dir) w.directory ∙ ap (λ b. links_of b (name_count made dir) (is_linked made dir)) (sym w.parted))
           (λ q r ne nd was. g.links q r was ∙ ap (λ n. links_of r.body n (is_linked rs q)) (sym (same_count q ne)) ∙ ap (links_of r.body (name_count made q)) (sym (same_linked q ne)));
       once = by_place (λ q r. IsTrue (is_directory r.body) → name_count made q ≤ 1)
-          (λ is. absurd (not_directory is))
+          (λ is. let none = unnamed is in omega arith)
           (λ is. let le = g.once dir d w.at w.directory in let same = same_count dir apart in omega arith)
           (λ q r ne nd was is. let le = g.once q r was is in let same = same_count q ne in omega arith);
       above = λ q r es n up at is live ne. by_place (λ q r. (es : List Entry) (n up : ℕ) → r.body ≡ Directory es n up → IsTrue (is_linked made q) → q ≢ top → IfSome (get made up) (λ r. 1 ≤ names_in q r))
-          (λ es n up is live ne. absurd (not_directory (ap is_directory is)))
+          (λ es n up is live ne. absurd (not_live (ap is_directory is) live))
           (λ es n up is live ne.
           let old = same_above es n up is in
           let was = sym (same_linked dir apart) ∙ live in
@@ -194,7 +222,7 @@ module _ (t : Tree) (g : IsGoodTree t) (dir ino : ℕ) (name : List ℕ) (e : En
           still_above q up nn (g.above q r es n up at is was ne))
           q r at es n up is live ne;
       climbs = by_place (λ q r. IsTrue (is_directory r.body) → IsTrue (is_linked made q) → ∥ ((n : ℕ) × Climbs made n q) ∥₁)
-          (λ is live. absurd (not_directory is))
+          (λ is live. absurd (not_live is live))
           (λ is live. ∥∥₁_map (g.climbs dir d w.at w.directory w.live) (λ c. (c.0, climbs_on c.0 dir c.1)))
           (λ q r ne nd was is live. ∥∥₁_map (g.climbs q r was is (sym (same_linked q ne) ∙ live)) (λ c. (c.0, climbs_on c.0 q c.1)));
       emptied = by_place (λ q r. is_linked made q ≡ false → listed r.body ≡ [])

@@ -12,3 +12,4 @@ pub mod Samples
 pub mod Placing
 pub mod Attributing
 pub mod Unlinking
+pub mod Creating

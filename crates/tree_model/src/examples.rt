@@ -1,15 +1,17 @@
 //! Definitions computed on a small tree: a top directory with the file `hello`, inode 2, of five bytes.
 ghost use Rattle.std.specs.Prelude.{◌≡◌, ℕ, Bool, Ok, Err, Some, None, [], ◌∷◌, codes};
-ghost use Rattle.port_base.specs.declared.errno.TheConstants.{EPERM, ENOENT, EEXIST, ENOTDIR, EISDIR, EINVAL, EFBIG, ELOOP, EOPNOTSUPP};
+ghost use Rattle.port_base.specs.declared.errno.TheConstants.{EPERM, ENOENT, EEXIST, ENOTDIR, EISDIR, EINVAL, EFBIG, ENOTEMPTY, ELOOP, EOPNOTSUPP};
 ghost use Rattle.tree_model.specs.declared.attributes.Kind.TheVariants as kind;
-ghost use Rattle.tree_model.specs.Samples.{born, sample, hello};
+ghost use Rattle.tree_model.specs.Samples.{born, alone, sample, hello};
 ghost use Rattle.tree_model.specs.Tree.{keep};
-ghost use Rattle.tree_model.specs.Tree.Body.{Link};
+ghost use Rattle.tree_model.specs.Tree.Body.{Directory, Link};
+ghost use Rattle.tree_model.specs.Making.{top_record};
 ghost use Rattle.tree_model.specs.Placing.{add_directory_of, add_link_of, add_hard_of, with_record, with_link, directory_record, link_record};
 ghost use Rattle.tree_model.specs.Attributing.{resized, written, fitting, set_len_of, write_of, set_times_of, refused_for_link, with_changed, retimed, rewritten_at};
 ghost use Rattle.tree_model.specs.Opening.{open_check_of, open_refused, read_of, readlink_of, readlink_body, found_at};
 ghost use Rattle.tree_model.specs.Attributes.{statfs_of};
-ghost use Rattle.tree_model.specs.Unlinking.{without, without_entry, unless_directory, unlink_of};
+ghost use Rattle.tree_model.specs.Creating.{stamped, with_new, with_name, empty_file, empty_directory, create_of, mkdir_of, link_of};
+ghost use Rattle.tree_model.specs.Unlinking.{without, links_left, without_entry, unless_directory, if_empty, unlink_of, rmdir_of};
 ghost use Rattle.tree_model.specs.declared.attributes.TimeSet.TheVariants.{Keep, Now, At};
 
 /// Opens of the file and of the directory, and the kinds that flags refuse.
@@ -80,4 +82,28 @@ pub fn unlinking()
     ensures missing { (held : ℕ → Bool) → unlink_of held sample 1 (codes "b") ≡ Err ENOENT }
     ensures below_file { (held : ℕ → Bool) → unlink_of held sample 2 hello ≡ Err ENOTDIR }
     ensures directory { unless_directory sample.records (Ok 1) ≡ Err EISDIR }
+{}
+
+/// What is created, made or linked beside the file, and what is refused.
+pub fn creating()
+    ensures file { create_of sample 1 (codes "b") 33261 ≡ Ok (3, with_new sample 1 (codes "b") (empty_file born 493)) }
+    ensures there { create_of sample 1 hello 420 ≡ Err EEXIST }
+    ensures below_file { create_of sample 2 (codes "b") 420 ≡ Err ENOTDIR }
+    ensures directory { mkdir_of sample 1 (codes "d") 493 ≡ Ok (record { ino = 3; kind = kind.Directory; mode = 493; uid = 0; gid = 0; links = 2; size = 0; atime = born; mtime = born; ctime = born }, with_new sample 1 (codes "d") (empty_directory born 493 1)) }
+    ensures directory_there { mkdir_of sample 1 hello 493 ≡ Err EEXIST }
+    ensures name { link_of sample 2 1 (codes "b") ≡ Ok (tt, with_name sample 1 (codes "b") 2) }
+    ensures name_there { link_of sample 2 1 hello ≡ Err EEXIST }
+    ensures name_of_directory { link_of sample 1 1 (codes "b") ≡ Err EPERM }
+    ensures stamps { stamped (record { sec = 9; nsec = 0 }) (top_record born 493 1 2) ≡ record (top_record born 493 1 2) { mtime = record { sec = 9; nsec = 0 }; ctime = record { sec = 9; nsec = 0 } } }
+{}
+
+/// Directories that are taken away, whatever is held, and what is refused.
+pub fn removing()
+    ensures empty { if_empty alone.records (Ok 1) ≡ Ok 1 }
+    ensures filled { if_empty sample.records (Ok 1) ≡ Err ENOTEMPTY }
+    ensures file { (held : ℕ → Bool) → rmdir_of held sample 1 hello ≡ Err ENOTDIR }
+    ensures missing { (held : ℕ → Bool) → rmdir_of held sample 1 (codes "b") ≡ Err ENOENT }
+    ensures below_file { (held : ℕ → Bool) → rmdir_of held sample 2 hello ≡ Err ENOTDIR }
+    ensures directory_links { links_left (Directory [] 1 1) 2 ≡ 0 }
+    ensures file_links { links_left (Link hello) 2 ≡ 1 }
 {}

@@ -9,7 +9,8 @@ ghost use Rattle.tree_model.specs.Making.{new_tree, NewFile, add_file_of};
 ghost use Rattle.tree_model.specs.Placing.{add_directory_of, add_link_of, add_hard_of};
 ghost use Rattle.tree_model.specs.Attributes.{stat_of};
 ghost use Rattle.tree_model.specs.Attributing.{set_mode_of, set_owner_of, touch_ctime_of, set_times_of, set_len_of, write_of};
-ghost use Rattle.tree_model.specs.Unlinking.{unlink_of};
+ghost use Rattle.tree_model.specs.Unlinking.{unlink_of, rmdir_of};
+ghost use Rattle.tree_model.specs.Creating.{create_of, mkdir_of, link_of};
 ghost use Rattle.tree_model.specs.Reading.{record_after_of};
 ghost use Rattle.tree_model.specs.declared.attributes.Attr.{Attr};
 ghost use Rattle.tree_model.specs.declared.attributes.Stamp.{Stamp};
@@ -105,6 +106,26 @@ pub fn trees_with_written_bytes_are_good()
 /// A good tree stays good where a name of a file or a link is taken away, whatever is held.
 pub fn trees_without_a_name_are_good()
     ensures { (held : ℕ → Bool) (t u : Tree) (dir : ℕ) (name : List ℕ) → IsGoodTree t → unlink_of held t dir name ≡ Ok (tt, u) → IsGoodTree u }
+{}
+
+/// A good tree stays good where an empty directory is taken away, whatever is held.
+pub fn trees_without_a_directory_are_good()
+    ensures { (held : ℕ → Bool) (t u : Tree) (dir : ℕ) (name : List ℕ) → IsGoodTree t → rmdir_of held t dir name ≡ Ok (tt, u) → IsGoodTree u }
+{}
+
+/// A good tree stays good where a file is created.
+pub fn trees_with_a_created_file_are_good()
+    ensures { (t u : Tree) (dir : ℕ) (name : List ℕ) (mode ino : ℕ) → IsGoodTree t → name_fault name ≡ None → create_of t dir name mode ≡ Ok (ino, u) → IsGoodTree u }
+{}
+
+/// A good tree stays good where a directory is made.
+pub fn trees_with_a_made_directory_are_good()
+    ensures { (t u : Tree) (dir : ℕ) (name : List ℕ) (mode : ℕ) (a : Attr) → IsGoodTree t → name_fault name ≡ None → mkdir_of t dir name mode ≡ Ok (a, u) → IsGoodTree u }
+{}
+
+/// A good tree stays good where a file or a link is linked once more.
+pub fn trees_with_one_more_link_are_good()
+    ensures { (t u : Tree) (dir ino : ℕ) (name : List ℕ) → IsGoodTree t → name_fault name ≡ None → link_of t ino dir name ≡ Ok (tt, u) → IsGoodTree u }
 {}
 
 /// The record that is told next is stored under its number, which is above the one asked for.

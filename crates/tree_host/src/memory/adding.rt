@@ -17,7 +17,7 @@ impl TreeHost {
     ghost use Rattle.tree_host.specs.TreeHosts.{tree, birth, new_file, KeepsRest};
 
     // The first refusal of a new name in a directory.
-    fn create_refusal(&self, dir: u64, name: &[u8]) -> Option<u32>
+    pub(super) fn create_refusal(&self, dir: u64, name: &[u8]) -> Option<u32>
         ensures { result ≡ create_refused (tree self.now) dir name.now }
     {
         refusal(&self.nodes, dir, name, self.next, self.limits.entries)
@@ -122,7 +122,7 @@ impl TreeHost {
     }
 
     // The first refusal of one more name of a record.
-    fn name_refusal(&self, dir: u64, name: &[u8], ino: u64) -> Option<u32>
+    pub(super) fn name_refusal(&self, dir: u64, name: &[u8], ino: u64) -> Option<u32>
         ensures { result ≡ link_refused (is_linked (tree self.now).records dir) (tree self.now).limits name.now (body_at (tree self.now).records dir) (map.get (tree self.now).records ino) }
     {
         link_refusal(&self.nodes, dir, name, ino, self.limits)

@@ -1,5 +1,5 @@
 ghost use Rattle.std.specs.Prelude.{◌≡◌, ◌<◌};
-ghost use Rattle.tree_host.specs.TreeHosts.{IsGoodItem, IsStoredItem, tree};
+ghost use Rattle.tree_host.specs.TreeHosts.{IsGoodItem, IsStoredItem, tree, holds};
 
 use super::{NewItem, TreeHost};
 use port_base::errno::{EEXIST, ENOTDIR, EPERM};
@@ -25,6 +25,7 @@ fn put(
 ) -> Result<u64, HostError>
     requires item { IsGoodItem item }
     requires there { IsStoredItem (tree host.old).records item }
+    ensures { holds host.new ≡ holds host.old }
 {
     assert!(rt; name_fault(name).is_none());
     assert!(rt; host.nodes.contains_key(dir));
@@ -56,7 +57,14 @@ fn put_directory(
     put(rt, host, dir, name, item)
 }
 
-fn put_link(rt: &impl Abort, host: &mut TreeHost, dir: u64, name: &[u8]) -> Result<u64, HostError> {
+pub(super) fn put_link(
+    rt: &impl Abort,
+    host: &mut TreeHost,
+    dir: u64,
+    name: &[u8],
+) -> Result<u64, HostError>
+    ensures { holds host.new ≡ holds host.old }
+{
     let item = NewItem::Link {
         uid: 7,
         gid: 8,

@@ -1,6 +1,6 @@
 //! Names that go.
-ghost use Rattle.std.specs.Prelude.{◌≡◌, ◌<◌, IfSome, length};
-ghost use Rattle.tree_model.specs.Unlinking.{without, parted_by, one_link_less};
+ghost use Rattle.std.specs.Prelude.{◌≡◌, ◌<◌, Some, IfSome, length};
+ghost use Rattle.tree_model.specs.Unlinking.{without, parted_by, links_left, one_name_less, is_empty_at};
 ghost use Rattle.tree_host.specs.Stored.{place_among};
 
 use super::{Name, Node, Stored};
@@ -36,11 +36,33 @@ impl Node {
         self.ctime = moment;
     }
 
-    /// One entry less names it.
-    pub fn link_less(&mut self, moment: Stamp)
-        ensures { self.new ≡ one_link_less moment self.old }
+    /// Whether it lists nothing.
+    pub fn is_empty(&self) -> bool
+        ensures { result ≡ is_empty_at (Some self.now.body) }
     {
-        self.links = self.links.saturating_sub(1);
+        match &self.body {
+            Stored::Bytes(_) => true,
+            Stored::Names { entries, .. } => entries.is_empty(),
+            Stored::Target(_) => true,
+        }
+    }
+
+    // The links that are left when an entry goes.
+    fn links_left(&self) -> u64
+        ensures { result ≡ links_left self.now.body self.now.links }
+    {
+        if self.is_directory() {
+            0
+        } else {
+            self.links.saturating_sub(1)
+        }
+    }
+
+    /// One entry less names it.
+    pub fn name_less(&mut self, moment: Stamp)
+        ensures { self.new ≡ one_name_less moment self.old }
+    {
+        self.links = self.links_left();
         self.ctime = moment;
     }
 }

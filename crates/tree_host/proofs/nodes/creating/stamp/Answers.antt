@@ -2,14 +2,14 @@
 use Rattle.std.proofs.Common.{◌≡◌, ap, ◌∙◌, subst, OnSome}
 use Rattle.std.specs.FinMap as map
 use Rattle.tree_model.specs.Making.{changed}
-use Rattle.tree_model.specs.Unlinking.{one_link_less}
-use Rattle.tree_host.proofs.nodes.link_less.Goals as goal
+use Rattle.tree_model.specs.Creating.{stamped}
+use Rattle.tree_host.proofs.nodes.creating.stamp.Goals as goal
 
 pub returns-in-Some : goal.returns-in-Some
 returns-in-Some c =
     let rs = c.args.nodes.now in
-    let i = c.args.ino in
-    let w = c.link_less.new.self in
+    let i = c.args.dir in
+    let w = c.stamp.new.self in
     subst (λ o. OnSome o (c.get_mut.follows.lender w ≡ map.insert rs i w)) c.in-Some.is (c.get_mut.follows.holds w)
-    ∙ ap (λ r. map.insert rs i r) c.link_less.ensures
-    ∙ ap (λ o. changed (one_link_less c.args.moment) o rs i) c.in-Some.ensures.value
+    ∙ ap (λ r. map.insert rs i r) c.stamp.ensures
+    ∙ ap (λ o. changed (stamped c.args.moment) o rs i) c.in-Some.ensures.value

@@ -1,0 +1,8 @@
+-- The lemma on entries that go.
+use Rattle.tree_model.specs.Finding.{lookup_of}
+use Rattle.tree_model.specs.Unlinking.{if_empty}
+use Rattle.tree_model.proofs.Leaving.{empty_only, removed_good}
+use Rattle.tree_model.proofs.laws.trees_without_a_directory_are_good.Goals as goal
+
+pub returns : goal.returns
+returns c = λ held t u dir name g made. removed_good held t u g dir name (if_empty t.records (lookup_of t dir name)) (empty_only t.records (lookup_of t dir name)) made
