@@ -21,10 +21,10 @@ pub returns-then-len-asked-clause-served : goal.returns-then-len-asked-clause-se
 returns-then-len-asked-clause-served g c =
     let longer : c.extend_from_slice.new.self.items ≡ c.pieces.bytes.items ++ c.in-Ok.data.0.items = c.in-Ok-extend_from_slice.ensures.items ∙ ap (λ (xs : List ℕ). c.pieces.bytes.items ++ xs) c.deref.ensures.value in
     let ends : (length c.in-Ok.data.0.items < c.min-asked.result) ⊎ (length c.extend_from_slice.new.self.items ≡ c.args.size) =
-        elim c.then-len-asked.branch [
-          then-len-asked-via-then-len-asked w ↦ inl (omega (arith, w.if-len-asked.true, c.in-Ok.data.0.ok.0))
-        | then-len-asked-via-else-len-asked+then-len-size w ↦ inr (omega (arith, w.if-len-size.true, w.len-else-len-asked.ensures, c.extend_from_slice.new.self.ok.0))
-        ] in
+    elim c.then-len-asked.branch [
+      | then-len-asked-via-then-len-asked w ↦ inl (omega (arith, w.if-len-asked.true, c.in-Ok.data.0.ok.0))
+      | then-len-asked-via-else-len-asked+then-len-size w ↦ inr (omega (arith, w.if-len-size.true, w.len-else-len-asked.ensures, c.extend_from_slice.new.self.ok.0))
+    ] in
     finished c.requires.stands c.requires.opened c.args.offset c.args.size c.pieces.invariant _ c.min-asked.result (omega (arith, c.pieces.bytes.ok.0)) (omega (arith, c.pieces.bytes.ok.0))
     c.count_message.new.self (g.N.Nine.state c.read.new.nine) _ _ c.in_ok-told.told c.count_message.ensures c.in_ok-told.ensures.asked c.in_ok-told.ensures.answer c.in-Ok.data c.in-Ok.is c.extend_from_slice.new.self.items longer
     (g.met.N.Nine.good c.args.nine.now) ends

@@ -1,5 +1,5 @@
 -- There is room for each reply.
-use Rattle.std.proofs.Common.{ap, length, subst, arith}
+use Rattle.std.proofs.Common.{ap, length, arith}
 use Rattle.fuse_gate.specs.declared.gate.reply.Reply.TheVariants.{Refused, Granted, Entry, Attr, Opened, Bytes, Done}
 use Rattle.fuse_gate.proofs.Replying.{room}
 use Rattle.fuse_gate.proofs.gate.reply.write_reply.Goals as goal

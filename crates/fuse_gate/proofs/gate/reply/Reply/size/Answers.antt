@@ -13,13 +13,13 @@ nothing r is = ⊎_elim (λ e. sym (ap (λ (r : Reply). body_size (plain r)) e.1
 pub returns : goal.returns
 returns c =
     let size : c.match-self.body ≡ body_size (plain c.args.self.now) =
-        elim c.match-self.branch [
-          in-Granted w ↦ w.body-is ∙ sym (ap (λ (r : Reply). body_size (plain r)) w.in-Granted.is)
-        | in-Entry w ↦ w.body-is ∙ sym (ap (λ (r : Reply). body_size (plain r)) w.in-Entry.is)
-        | in-Attr w ↦ w.body-is ∙ sym (ap (λ (r : Reply). body_size (plain r)) w.in-Attr.is)
-        | in-Opened w ↦ w.body-is ∙ sym (ap (λ (r : Reply). body_size (plain r)) w.in-Opened.is)
-        | in-Bytes w ↦ w.body-is ∙ w.len-body.ensures ∙ w.in-Bytes.bytes.ok.0 ∙ sym (ap (λ (r : Reply). body_size (plain r)) w.in-Bytes.is)
-        | in-Refused w ↦ w.body-is ∙ nothing c.args.self.now w.in-Refused.is
-        | in-Refused-2 w ↦ w.body-is ∙ nothing c.args.self.now w.in-Refused.is
-        ] in
+    elim c.match-self.branch [
+      | in-Granted w ↦ w.body-is ∙ sym (ap (λ (r : Reply). body_size (plain r)) w.in-Granted.is)
+      | in-Entry w ↦ w.body-is ∙ sym (ap (λ (r : Reply). body_size (plain r)) w.in-Entry.is)
+      | in-Attr w ↦ w.body-is ∙ sym (ap (λ (r : Reply). body_size (plain r)) w.in-Attr.is)
+      | in-Opened w ↦ w.body-is ∙ sym (ap (λ (r : Reply). body_size (plain r)) w.in-Opened.is)
+      | in-Bytes w ↦ w.body-is ∙ w.len-body.ensures ∙ w.in-Bytes.bytes.ok.0 ∙ sym (ap (λ (r : Reply). body_size (plain r)) w.in-Bytes.is)
+      | in-Refused w ↦ w.body-is ∙ nothing c.args.self.now w.in-Refused.is
+      | in-Refused-2 w ↦ w.body-is ∙ nothing c.args.self.now w.in-Refused.is
+    ] in
     sized (plain c.args.self.now) c.match-self.body size
