@@ -1,6 +1,5 @@
 -- What a run tells outside, from the answer of its loop.
 use Rattle.std.proofs.Common.{◌≡◌, ℕ, Ok, Err, inl, inr, subst, sym}
-use Rattle.fuse_wire.specs.Cuts.End.{turns_spent, torn, bad_length}
 use Rattle.frame_pump.specs.Sessions.{Session, Stays}
 use Rattle.frame_pump.specs.Ends.{pump_error}
 use Rattle.frame_pump.specs.Turns.{Streams, WriteStopped, MemoryStopped, HaltsBy, StopsBy, Completes, Runs}
@@ -28,9 +27,9 @@ module _ (s0 s1 : Session) (stands : Type 0) (p0 p1 : Streams) (turns handled : 
   halt_stays cause.NoMemory h = memory_stays h.1
 
   stops : (e : Cause) → HaltsBy s0 s1 stands p0 p1 turns handled e → StopsBy s0 s1 stands p0 p1 turns handled (pump_error e)
-  stops cause.Torn h = (h.0, h.1, (torn, (λ same. (cc)), h.2))
-  stops cause.BadLength h = (h.0, h.1, (bad_length, (λ same. (cc)), h.2))
-  stops cause.TurnsSpent h = (h.0, h.1, (turns_spent, (λ same. (cc)), h.2))
+  stops cause.Torn h = h
+  stops cause.BadLength h = h
+  stops cause.TurnsSpent h = h
   stops cause.Read h = h
   stops cause.Write h = h
   stops cause.NoMemory h = h

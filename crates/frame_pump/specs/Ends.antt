@@ -9,5 +9,5 @@ pump_error cause.NoMemory = error.NoMemory
 pump_error cause.Read = error.Read
 pump_error cause.Write = error.Write
 pump_error cause.Torn = error.Torn
-pump_error cause.BadLength = error.Torn
-pump_error cause.TurnsSpent = error.Torn
+pump_error cause.BadLength = error.BadLength
+pump_error cause.TurnsSpent = error.TurnsSpent

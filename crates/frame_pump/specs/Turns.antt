@@ -1,5 +1,5 @@
 -- What a turn and a whole run leave, by their answers.
-use Rattle.std.specs.Prelude.{◌≡◌, ◌≢◌, ◌⊎◌, ℕ, Bool, true, false, List, [], ◌∷◌, ◌++◌, length, take, Option, IfSome, Result, Ok, Err}
+use Rattle.std.specs.Prelude.{◌≡◌, ◌⊎◌, ℕ, Bool, true, false, List, [], ◌∷◌, ◌++◌, length, take, Option, IfSome, Result, Ok, Err}
 use Rattle.std.specs.Io.KnownBytes.{Appends, Consumes, Keeps, IsAtEnd}
 use Rattle.std.specs.List.{concat}
 use Rattle.port_base.specs.Faults.{Faulted}
@@ -146,7 +146,9 @@ Loops s0 s1 stands p0 p1 turns (Err halt) = HaltsBy s0 s1 stands p0 p1 turns hal
 
 -- a run stopped, by the cause that is told outside
 abbrev pub StopsBy : Session → Session → Type 0 → Streams → Streams → ℕ → ℕ → PumpError → Type 0
-StopsBy s0 s1 stands p0 p1 turns handled error.Torn = Quiet p0 p1 × stands × ((end : End) × (end ≢ done) × Ended s0 s1 p0 p1 turns handled end)
+StopsBy s0 s1 stands p0 p1 turns handled error.Torn = Quiet p0 p1 × stands × Ended s0 s1 p0 p1 turns handled torn
+StopsBy s0 s1 stands p0 p1 turns handled error.BadLength = Quiet p0 p1 × stands × Ended s0 s1 p0 p1 turns handled bad_length
+StopsBy s0 s1 stands p0 p1 turns handled error.TurnsSpent = Quiet p0 p1 × stands × Ended s0 s1 p0 p1 turns handled turns_spent
 StopsBy s0 s1 stands p0 p1 turns handled error.Read = ReadFailed p0 p1 × stands × ReadStopped s0 s1 p0 p1 turns handled
 StopsBy s0 s1 stands p0 p1 turns handled error.Write = WriteFailed p0 p1 × stands × WriteStopped s0 s1 p0 p1 turns handled
 StopsBy s0 s1 stands p0 p1 turns handled error.NoMemory = Quiet p0 p1 × MemoryStopped s0 s1 p0 p1 turns handled

@@ -32,8 +32,12 @@ pub enum PumpError {
     Write,
     /// The share could not be attached to, with an error number of the system.
     Attach(u32),
-    /// The input didn't end at a frame's end, or not after the frames for which there were turns.
+    /// The input ended within a frame.
     Torn,
+    /// Four bytes told a length that no frame has.
+    BadLength,
+    /// Another byte followed the last frame for which there was a turn.
+    TurnsSpent,
 }
 
 /// Why the loop stopped.
@@ -62,7 +66,7 @@ pub struct Halt {
 }
 
 impl Cause {
-    /// The cause as it is told outside: each end of the input but the good one is `Torn`.
+    /// The cause as it is told outside.
     pub fn told(self) -> PumpError
         ensures { result ≡ pump_error self }
     {
@@ -70,7 +74,9 @@ impl Cause {
             Cause::NoMemory => PumpError::NoMemory,
             Cause::Read => PumpError::Read,
             Cause::Write => PumpError::Write,
-            Cause::Torn | Cause::BadLength | Cause::TurnsSpent => PumpError::Torn,
+            Cause::Torn => PumpError::Torn,
+            Cause::BadLength => PumpError::BadLength,
+            Cause::TurnsSpent => PumpError::TurnsSpent,
         }
     }
 }

@@ -114,8 +114,8 @@ fn handle_frames<A: Answerer<N>, N, S: Source, K: Sink>(
 
 /// Answers the frames of the input, at most so many, one after another: each reply is sent in whole before the
 /// next frame is taken. `Ok`: the input ended at a frame's end. `NoMemory`: the unfinished reply wasn't sent,
-/// and no further frame may be answered. `Read`, `Write`: that stream failed. `Torn`: the input doesn't end at
-/// a frame's end, or not after so many frames.
+/// and no further frame may be answered. `Read`, `Write`: that stream failed. `Torn`: the input ends within
+/// a frame. `BadLength`: a length that no frame has. `TurnsSpent`: more bytes follow after so many frames.
 pub fn run_frames<A: Answerer<N>, N, S: Source, K: Sink>(
     alloc: Global,
     answerer: &mut A,

@@ -95,12 +95,12 @@ fn each_end_of_the_input(rt: HostRuntime) -> Result<(), Fail> {
         (0, 0, 0, None),
         (81, 2, 2, None),
         (81, 9, 2, None),
-        (85, 9, 2, Some(PumpError::Torn)),
+        (85, 9, 2, Some(PumpError::BadLength)),
         (84, 9, 2, Some(PumpError::Torn)),
         (80, 9, 1, Some(PumpError::Torn)),
         (43, 9, 1, Some(PumpError::Torn)),
-        (40, 0, 0, Some(PumpError::Torn)),
-        (81, 1, 1, Some(PumpError::Torn)),
+        (40, 0, 0, Some(PumpError::TurnsSpent)),
+        (81, 1, 1, Some(PumpError::TurnsSpent)),
     ];
     for (size, turns, handled, end) in cases {
         let mut answerer = Failing { failed: 0 };

@@ -34,6 +34,8 @@ module _ (n0 nm nr n1 : Served) (g gr : Gate) (stands : Type 0) (p0 p1 : Streams
 -- what stands for the session at its end is not told further
 unstood : (s0 s1 : Session) (stands : Type 0) (p0 p1 : Streams) (turns handled : ℕ) (e : PumpError) → StopsBy s0 s1 stands p0 p1 turns handled e → StopsBy s0 s1 (Unit {0}) p0 p1 turns handled e
 unstood s0 s1 stands p0 p1 turns handled error.Torn h = (h.0, tt, h.2)
+unstood s0 s1 stands p0 p1 turns handled error.BadLength h = (h.0, tt, h.2)
+unstood s0 s1 stands p0 p1 turns handled error.TurnsSpent h = (h.0, tt, h.2)
 unstood s0 s1 stands p0 p1 turns handled error.Read h = (h.0, tt, h.2)
 unstood s0 s1 stands p0 p1 turns handled error.Write h = (h.0, tt, h.2)
 unstood s0 s1 stands p0 p1 turns handled error.NoMemory h = h

@@ -19,7 +19,9 @@ module _ (n0 n1 : Served) (s0 s1 : Session) (b : Opens n0 s0) (e : Closes s1 n1)
       let before = h.2.answered in
       let last = h.2.answers in
       counted (before.number + last.number) (omega (arith, before.sent, last.sent)) (omega (arith, before.asked, last.asked))
-  stopped p0 p1 turns handled error.Torn h = counted h.2.2.answered.number h.2.2.answered.sent h.2.2.answered.asked
+  stopped p0 p1 turns handled error.Torn h = counted h.2.answered.number h.2.answered.sent h.2.answered.asked
+  stopped p0 p1 turns handled error.BadLength h = counted h.2.answered.number h.2.answered.sent h.2.answered.asked
+  stopped p0 p1 turns handled error.TurnsSpent h = counted h.2.answered.number h.2.answered.sent h.2.answered.asked
   stopped p0 p1 turns handled (error.Attach errno) h = absurd h
 
 pub TellsMessages-from : (n0 n1 : Served) (p0 p1 : Streams) (turns : ℕ) (result : Result Pumped Stopped) → PumpsBy n0 n1 p0 p1 turns result → TellsMessages n0.asked n1.asked result

@@ -82,6 +82,8 @@ TellsStopped error.NoMemory a0 sent a1 = Unit {0}
 TellsStopped error.Read a0 sent a1 = Counted a0 sent a1
 TellsStopped error.Write a0 sent a1 = Counted a0 sent a1
 TellsStopped error.Torn a0 sent a1 = Counted a0 sent a1
+TellsStopped error.BadLength a0 sent a1 = Counted a0 sent a1
+TellsStopped error.TurnsSpent a0 sent a1 = Counted a0 sent a1
 TellsStopped (error.Attach errno) a0 sent a1 = Counted a0 sent a1
 
 abbrev pub TellsMessages : ℕ → ℕ → Result Pumped Stopped → Type 0

@@ -36,7 +36,8 @@ impl<N: Nine> Answerer<N> for Gate {
 /// Attaches to the root of a server's share, answers the frames of the input, at most so many, and takes the
 /// server's fids away, whatever the answer. `Ok`: the input ended at a frame's end. `Attach`: as `Gate::new` refuses, with nothing
 /// read or written. `NoMemory`: no part of the unfinished reply was written. `Read`, `Write`: that stream
-/// failed. `Torn`: the input doesn't end at a frame's end, or not after so many frames.
+/// failed. `Torn`: the input ends within a frame. `BadLength`: a length that no frame has. `TurnsSpent`: more
+/// bytes follow after so many frames.
 pub fn pump<N: Nine, S: Source, K: Sink>(
     alloc: Global,
     nine: &mut N,
