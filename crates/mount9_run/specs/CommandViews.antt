@@ -3,6 +3,7 @@ use Rattle.std.specs.Prelude.{◌≡◌, ℕ, List, Option, Some, None, Result, 
 use Rattle.std.specs.Global.{Global}
 use Rattle.mount9_run.specs.Command.{Draft, Serve}
 use Rattle.mount9_run.specs.declared.command.DraftWords.{DraftWords}
+use Rattle.mount9_run.specs.declared.command.ShareWords.{ShareWords}
 use Rattle.mount9_run.specs.declared.command.Command.{Command}
 use Rattle.mount9_run.specs.declared.command.Command.TheVariants as command
 use Rattle.mount9_run.specs.declared.command.WordsError.{WordsError}
@@ -12,10 +13,13 @@ abbrev pub slot_view : Option (Vec ℕ Global) → Option (List ℕ)
 slot_view slot = option_map (λ (v : Vec ℕ Global). v.items) slot
 
 abbrev pub draft_view : DraftWords → Draft
-draft_view d = record { target = slot_view d.target; root = slot_view d.root }
+draft_view d = record { target = slot_view d.target; root = slot_view d.root; msize = d.msize; turns = d.turns; ids = d.ids }
+
+abbrev pub share_view : ShareWords → Serve
+share_view s = record { target = s.target.items; root = s.root.items; msize = s.msize; turns = s.turns; ids = s.ids }
 
 abbrev pub serve_view : Command → Serve
-serve_view (command.Serve target root) = record { target = target.items; root = root.items }
+serve_view (command.Serve s) = share_view s
 
 -- the words are refused where the definition refuses them; memory may be wanted at any time
 abbrev pub Refuses : {A : Type 0} → WordsError → Option A → Type 0

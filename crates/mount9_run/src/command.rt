@@ -1,19 +1,43 @@
 //! What the words of the command line say.
 ghost use Rattle.std.specs.Prelude.{◌≡◌, drop, bytes_eq, codes, ◌&&◌, option_map, option_and_then, Option};
-ghost use Rattle.mount9_run.specs.Command.{is_top, once, with_word, with_words, no_words, finished, is_serve, command};
+ghost use Rattle.mount9_run.specs.Command.{is_top, once, text_in_form, number_in, with_word, with_words, no_words, finished, is_serve, command};
 ghost use Rattle.mount9_run.specs.CommandViews.{slot_view, draft_view, serve_view, GivesWords};
 ghost use Rattle.mount9_run.specs.Paths.{is_path};
 
+use crate::header::numbers::number_in;
 use crate::path::is_path;
 use crate::text::split_once;
 use port_base::words::Words;
 use std::alloc::Global;
 
+/// The greatest size of a 9P message, in bytes, where the words don't tell it.
+pub const MSIZE: u32 = 65560;
+
+/// How many frames a run handles at most, where the words don't tell it.
+pub const TURNS: u32 = 4096;
+
+/// How many node ids and handles there are at most, where the words don't tell it.
+pub const FID_LIMIT: u32 = 1024;
+
+/// What is to be served, and how.
+#[derive(Debug, Drop)]
+pub struct ShareWords {
+    /// The path to mount on.
+    pub target: Vec<u8>,
+    /// The directory that is shared.
+    pub root: Vec<u8>,
+    /// The greatest size of a 9P message, in bytes.
+    pub msize: u32,
+    /// How many frames are handled at most.
+    pub turns: u32,
+    /// How many node ids and handles there are at most.
+    pub ids: u32,
+}
+
 /// What the words command.
 #[derive(Debug, Drop)]
 pub enum Command {
-    /// To serve the directory `root` of the tree, mounted at `target`.
-    Serve { target: Vec<u8>, root: Vec<u8> },
+    Serve(ShareWords),
 }
 
 /// Why words are refused.
@@ -29,6 +53,9 @@ pub enum WordsError {
 struct DraftWords {
     target: Option<Vec<u8>>,
     root: Option<Vec<u8>>,
+    msize: Option<u32>,
+    turns: Option<u32>,
+    ids: Option<u32>,
 }
 
 fn is_top(path: &[u8]) -> bool
@@ -38,13 +65,13 @@ fn is_top(path: &[u8]) -> bool
 }
 
 // Takes the value of a key that comes for the first time, if it is in form.
-fn take_once(
+fn take_text(
     alloc: Global,
     slot: &mut Option<Vec<u8>>,
     in_form: bool,
     value: &[u8],
 ) -> Result<(), WordsError>
-    ensures { GivesWords (λ _. slot_view slot.new) result (option_map Some (once (λ _. in_form) (slot_view slot.old) value.now)) }
+    ensures { GivesWords (λ _. slot_view slot.new) result (option_map Some (once (slot_view slot.old) (text_in_form (λ _. in_form) value.now))) }
 {
     if slot.is_some() || !in_form {
         return Err(WordsError::Words);
@@ -56,6 +83,27 @@ fn take_once(
     Ok(())
 }
 
+// Takes the number of a key that comes for the first time, if it is from `low` to `high`.
+fn take_number(
+    slot: &mut Option<u32>,
+    low: u32,
+    high: u32,
+    value: &[u8],
+) -> Result<(), WordsError>
+    ensures { GivesWords (λ _. slot.new) result (option_map Some (once slot.old (number_in low high value.now))) }
+{
+    if slot.is_some() {
+        return Err(WordsError::Words);
+    }
+    match number_in(low as u64, high as u64, value) {
+        Some(n) => {
+            *slot = Some(n as u32);
+            Ok(())
+        }
+        None => Err(WordsError::Words),
+    }
+}
+
 #[tactic(auto, unfolding(crate::specs::Command::with_word))]
 fn take_word(alloc: Global, draft: &mut DraftWords, word: &[u8]) -> Result<(), WordsError>
     ensures { GivesWords (λ _. draft_view draft.new) result (with_word (draft_view draft.old) word.now) }
@@ -64,9 +112,15 @@ fn take_word(alloc: Global, draft: &mut DraftWords, word: &[u8]) -> Result<(), W
         return Err(WordsError::Words);
     };
     if key == b"target".as_slice() {
-        take_once(alloc, &mut draft.target, is_path(value), value)
+        take_text(alloc, &mut draft.target, is_path(value), value)
     } else if key == b"root".as_slice() {
-        take_once(alloc, &mut draft.root, is_top(value), value)
+        take_text(alloc, &mut draft.root, is_top(value), value)
+    } else if key == b"msize".as_slice() {
+        take_number(&mut draft.msize, 256, 65560, value)
+    } else if key == b"turns".as_slice() {
+        take_number(&mut draft.turns, 1, 8192, value)
+    } else if key == b"ids".as_slice() {
+        take_number(&mut draft.ids, 0, 1000000, value)
     } else {
         Err(WordsError::Words)
     }
@@ -79,6 +133,9 @@ fn read_keys(alloc: Global, words: &Words) -> Result<DraftWords, WordsError>
     let mut draft = DraftWords {
         target: None,
         root: None,
+        msize: None,
+        turns: None,
+        ids: None,
     };
     'words: for i in 1..words.len() {
         let Some(word) = words.get(i) else {
@@ -92,24 +149,25 @@ fn read_keys(alloc: Global, words: &Words) -> Result<DraftWords, WordsError>
     Ok(draft)
 }
 
-impl Command {
-    /// The path to mount on.
-    pub fn target(&self) -> &[u8]
-        ensures { result.now ≡ (serve_view self.now).target }
-    {
-        match self {
-            Command::Serve { target, .. } => target.as_slice(),
-        }
-    }
-}
-
 fn finish(draft: DraftWords) -> Result<Command, WordsError>
     ensures { GivesWords serve_view result (finished (draft_view draft)) }
 {
-    let DraftWords { target, root } = draft;
+    let DraftWords {
+        target,
+        root,
+        msize,
+        turns,
+        ids,
+    } = draft;
     match target {
         Some(target) => match root {
-            Some(root) => Ok(Command::Serve { target, root }),
+            Some(root) => Ok(Command::Serve(ShareWords {
+                target,
+                root,
+                msize: msize.unwrap_or(MSIZE),
+                turns: turns.unwrap_or(TURNS),
+                ids: ids.unwrap_or(FID_LIMIT),
+            })),
             None => Err(WordsError::Words),
         },
         None => Err(WordsError::Words),
@@ -125,7 +183,8 @@ fn is_serve(words: &Words) -> bool
     }
 }
 
-/// What the words command: `serve`, and then in any order `target=PATH` and `root=/`, each once.
+/// What the words command: `serve`, and then in any order `target=PATH`, `root=/`, and if wanted `msize=N` (256 to
+/// 65560), `turns=N` (1 to 8192) and `ids=N` (0 to 1000000), each at most once.
 #[tactic(auto, unfolding(crate::specs::Command::command))]
 pub fn read_words(alloc: Global, words: &Words) -> Result<Command, WordsError>
     ensures { GivesWords serve_view result (command words.now) }
@@ -156,11 +215,10 @@ mod tests {
     #[test]
     fn words_are_read_or_refused(rt: HostRuntime) -> Result<(), Fail> {
         let words = words_of(rt.alloc(), "serve target=/mnt root=/")?;
-        let Command::Serve { target, root } = read_words(rt.alloc(), &words)
-            .ok()
-            .expect(&rt, "accepted");
-        assert_eq!(rt; target.as_slice(), b"/mnt".as_slice());
-        assert_eq!(rt; root.as_slice(), b"/".as_slice());
+        let Command::Serve(share) = read_words(rt.alloc(), &words).ok().expect(&rt, "accepted");
+        assert_eq!(rt; share.target.as_slice(), b"/mnt".as_slice());
+        assert_eq!(rt; share.root.as_slice(), b"/".as_slice());
+        assert_eq!(rt; (share.msize, share.turns, share.ids), (65560, 4096, 1024));
         let cases = [
             ("serve root=/ target=/a/b", true),
             ("serve target=/ root=/", true),
@@ -180,7 +238,18 @@ mod tests {
             ("serve target=/a/../b root=/", false),
             ("serve target=/. root=/", false),
             ("serve target= root=/", false),
-            ("serve target=/mnt root=/ turns=1", false),
+            ("serve ids=0 msize=256 target=/mnt turns=1 root=/", true),
+            ("serve target=/mnt root=/ msize=65560 turns=8192 ids=1000000", true),
+            ("serve target=/mnt root=/ msize=255", false),
+            ("serve target=/mnt root=/ msize=65561", false),
+            ("serve target=/mnt root=/ msize=04352", false),
+            ("serve target=/mnt root=/ msize=", false),
+            ("serve target=/mnt root=/ turns=0", false),
+            ("serve target=/mnt root=/ turns=8193", false),
+            ("serve target=/mnt root=/ turns=+1", false),
+            ("serve target=/mnt root=/ ids=1000001", false),
+            ("serve target=/mnt root=/ ids=1 ids=1", false),
+            ("serve target=/mnt root=/ id=1", false),
             ("serve target=/mnt root=/ more", false),
         ];
         for (line, accepted) in cases {

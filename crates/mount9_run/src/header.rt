@@ -9,7 +9,7 @@ ghost use Rattle.mount9_run.specs.HeaderViews.{header_view, IsFresh};
 pub mod error;
 mod files;
 mod lines;
-mod numbers;
+pub(crate) mod numbers;
 mod present;
 mod start;
 pub mod text;

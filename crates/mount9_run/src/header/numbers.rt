@@ -3,7 +3,7 @@ ghost use Rattle.std.specs.Prelude.{◌≡◌, ◌<◌, ◌≤◌, ◌-◌, ◌^
 ghost use Rattle.std.specs.List.{list_all};
 ghost use Rattle.std.specs.Char.{is_ascii_digit};
 ghost use Rattle.mount9_run.specs.Reading.{Gives};
-ghost use Rattle.mount9_run.specs.Numbers.{is_number, number_of, number_at, number_field, is_octal, mode_of, mode_field, CountsTo};
+ghost use Rattle.mount9_run.specs.Numbers.{is_number, number_of, in_range, number_at, number_field, is_octal, mode_of, mode_field, CountsTo};
 
 use crate::header::error::HeaderError;
 use crate::header::lines::field;
@@ -37,20 +37,31 @@ fn value(text: &[u8]) -> Option<u64>
     }
 }
 
-/// A number from `low` to `high`.
+/// A number from `low` to `high`, where the text is one.
+pub fn number_in(low: u64, high: u64, text: &[u8]) -> Option<u64>
+    ensures value { result ≡ in_range low high (number_of text.now) }
+    ensures range { IfSome result (λ n. (low ≤ n) × (n ≤ high)) }
+{
+    match value(text) {
+        Some(n) => {
+            if n >= low && n <= high {
+                Some(n)
+            } else {
+                None
+            }
+        }
+        None => None,
+    }
+}
+
+/// The same, or the line that is refused.
 #[tactic(auto, unfolding(crate::specs::Numbers::number_at))]
 pub fn number(low: u64, high: u64, at: u64, text: &[u8]) -> Result<u64, HeaderError>
     ensures value { Gives (λ x. x) result (number_at low high at text.now) }
     ensures range { IfOk result (λ n. (low ≤ n) × (n ≤ high)) }
 {
-    match value(text) {
-        Some(n) => {
-            if n >= low && n <= high {
-                Ok(n)
-            } else {
-                Err(HeaderError::Line(at))
-            }
-        }
+    match number_in(low, high, text) {
+        Some(n) => Ok(n),
         None => Err(HeaderError::Line(at)),
     }
 }
