@@ -1,5 +1,5 @@
 -- The definitions at examples.
-use Rattle.std.proofs.Common.{◌≡◌, ℕ, List, [], ◌∷◌, Some, Err, refl}
+use Rattle.std.proofs.Common.{◌≡◌, ℕ, List, [], ◌∷◌, Some, None, Err, refl}
 use Rattle.std.specs.Prelude.{codes}
 use Rattle.std.specs.Fmt.{digits}
 use Rattle.port_base.specs.Escapes.{escaped}
@@ -10,15 +10,23 @@ use Rattle.mount9_run.specs.Texts.{split_once}
 use Rattle.mount9_run.specs.Paths.{is_path}
 use Rattle.mount9_run.specs.Header.{header, text_of, text_from, header_of, start_at}
 use Rattle.mount9_run.specs.HeaderLines.{stamp_at}
-use Rattle.mount9_run.specs.Numbers.{number_field}
+use Rattle.mount9_run.specs.Numbers.{number_field, number_of}
 use Rattle.mount9_run.specs.Reading.{lines_of, keyword_at, after_word, field_at}
 use Rattle.mount9_run.specs.Command.{with_word, with_words, command}
 use Rattle.mount9_run.specs.Outcome.{outcome}
 use Rattle.mount9_run.specs.declared.run.Status.TheVariants as status
 
-pub command_example : command (codes "serve" ∷ codes "target=/mnt" ∷ codes "root=/" ∷ []) ≡ Some (record { target = codes "/mnt"; root = codes "/" })
+pub command_example : command (codes "serve" ∷ codes "target=/mnt" ∷ codes "root=/" ∷ []) ≡ Some (record { target = codes "/mnt"; root = codes "/"; msize = 65560; turns = 4096; ids = 1024 })
 unfolding command with_words with_word split_once is_path
 command_example = refl
+
+pub numbers_example : command (codes "serve" ∷ codes "ids=0" ∷ codes "root=/" ∷ codes "msize=4352" ∷ codes "target=/" ∷ []) ≡ Some (record { target = codes "/"; root = codes "/"; msize = 4352; turns = 4096; ids = 0 })
+unfolding command with_words with_word split_once is_path number_of
+numbers_example = refl
+
+pub msize_refused : command (codes "serve" ∷ codes "target=/" ∷ codes "root=/" ∷ codes "msize=255" ∷ []) ≡ None
+unfolding command with_words with_word split_once is_path number_of
+msize_refused = refl
 
 pub header_example : header (codes "mount9 1\nmoment 1700000000\nend\n") ≡ Err 2
 unfolding header text_of text_from header_of lines_of start_at stamp_at keyword_at after_word field_at split_once number_field

@@ -1,19 +1,40 @@
 -- Each answer of an outcome with its cause, and the other way round.
-use Rattle.std.proofs.Common.{◌≡◌, ◌≢◌, ◌⊎◌, ⊎_elim, inl, inr, ℕ, List, Option, Some, None, Result, Ok, Err, refl, sym, ap, ◌∙◌, subst}
-use Rattle.std.specs.Prelude.{codes, ◌↔◌}
+use Rattle.std.proofs.Common.{◌≡◌, ◌≢◌, ◌⊎◌, ⊎_elim, inl, inr, ℕ, ◌<◌, ◌≤◌, Bool, true, false, cond, List, Option, Some, None, Result, Ok, Err, refl, sym, ap, ◌∙◌, subst, arith, nat_lt, nat_le}
+use Rattle.std.proofs.lemmas.Bool.Decides.{nat_tests}
+use Rattle.std.specs.Prelude.{◌↔◌, option_map}
 use Rattle.port_base.specs.Faults.{Faulted}
+use Rattle.port_base.specs.declared.errno.TheConstants.{ENFILE}
+use Rattle.fuse_gate.specs.declared.gate.TheConstants.{LEAST_MSIZE}
 use Rattle.tree_model.specs.Tree.{Tree, linked}
 use Rattle.fuse_wire.specs.Cuts.{Cut, cut, End}
 use Rattle.fuse_wire.specs.Cuts.End.{done, turns_spent, torn, bad_length}
 use Rattle.mount9_run.specs.Command.{Serve, command}
 use Rattle.mount9_run.specs.Header.{HeaderRead, header}
-use Rattle.mount9_run.specs.Outcome.{Outcome, mount_refused, status_of, attached, mounted, outcome, outcome_by}
+use Rattle.mount9_run.specs.Outcome.{mount_refused, refusal, root_given, status_of, attached, mounted, run_of, outcome, outcome_by}
 use Rattle.mount9_run.specs.Running.{RanBy, Ran}
 use Rattle.mount9_run.specs.Causes.{IsAccepted, IsValidInput, IsStoppedInput, IsRefusedHeader}
-use Rattle.mount9_run.specs.declared.run.TheConstants.{TURNS}
+use Rattle.mount9_run.specs.declared.report.verdict.Cause.TheVariants.{MsizeTooSmall, Mount}
 use Rattle.mount9_run.specs.declared.run.Status.{Status}
 use Rattle.mount9_run.specs.declared.run.Status.TheVariants.{Served, Stopped, Words, Header, Memory, Input, Output}
 use Rattle.mount9_run.proofs.HeaderTree.{header_root}
+
+below : (n : ℕ) → nat_lt n LEAST_MSIZE ≡ true → n < LEAST_MSIZE
+below n h = grind (arith, nat_tests)
+
+not_below : (n : ℕ) → nat_lt n LEAST_MSIZE ≡ false → LEAST_MSIZE ≤ n
+not_below n h = grind (arith, nat_tests)
+
+at_least : (n : ℕ) → LEAST_MSIZE ≤ n → nat_lt n LEAST_MSIZE ≡ false
+at_least n h = grind (arith, nat_tests)
+
+none_of : (n : ℕ) → nat_le n 0 ≡ true → n ≡ 0
+none_of n h = grind (arith, nat_tests)
+
+some_of : (n : ℕ) → nat_le n 0 ≡ false → 1 ≤ n
+some_of n h = grind (arith, nat_tests)
+
+positive : (n : ℕ) → 1 ≤ n → nat_le n 0 ≡ false
+positive n h = grind (arith, nat_tests)
 
 module _ (words : List (List ℕ)) (bytes : List ℕ) where
   abbrev Caused : Status → Type 0
@@ -28,34 +49,62 @@ module _ (words : List (List ℕ)) (bytes : List ℕ) where
   abbrev answer : Status
   answer = (outcome words bytes).0
 
-  -- ---- each answer has its cause
+  -- ---- the answer to accepted words and a header
+
+  abbrev by_mount : Option ℕ → Status → Status
+  by_mount (Some e) x = Stopped
+  by_mount None x = x
 
   module _ (a : IsAccepted words bytes) where
-    abbrev refusal : Option ℕ
-    refusal = mount_refused a.serve.target a.described
+    abbrev t : Tree
+    t = a.described.tree
 
     abbrev taken : Cut
-    taken = cut TURNS a.rest
+    taken = cut a.serve.turns a.rest
 
-    ended_cause : refusal ≡ None → (e : End) → taken.end ≡ e → Caused (status_of e)
-    ended_cause is done at = record { accepted = a; let_in = is; whole = at }
-    ended_cause is turns_spent at = record { accepted = a; cause = inr (λ over. let clash : turns_spent ≡ done = sym at ∙ over in cc) }
-    ended_cause is torn at = record { accepted = a; cause = inr (λ over. let clash : torn ≡ done = sym at ∙ over in cc) }
-    ended_cause is bad_length at = record { accepted = a; cause = inr (λ over. let clash : bad_length ≡ done = sym at ∙ over in cc) }
+    refusal_is : (b : Bool) → nat_lt a.serve.msize LEAST_MSIZE ≡ b → (o : Option ℕ) → mount_refused a.serve.target a.described ≡ o → refusal a.serve a.described ≡ cond b (Some MsizeTooSmall) (option_map Mount o)
+    refusal_is b short o mount = λ j. cond (short j) (Some MsizeTooSmall) (option_map Mount (mount j))
 
-    attached_at : (attached (linked a.described.tree) (Ok 1) taken).0 ≡ (mounted a.described.tree a.rest None).0
-    attached_at = ap (λ r. (attached (linked a.described.tree) r taken).0) (sym (header_root bytes a.rest a.described a.headed))
+    root_is : (c : Bool) → nat_le a.serve.ids 0 ≡ c → root_given a.serve (linked t) ≡ cond c (Err ENFILE) (Ok 1)
+    root_is c no_fid = λ j. cond (no_fid j) (Err ENFILE) (header_root bytes a.rest a.described a.headed j)
 
-    mounted_cause : (o : Option ℕ) → refusal ≡ o → Caused (mounted a.described.tree a.rest o).0
-    mounted_cause (Some e) is = record { accepted = a; cause = inl (λ none. let clash : Some e ≡ None = sym is ∙ none in cc) }
-    mounted_cause None is = subst Caused attached_at (ended_cause is taken.end refl)
+    served_by : (c : Bool) → nat_le a.serve.ids 0 ≡ c → (mounted a.serve t a.rest None).0 ≡ cond c Stopped (status_of taken.end)
+    served_by true no_fid = ap (λ r. (attached a.serve (linked t) r taken).0) (root_is true no_fid)
+    served_by false no_fid = ap (λ r. (attached a.serve (linked t) r taken).0) (root_is false no_fid)
+
+    run_by : (b : Bool) → nat_lt a.serve.msize LEAST_MSIZE ≡ b → (o : Option ℕ) → mount_refused a.serve.target a.described ≡ o → (c : Bool) → nat_le a.serve.ids 0 ≡ c
+        → (run_of a.serve a.described a.rest).0 ≡ cond b Stopped (by_mount o (cond c Stopped (status_of taken.end)))
+    run_by true short o mount c no_fid = ap (λ r. (mounted a.serve t a.rest r).0) (refusal_is true short o mount)
+    run_by false short (Some e) mount c no_fid = ap (λ r. (mounted a.serve t a.rest r).0) (refusal_is false short (Some e) mount)
+    run_by false short None mount c no_fid = ap (λ r. (mounted a.serve t a.rest r).0) (refusal_is false short None mount) ∙ served_by c no_fid
+
+    accepted_answer : answer ≡ (run_of a.serve a.described a.rest).0
+    accepted_answer = ap (λ o. (outcome_by o (header bytes)).0) a.commanded ∙ ap (λ r. (outcome_by (Some a.serve) r).0) a.headed
+
+    -- ---- each answer has its cause
+
+    ended_cause : LEAST_MSIZE ≤ a.serve.msize → mount_refused a.serve.target a.described ≡ None → 1 ≤ a.serve.ids → (e : End) → taken.end ≡ e → Caused (status_of e)
+    ended_cause long is some done at = record { accepted = a; long = long; let_in = is; some = some; whole = at }
+    ended_cause long is some turns_spent at = record { accepted = a; cause = inr (inr (inr (λ over. let clash : turns_spent ≡ done = sym at ∙ over in cc))) }
+    ended_cause long is some torn at = record { accepted = a; cause = inr (inr (inr (λ over. let clash : torn ≡ done = sym at ∙ over in cc))) }
+    ended_cause long is some bad_length at = record { accepted = a; cause = inr (inr (inr (λ over. let clash : bad_length ≡ done = sym at ∙ over in cc))) }
+
+    run_cause : (b : Bool) → nat_lt a.serve.msize LEAST_MSIZE ≡ b → (o : Option ℕ) → mount_refused a.serve.target a.described ≡ o → (c : Bool) → nat_le a.serve.ids 0 ≡ c
+        → Caused (cond b Stopped (by_mount o (cond c Stopped (status_of taken.end))))
+    run_cause true short o mount c no_fid = record { accepted = a; cause = inl (below a.serve.msize short) }
+    run_cause false short (Some e) mount c no_fid = record { accepted = a; cause = inr (inl (λ none. let clash : Some e ≡ None = sym mount ∙ none in cc)) }
+    run_cause false short None mount true no_fid = record { accepted = a; cause = inr (inr (inl (none_of a.serve.ids no_fid))) }
+    run_cause false short None mount false no_fid = ended_cause (not_below a.serve.msize short) mount (some_of a.serve.ids no_fid) taken.end refl
+
+    accepted_cause : Caused (run_of a.serve a.described a.rest).0
+    accepted_cause =
+        subst Caused (sym (run_by (nat_lt a.serve.msize LEAST_MSIZE) refl (mount_refused a.serve.target a.described) refl (nat_le a.serve.ids 0) refl))
+        (run_cause (nat_lt a.serve.msize LEAST_MSIZE) refl (mount_refused a.serve.target a.described) refl (nat_le a.serve.ids 0) refl)
 
   cause_by : (o : Option Serve) → command words ≡ o → (r : Result (HeaderRead × List ℕ) ℕ) → header bytes ≡ r → Caused (outcome_by o r).0
   cause_by None w r h = w
   cause_by (Some s) w (Err n) h = record { serve = s; commanded = w; line = n; refused = h }
-  cause_by (Some s) w (Ok p) h =
-      let a : IsAccepted words bytes = record { serve = s; commanded = w; described = p.0; rest = p.1; headed = h } in
-      mounted_cause a (mount_refused s.target p.0) refl
+  cause_by (Some s) w (Ok p) h = accepted_cause (record { serve = s; commanded = w; described = p.0; rest = p.1; headed = h })
 
   caused : (s : Status) → answer ≡ s → Caused s
   caused s is = subst Caused is (cause_by (command words) refl (header bytes) refl)
@@ -68,14 +117,11 @@ module _ (words : List (List ℕ)) (bytes : List ℕ) where
   told_header : IsRefusedHeader words bytes → answer ≡ Header
   told_header h = ap (λ o. (outcome_by o (header bytes)).0) h.commanded ∙ ap (λ r. (outcome_by (Some h.serve) r).0) h.refused
 
-  accepted_answer : (a : IsAccepted words bytes) → answer ≡ (mounted a.described.tree a.rest (mount_refused a.serve.target a.described)).0
-  accepted_answer a = ap (λ o. (outcome_by o (header bytes)).0) a.commanded ∙ ap (λ r. (outcome_by (Some a.serve) r).0) a.headed
-
-  let_in_answer : (a : IsAccepted words bytes) → mount_refused a.serve.target a.described ≡ None → answer ≡ status_of (cut TURNS a.rest).end
-  let_in_answer a is = accepted_answer a ∙ ap (λ o. (mounted a.described.tree a.rest o).0) is ∙ sym (attached_at a)
-
   told_served : IsValidInput words bytes → answer ≡ Served
-  told_served v = let_in_answer v.accepted v.let_in ∙ ap status_of v.whole
+  told_served v =
+      accepted_answer v.accepted
+      ∙ run_by v.accepted false (at_least v.accepted.serve.msize v.long) None v.let_in false (positive v.accepted.serve.ids v.some)
+      ∙ ap status_of v.whole
 
   not_done : (e : End) → e ≢ done → status_of e ≡ Stopped
   not_done done other = absurd (other refl)
@@ -84,13 +130,22 @@ module _ (words : List (List ℕ)) (bytes : List ℕ) where
   not_done bad_length other = refl
 
   told_stopped : IsStoppedInput words bytes → answer ≡ Stopped
-  told_stopped v = by_refusal (mount_refused v.accepted.serve.target v.accepted.described) refl where
-    by_refusal : (o : Option ℕ) → mount_refused v.accepted.serve.target v.accepted.described ≡ o → answer ≡ Stopped
-    by_refusal (Some e) is = accepted_answer v.accepted ∙ ap (λ o. (mounted v.accepted.described.tree v.accepted.rest o).0) is
-    by_refusal None is = ⊎_elim
-        (λ some. absurd (some is))
-        (λ other. let_in_answer v.accepted is ∙ not_done (cut TURNS v.accepted.rest).end other)
-        v.cause
+  told_stopped v =
+      accepted_answer v.accepted
+      ∙ run_by v.accepted (nat_lt v.accepted.serve.msize LEAST_MSIZE) refl (mount_refused v.accepted.serve.target v.accepted.described) refl (nat_le v.accepted.serve.ids 0) refl
+      ∙ stops (nat_lt v.accepted.serve.msize LEAST_MSIZE) refl (mount_refused v.accepted.serve.target v.accepted.described) refl (nat_le v.accepted.serve.ids 0) refl
+    where
+      stops : (b : Bool) → nat_lt v.accepted.serve.msize LEAST_MSIZE ≡ b → (o : Option ℕ) → mount_refused v.accepted.serve.target v.accepted.described ≡ o → (c : Bool) → nat_le v.accepted.serve.ids 0 ≡ c
+          → cond b Stopped (by_mount o (cond c Stopped (status_of (cut v.accepted.serve.turns v.accepted.rest).end))) ≡ Stopped
+      stops true short o mount c no_fid = refl
+      stops false short (Some e) mount c no_fid = refl
+      stops false short None mount true no_fid = refl
+      stops false short None mount false no_fid = ⊎_elim
+          (λ lt. absurd (let least = not_below v.accepted.serve.msize short in omega (arith, lt, least)))
+          (λ others. ⊎_elim (λ some. absurd (some mount))
+          (λ more. ⊎_elim (λ zero. absurd (let some = some_of v.accepted.serve.ids no_fid in omega (arith, zero, some)))
+          (λ other. not_done (cut v.accepted.serve.turns v.accepted.rest).end other) more) others)
+          v.cause
 
   pub served_exactly : (answer ≡ Served) ↔ IsValidInput words bytes
   served_exactly = (caused Served, told_served)

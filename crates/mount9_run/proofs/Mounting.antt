@@ -10,23 +10,22 @@ use Rattle.mount9_run.specs.Header.{HeaderRead, header, header_by, header_of, wi
 use Rattle.mount9_run.specs.Reading.{lines_of}
 use Rattle.mount9_run.specs.ReportLines.{number_line}
 use Rattle.mount9_run.specs.Report.{report}
-use Rattle.mount9_run.specs.Outcome.{Outcome, mount_refused, mount_table, mounted, served, run_of, refused_words, outcome, outcome_by}
+use Rattle.mount9_run.specs.Outcome.{Outcome, refusal, mount_table, mounted, served, run_of, refused_words, outcome, outcome_by}
 use Rattle.mount9_run.specs.Running.{Ran, Tells}
-use Rattle.mount9_run.specs.declared.report.verdict.Cause.TheVariants.{Mount}
+use Rattle.mount9_run.specs.declared.report.verdict.Cause.{Cause}
 use Rattle.mount9_run.specs.declared.report.verdict.Verdict.TheVariants as verdict
-use Rattle.mount9_run.specs.declared.run.TheConstants.{TURNS}
 use Rattle.mount9_run.specs.declared.run.Status.{Status}
 use Rattle.mount9_run.specs.declared.run.Status.TheVariants as status
 use Rattle.mount9_run.proofs.Ran.{Ran-told, Ran-later, Ran-alike, always}
 
 -- ---- the mount
 
-module _ (target : List ℕ) (h : HeaderRead) (left s0 s1 : Option (List ℕ)) (in0 in1 out0 out1 : ℕ) (answer : Status) where
-  pub Ran-unmounted : (errno : ℕ) → mount_refused target h ≡ Some errno → in1 ≡ in0 → Tells s0 s1 out0 out1 status.Stopped (report [] (verdict.Stopped (Mount errno) 0) (linked h.tree) mount_table 0) answer → Ran (run_of target h) left s0 s1 in0 in1 out0 out1 answer
-  Ran-unmounted errno is same tells = Ran-told (run_of target h) s0 s1 in0 in1 out0 out1 left status.Stopped (report [] (verdict.Stopped (Mount errno) 0) (linked h.tree) mount_table 0) answer tt same (always left (λ bytes. ap (mounted h.tree bytes) is)) tells
+module _ (w : Serve) (h : HeaderRead) (left s0 s1 : Option (List ℕ)) (in0 in1 out0 out1 : ℕ) (answer : Status) where
+  pub Ran-unmounted : (cause : Cause) → refusal w h ≡ Some cause → in1 ≡ in0 → Tells s0 s1 out0 out1 status.Stopped (report [] (verdict.Stopped cause 0) (linked h.tree) mount_table 0) answer → Ran (run_of w h) left s0 s1 in0 in1 out0 out1 answer
+  Ran-unmounted cause is same tells = Ran-told (run_of w h) s0 s1 in0 in1 out0 out1 left status.Stopped (report [] (verdict.Stopped cause 0) (linked h.tree) mount_table 0) answer tt same (always left (λ bytes. ap (mounted w h.tree bytes) is)) tells
 
-  pub Ran-mounted : mount_refused target h ≡ None → Ran (λ bytes. served (linked h.tree) (cut TURNS bytes)) left s0 s1 in0 in1 out0 out1 answer → Ran (run_of target h) left s0 s1 in0 in1 out0 out1 answer
-  Ran-mounted is ran = Ran-alike (run_of target h) (λ bytes. served (linked h.tree) (cut TURNS bytes)) left s0 s1 in0 in1 out0 out1 answer (λ bytes. sym (ap (mounted h.tree bytes) is)) ran
+  pub Ran-mounted : refusal w h ≡ None → Ran (λ bytes. served w (linked h.tree) (cut w.turns bytes)) left s0 s1 in0 in1 out0 out1 answer → Ran (run_of w h) left s0 s1 in0 in1 out0 out1 answer
+  Ran-mounted is ran = Ran-alike (run_of w h) (λ bytes. served w (linked h.tree) (cut w.turns bytes)) left s0 s1 in0 in1 out0 out1 answer (λ bytes. sym (ap (mounted w h.tree bytes) is)) ran
 
 -- ---- the words
 
@@ -66,6 +65,6 @@ module _ (words : List (List ℕ)) (s : Serve) (is : command words ≡ Some s) w
           Ran-later (outcome words) (λ rest. (status.Header, number_line (codes "header") line)) text (λ rest. leads_to text rest (Err line) (whole rest) read) l0 l1 s0 s1 in1 in1 out0 out1 taken in0 same answer
           (Ran-told (λ rest. (status.Header, number_line (codes "header") line)) s0 s1 in1 in1 out0 out1 l1 status.Header (number_line (codes "header") line) answer tt refl (always l1 (λ bytes. refl)) tells)
 
-      pub Ran-header : (h : HeaderRead) (between : ℕ) → header_of (lines_of text) ≡ Ok h → between ≡ in0 → Ran (run_of s.target h) l1 s0 s1 between in1 out0 out1 answer → Ran (outcome words) l0 s0 s1 in0 in1 out0 out1 answer
+      pub Ran-header : (h : HeaderRead) (between : ℕ) → header_of (lines_of text) ≡ Ok h → between ≡ in0 → Ran (run_of s h) l1 s0 s1 between in1 out0 out1 answer → Ran (outcome words) l0 s0 s1 in0 in1 out0 out1 answer
       Ran-header h between read same ran =
-          Ran-later (outcome words) (run_of s.target h) text (λ rest. leads_to text rest (Ok h) (whole rest) read) l0 l1 s0 s1 between in1 out0 out1 taken in0 same answer ran
+          Ran-later (outcome words) (run_of s h) text (λ rest. leads_to text rest (Ok h) (whole rest) read) l0 l1 s0 s1 between in1 out0 out1 taken in0 same answer ran

@@ -1,6 +1,7 @@
 -- What a share tells and leaves, from what the run over its server does.
 use Rattle.std.proofs.Common.{◌≡◌, ◌≢◌, ◌⊎◌, ⊎_elim, ℕ, ◌+◌, ◌-◌, ◌^◌, ◌<◌, ◌≤◌, min, List, [], ◌++◌, length, Bool, true, false, cond, ◌||◌, IsSome, IsTrue, IfSome, Option, Some, None, Result, Ok, Err, refl, sym, ap, ◌∙◌, subst, arith, if◌then◌else◌, nat_le}
 use Rattle.std.proofs.lemmas.Bool.{false≢true}
+use Rattle.std.proofs.lemmas.Bool.Decides.{nat_tests}
 use Rattle.std.proofs.lemmas.Option.{same_Some}
 use Rattle.std.specs.FinMap.{get, retain_keys, empty}
 use Rattle.tree_model.specs.Tree.{Tree, Record, Records, linked, is_linked}
@@ -28,10 +29,13 @@ use Rattle.frame_pump.specs.declared.outcome.PumpError.TheVariants as error
 use Rattle.fid_model.specs.Fids.{ServerState}
 use Rattle.fuse_gate.specs.Attaching.{root_told}
 use Rattle.fuse_gate.specs.Pump.{Served, Opens, Closes, Pumps, PumpsBy, AttachRefused}
+use Rattle.fuse_gate.specs.Standing.{piece_of}
+use Rattle.fuse_gate.specs.declared.gate.TheConstants.{GREATEST_MSIZE}
+use Rattle.fid_model.specs.declared.sizes.TheConstants.{READ_HEAD}
+use Rattle.mount9_run.specs.Command.{Serve}
 use Rattle.mount9_run.specs.Report.{report}
-use Rattle.mount9_run.specs.Outcome.{Outcome, served, attached, told, share_settings, status_of, verdict_of, mount_table}
+use Rattle.mount9_run.specs.Outcome.{Outcome, served, attached, root_given, told, share_settings, piece, status_of, verdict_of, mount_table}
 use Rattle.mount9_run.specs.Serving.{LeadsTo, StoppedBy, SharesBy, Shares}
-use Rattle.mount9_run.specs.declared.run.TheConstants.{TURNS}
 use Rattle.mount9_run.specs.declared.run.Status.TheVariants as status
 use Rattle.mount9_run.specs.declared.report.verdict.Cause.TheVariants.{Attach}
 use Rattle.mount9_run.specs.declared.report.verdict.Verdict.TheVariants as verdict
@@ -63,48 +67,54 @@ not_failed f = absurd (omega (arith, f.1))
 not_risen : (a b : ℕ) → a ≡ 0 → b ≡ a → Rose a b → ⊥
 not_risen a b z n f = absurd (omega (arith, z, n, f))
 
+-- where there may be a fid, the root is looked for
+positive : (n : ℕ) → nat_le n 0 ≡ true → 1 ≤ n → ⊥
+positive n t some = absurd (grind (arith, nat_tests))
+
 -- ---- a share of a tree by a server that has never failed, with what it was sent in memory
 
-module _ (n0 n1 : Served) (settings : n0.state.settings ≡ share_settings) (zero : n0.faults ≡ 0) (same : n1.faults ≡ n0.faults) (left0 left1 : Option (List ℕ)) (r0 r1 : List ℕ) (in0 in1 : ℕ) (start : r0 ≡ []) (last : Tree) (ended : last ≡ linked n1.state.tree) where
+module _ (w : Serve) (n0 n1 : Served) (settings : n0.state.settings ≡ share_settings w) (sized : n0.state.msize ≡ w.msize) (zero : n0.faults ≡ 0) (same : n1.faults ≡ n0.faults) (left0 left1 : Option (List ℕ)) (r0 r1 : List ℕ) (in0 in1 : ℕ) (start : r0 ≡ []) (last : Tree) (ended : last ≡ linked n1.state.tree) where
   abbrev p0 : Streams
   p0 = record { left = left0; sent = Some r0; read_faults = in0; write_faults = 0 }
 
   abbrev p1 : Streams
   p1 = record { left = left1; sent = Some r1; read_faults = in1; write_faults = 0 }
 
+  -- where there may be a fid, the root is looked for
+  some_fid : {r : Result ℕ ℕ} (b : Bool) → nat_le w.ids 0 ≡ b → 1 ≤ w.ids → root_of (linked n0.state.tree) (share_settings w).root ≡ r → root_given w (linked n0.state.tree) ≡ r
+  some_fid true is some found = absurd (positive w.ids is some)
+  some_fid false is some found = ap (λ b. cond b (Err ENFILE) (root_of (linked n0.state.tree) (share_settings w).root)) is ∙ found
+
   module _ (s0 s1 : Session) (b : Opens n0 s0) (e : Closes s1 n1) where
-    module _ (handled nine : ℕ) (sent : nine ≡ s1.sent) (end : End) (h : Ended s0 s1 p0 p1 TURNS handled end) where
+    module _ (handled nine : ℕ) (sent : nine ≡ s1.sent) (end : End) (h : Ended s0 s1 p0 p1 w.turns handled end) where
       abbrev t : Tree
       t = linked n0.state.tree
 
-      leads : (bytes : List ℕ) → cut TURNS bytes ≡ record { frames = h.frames; end = end } → served t (cut TURNS bytes) ≡ (status_of end, report r1 (verdict_of end handled) last mount_table (min nine (2 ^ 64 - 1)))
+      leads : (bytes : List ℕ) → cut w.turns bytes ≡ record { frames = h.frames; end = end } → served w t (cut w.turns bytes) ≡ (status_of end, report r1 (verdict_of end handled) last mount_table (min nine (2 ^ 64 - 1)))
       leads bytes is =
           let still : s1.faults ≡ s0.faults = omega (arith, same, e.faults, b.rises, h.answered.stays.rises) in
           let below : s0.faults < 2 ^ 64 - 1 = omega (arith, same, zero, e.faults, b.rises, h.answered.stays.rises) in
           let exact = Answered-exact s0 s1 h.frames h.replies h.answered still below in
-          let found : root_of t share_settings.root ≡ Ok b.root = subst (λ (s : Settings). root_of t s.root ≡ Ok b.root) settings b.found in
-          let set : s0.settings ≡ share_settings = b.settings ∙ settings in
-          let played : play_from s0.settings s0.state h.frames ≡ play_from share_settings (begun t b.root) h.frames = (λ j. play_from (set j) (b.state j) h.frames) in
-          let number : messages_from s0.settings s0.state h.frames ≡ messages_from share_settings (begun t b.root) h.frames = (λ j. messages_from (set j) (b.state j) h.frames) in
-          let replies : (play share_settings t b.root h.frames).0 ≡ r1 = sym (h.sent ∙ ap (λ r. r ++ h.replies) start ∙ exact.0 ∙ ap (λ (r : List ℕ × MachineState). r.0) played) in
-          let final : linked (play share_settings t b.root h.frames).1 ≡ last = sym (ended ∙ ap linked (e.tree ∙ ap (λ (m : MachineState). linked m.tree) (exact.1 ∙ ap (λ (r : List ℕ × MachineState). r.1) played))) in
-          let messages : min (total share_settings t b.root h.frames) (2 ^ 64 - 1) ≡ min nine (2 ^ 64 - 1) = omega (arith, exact.2, number, sent, b.sent, h.answered.sent) in
-          ap (λ (c : Cut). served t c) is
-          ∙ ap (λ (r : Result ℕ ℕ). attached t r (record { frames = h.frames; end = end })) found
+          let found : root_given w t ≡ Ok b.root = some_fid (nat_le w.ids 0) refl (subst (λ (s : Settings). 1 ≤ s.limit) settings b.limit) (subst (λ (s : Settings). root_of t s.root ≡ Ok b.root) settings b.found) in
+          let set : s0.settings ≡ share_settings w = b.settings ∙ settings in
+          let played : play_from s0.settings s0.state h.frames ≡ play_from (share_settings w) (begun t b.root) h.frames = (λ j. play_from (set j) (b.state j) h.frames) in
+          let pieces : s0.piece ≡ piece w = b.piece ∙ ap (λ n. min n GREATEST_MSIZE - READ_HEAD) sized in
+          let number : messages_from s0.piece s0.settings s0.state h.frames ≡ messages_from (piece w) (share_settings w) (begun t b.root) h.frames = (λ j. messages_from (pieces j) (set j) (b.state j) h.frames) in
+          let replies : (play (share_settings w) t b.root h.frames).0 ≡ r1 = sym (h.sent ∙ ap (λ r. r ++ h.replies) start ∙ exact.0 ∙ ap (λ (r : List ℕ × MachineState). r.0) played) in
+          let final : linked (play (share_settings w) t b.root h.frames).1 ≡ last = sym (ended ∙ ap linked (e.tree ∙ ap (λ (m : MachineState). linked m.tree) (exact.1 ∙ ap (λ (r : List ℕ × MachineState). r.1) played))) in
+          let messages : min (total (piece w) (share_settings w) t b.root h.frames) (2 ^ 64 - 1) ≡ min nine (2 ^ 64 - 1) = omega (arith, exact.2, number, sent, b.sent, h.answered.sent) in
+          ap (λ (c : Cut). served w t c) is
+          ∙ ap (λ (r : Result ℕ ℕ). attached w t r (record { frames = h.frames; end = end })) found
           ∙ (λ j. (status_of end, report (replies j) (verdict_of end (h.number j)) (final j) mount_table (messages j)))
 
-      leads_known : (left : Option (List ℕ)) → IfSome left (λ bytes. cut TURNS bytes ≡ record { frames = h.frames; end = end }) → IfSome left (λ bytes. served t (cut TURNS bytes) ≡ (status_of end, report r1 (verdict_of end handled) last mount_table (min nine (2 ^ 64 - 1))))
+      leads_known : (left : Option (List ℕ)) → IfSome left (λ bytes. cut w.turns bytes ≡ record { frames = h.frames; end = end }) → IfSome left (λ bytes. served w t (cut w.turns bytes) ≡ (status_of end, report r1 (verdict_of end handled) last mount_table (min nine (2 ^ 64 - 1))))
       leads_known None is = tt
       leads_known (Some bytes) is = leads bytes is
 
-    torn_by : (handled nine : ℕ) → nine ≡ s1.sent → in1 ≡ in0 → (end : End) → end ≢ done → Ended s0 s1 p0 p1 TURNS handled end → StoppedBy n0.state.tree left0 in0 in1 r1 last handled nine error.Torn
-    torn_by handled nine sent quiet done other h = absurd (other refl)
-    torn_by handled nine sent quiet turns_spent other h = (quiet, leads_known handled nine sent turns_spent h left0 h.cut)
-    torn_by handled nine sent quiet torn other h = (quiet, leads_known handled nine sent torn h left0 h.cut)
-    torn_by handled nine sent quiet bad_length other h = (quiet, leads_known handled nine sent bad_length h left0 h.cut)
-
-    stopped_by : (handled nine : ℕ) → nine ≡ s1.sent → (cause : PumpError) → StopsBy s0 s1 (Unit {0}) p0 p1 TURNS handled cause → StoppedBy n0.state.tree left0 in0 in1 r1 last handled nine cause
-    stopped_by handled nine sent error.Torn k = torn_by handled nine sent k.0.0 k.2.0 k.2.1 k.2.2
+    stopped_by : (handled nine : ℕ) → nine ≡ s1.sent → (cause : PumpError) → StopsBy s0 s1 (Unit {0}) p0 p1 w.turns handled cause → StoppedBy w n0.state.tree left0 in0 in1 r1 last handled nine cause
+    stopped_by handled nine sent error.Torn k = (k.0.0, leads_known handled nine sent torn k.2 left0 k.2.cut)
+    stopped_by handled nine sent error.BadLength k = (k.0.0, leads_known handled nine sent bad_length k.2 left0 k.2.cut)
+    stopped_by handled nine sent error.TurnsSpent k = (k.0.0, leads_known handled nine sent turns_spent k.2 left0 k.2.cut)
     stopped_by handled nine sent error.Read k = k.0.0
     stopped_by handled nine sent error.Write k = not_failed k.0.1
     stopped_by handled nine sent error.NoMemory k = k.0.0
@@ -112,7 +122,7 @@ module _ (n0 n1 : Served) (settings : n0.state.settings ≡ share_settings) (zer
 
   -- the attach was refused
   module _ (handled nine errno : ℕ) (none : handled ≡ 0) (one : nine ≡ 1) (still : p1 ≡ p0) (refused : AttachRefused n0 n1 errno) where
-    found : root_of (linked n0.state.tree) share_settings.root ≡ Err errno
+    found : root_given w (linked n0.state.tree) ≡ Err errno
     found = ⊎_elim
         (λ is. subst (λ (s : Settings). (if nat_le s.limit 0 then Err ENFILE else root_of (linked n0.state.tree) s.root) ≡ Err errno) settings is)
         (λ rose. absurd (not_risen n0.faults n1.faults zero same rose.0))
@@ -121,27 +131,27 @@ module _ (n0 n1 : Served) (settings : n0.state.settings ≡ share_settings) (zer
     final : linked (linked n0.state.tree) ≡ last
     final = sym (ended ∙ ap linked refused.0.tree)
 
-    refused_leads : (bytes : List ℕ) → served (linked n0.state.tree) (cut TURNS bytes) ≡ (status.Stopped, report r1 (verdict.Stopped (Attach errno) handled) last mount_table (min nine (2 ^ 64 - 1)))
+    refused_leads : (bytes : List ℕ) → served w (linked n0.state.tree) (cut w.turns bytes) ≡ (status.Stopped, report r1 (verdict.Stopped (Attach errno) handled) last mount_table (min nine (2 ^ 64 - 1)))
     refused_leads bytes =
         let replies : [] ≡ r1 = sym (same_Some _ _ (ap (λ (p : Streams). p.sent) still) ∙ start) in
         let messages : 1 ≡ min nine (2 ^ 64 - 1) = omega (arith, one) in
-        ap (λ (r : Result ℕ ℕ). attached (linked n0.state.tree) r (cut TURNS bytes)) found
+        ap (λ (r : Result ℕ ℕ). attached w (linked n0.state.tree) r (cut w.turns bytes)) found
         ∙ (λ j. (status.Stopped, report (replies j) (verdict.Stopped (Attach errno) (sym none j)) (final j) mount_table (messages j)))
 
   over : {P : List ℕ → Type 0} (left : Option (List ℕ)) → ((bytes : List ℕ) → P bytes) → IfSome left P
   over None h = tt
   over (Some bytes) h = h bytes
 
-  shares_by : (result : Result Pumped Stopped) → PumpsBy n0 n1 p0 p1 TURNS result → SharesBy n0.state.tree left0 in0 in1 r1 last result
+  shares_by : (result : Result Pumped Stopped) → PumpsBy n0 n1 p0 p1 w.turns result → SharesBy w n0.state.tree left0 in0 in1 r1 last result
   shares_by (Ok r) (s0, s1, b, e, k) = (k.1.0.0, leads_known s0 s1 b e r.handled r.nine_frames k.0 done k.1.3 left0 k.1.3.cut)
   shares_by (Err r) h = ⊎_elim
       (λ b. stopped_by b.0 b.1 b.2 b.3 r.handled r.nine_frames b.4.0 r.cause b.4.1)
       (λ other. ⊎_elim
-      (λ a. subst (λ (c : PumpError). StoppedBy n0.state.tree left0 in0 in1 r1 last r.handled r.nine_frames c) (sym a.2.1)
+      (λ a. subst (λ (c : PumpError). StoppedBy w n0.state.tree left0 in0 in1 r1 last r.handled r.nine_frames c) (sym a.2.1)
       (ap (λ (p : Streams). p.read_faults) a.1, over left0 (refused_leads r.handled r.nine_frames a.2.0 a.0 a.2.2 a.1 a.2.3)))
-      (λ m. subst (λ (c : PumpError). StoppedBy n0.state.tree left0 in0 in1 r1 last r.handled r.nine_frames c) (sym m.2) (ap (λ (p : Streams). p.read_faults) m.1))
+      (λ m. subst (λ (c : PumpError). StoppedBy w n0.state.tree left0 in0 in1 r1 last r.handled r.nine_frames c) (sym m.2) (ap (λ (p : Streams). p.read_faults) m.1))
       other)
       h
 
-  pub Shares-from : (result : Result Pumped Stopped) → linked last ≡ last → PumpsBy n0 n1 p0 p1 TURNS result → Shares n0.state.tree left0 in0 in1 r1 last result
+  pub Shares-from : (result : Result Pumped Stopped) → linked last ≡ last → PumpsBy n0 n1 p0 p1 w.turns result → Shares w n0.state.tree left0 in0 in1 r1 last result
   Shares-from result whole h = record { answer = shares_by result h; whole = whole }

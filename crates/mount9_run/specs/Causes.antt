@@ -1,11 +1,11 @@
 -- When the answers of a run come, by its words and its input.
-use Rattle.std.specs.Prelude.{◌≡◌, ◌≢◌, ◌⊎◌, ℕ, List, None, Ok, Err, Some}
+use Rattle.std.specs.Prelude.{◌≡◌, ◌≢◌, ◌⊎◌, ℕ, ◌<◌, ◌≤◌, List, None, Ok, Err, Some}
 use Rattle.fuse_wire.specs.Cuts.{cut}
 use Rattle.fuse_wire.specs.Cuts.End.{done}
 use Rattle.mount9_run.specs.Command.{Serve, command}
 use Rattle.mount9_run.specs.Header.{HeaderRead, header}
 use Rattle.mount9_run.specs.Outcome.{mount_refused}
-use Rattle.mount9_run.specs.declared.run.TheConstants.{TURNS}
+use Rattle.fuse_gate.specs.declared.gate.TheConstants.{LEAST_MSIZE}
 
 -- words and header are accepted, and frames follow
 pub record IsAccepted (words : List (List ℕ)) (bytes : List ℕ) : Type 0 where
@@ -15,16 +15,18 @@ pub record IsAccepted (words : List (List ℕ)) (bytes : List ℕ) : Type 0 wher
   pub rest : List ℕ
   pub headed : header bytes ≡ Ok (described, rest)
 
--- the mount is let in, and the input ends at a frame's end
+-- messages are long enough, the mount is let in, there may be a fid, and the input ends at a frame's end
 pub record IsValidInput (words : List (List ℕ)) (bytes : List ℕ) : Type 0 where
   pub accepted : IsAccepted words bytes
+  pub long : LEAST_MSIZE ≤ accepted.serve.msize
   pub let_in : mount_refused accepted.serve.target accepted.described ≡ None
-  pub whole : (cut TURNS accepted.rest).end ≡ done
+  pub some : 1 ≤ accepted.serve.ids
+  pub whole : (cut accepted.serve.turns accepted.rest).end ≡ done
 
--- the mount is refused, or the input doesn't end so
+-- messages are too short, the mount is refused, there may be no fid, or the input doesn't end so
 pub record IsStoppedInput (words : List (List ℕ)) (bytes : List ℕ) : Type 0 where
   pub accepted : IsAccepted words bytes
-  pub cause : (mount_refused accepted.serve.target accepted.described ≢ None) ⊎ ((cut TURNS accepted.rest).end ≢ done)
+  pub cause : (accepted.serve.msize < LEAST_MSIZE) ⊎ (mount_refused accepted.serve.target accepted.described ≢ None) ⊎ (accepted.serve.ids ≡ 0) ⊎ ((cut accepted.serve.turns accepted.rest).end ≢ done)
 
 -- the words are accepted, and a line of the header is refused
 pub record IsRefusedHeader (words : List (List ℕ)) (bytes : List ℕ) : Type 0 where

@@ -1,9 +1,9 @@
 -- What a run answers and writes, where memory suffices and neither stream fails.
-use Rattle.std.specs.Prelude.{ℕ, ◌-◌, ◌^◌, min, List, [], length, Bool, false, not, ◌||◌, Option, Some, None, Result, Ok, Err, if◌then◌else◌, codes}
+use Rattle.std.specs.Prelude.{ℕ, ◌-◌, ◌^◌, min, List, [], length, Bool, false, not, ◌||◌, Option, Some, None, Result, Ok, Err, if◌then◌else◌, codes, nat_lt, nat_le, option_map}
 use Rattle.std.specs.List.{list_any}
 use Rattle.std.specs.FinMap as map
 use Rattle.port_base.specs.Paths.{same_path}
-use Rattle.port_base.specs.declared.errno.TheConstants.{ENOENT, EPERM}
+use Rattle.port_base.specs.declared.errno.TheConstants.{ENFILE, ENOENT, EPERM}
 use Rattle.tree_model.specs.Tree.{Tree, linked}
 use Rattle.tree_model.specs.Finding.{root_of}
 use Rattle.tree_model.specs.Settings.{Settings}
@@ -11,15 +11,17 @@ use Rattle.fuse_wire.specs.Cuts.{Cut, cut, End}
 use Rattle.fuse_wire.specs.Cuts.End.{done, turns_spent, torn, bad_length}
 use Rattle.tree_machine.specs.Play.{play}
 use Rattle.tree_machine.specs.Messages.{total}
+use Rattle.fid_model.specs.declared.sizes.TheConstants.{READ_HEAD}
+use Rattle.fuse_gate.specs.declared.gate.TheConstants.{LEAST_MSIZE, GREATEST_MSIZE}
 use Rattle.mount9_run.specs.Command.{Serve, command}
 use Rattle.mount9_run.specs.Header.{HeaderRead, header}
 use Rattle.mount9_run.specs.ReportLines.{number_line}
 use Rattle.mount9_run.specs.Report.{report}
 use Rattle.mount9_run.specs.declared.report.verdict.Cause.{Cause}
-use Rattle.mount9_run.specs.declared.report.verdict.Cause.TheVariants.{Torn, Mount, Attach}
+use Rattle.mount9_run.specs.declared.report.verdict.Cause.TheVariants.{Torn, BadLength, TurnsSpent, MsizeTooSmall, Mount, Attach}
 use Rattle.mount9_run.specs.declared.report.verdict.Verdict.{Verdict}
 use Rattle.mount9_run.specs.declared.report.verdict.Verdict.TheVariants as verdict
-use Rattle.mount9_run.specs.declared.run.TheConstants.{TURNS, MOUNT_FLAGS}
+use Rattle.mount9_run.specs.declared.run.TheConstants.{MOUNT_FLAGS}
 use Rattle.mount9_run.specs.declared.run.Status.{Status}
 use Rattle.mount9_run.specs.declared.run.Status.TheVariants as status
 
@@ -27,9 +29,13 @@ use Rattle.mount9_run.specs.declared.run.Status.TheVariants as status
 abbrev pub Outcome : Type 0
 Outcome = Status × List ℕ
 
--- the whole tree is shared, its owners as they are, with exact names, and up to 1024 fids
-abbrev pub share_settings : Settings
-share_settings = record { root = []; uid_map = map.empty; gid_map = map.empty; casefold = false; limit = 1024 }
+-- the whole tree is shared, its owners as they are, with exact names, and up to so many fids
+abbrev pub share_settings : Serve → Settings
+share_settings s = record { root = []; uid_map = map.empty; gid_map = map.empty; casefold = false; limit = s.ids }
+
+-- the most bytes of a file that one message brings
+abbrev pub piece : Serve → ℕ
+piece s = min s.msize GREATEST_MSIZE - READ_HEAD
 
 -- the table of mounts: the root file system alone
 abbrev pub mount_table : List ℕ
@@ -53,33 +59,44 @@ status_of turns_spent = status.Stopped
 status_of torn = status.Stopped
 status_of bad_length = status.Stopped
 
--- every end but that of the input is told as torn
+-- how each end of the input is told
 abbrev pub verdict_of : End → ℕ → Verdict
 verdict_of done handled = verdict.Served MOUNT_FLAGS handled
-verdict_of turns_spent handled = verdict.Stopped Torn handled
+verdict_of turns_spent handled = verdict.Stopped TurnsSpent handled
 verdict_of torn handled = verdict.Stopped Torn handled
-verdict_of bad_length handled = verdict.Stopped Torn handled
+verdict_of bad_length handled = verdict.Stopped BadLength handled
 
 -- the replies of the machine, the tree that it leaves, and the messages that it takes, counted up to 2^64 - 1
-abbrev pub played : Tree → ℕ → Cut → Outcome
-played t root c =
-    (status_of c.end, told (play share_settings t root c.frames).0 (verdict_of c.end (length c.frames)) (play share_settings t root c.frames).1 (min (total share_settings t root c.frames) (2 ^ 64 - 1)))
+abbrev pub played : Serve → Tree → ℕ → Cut → Outcome
+played s t root c =
+    (status_of c.end, told (play (share_settings s) t root c.frames).0 (verdict_of c.end (length c.frames)) (play (share_settings s) t root c.frames).1 (min (total (piece s) (share_settings s) t root c.frames) (2 ^ 64 - 1)))
 
 -- the share is attached to, if its root is a directory
-abbrev pub attached : Tree → Result ℕ ℕ → Cut → Outcome
-attached t (Err errno) c = (status.Stopped, told [] (verdict.Stopped (Attach errno) 0) t 1)
-attached t (Ok root) c = played t root c
+abbrev pub attached : Serve → Tree → Result ℕ ℕ → Cut → Outcome
+attached s t (Err errno) c = (status.Stopped, told [] (verdict.Stopped (Attach errno) 0) t 1)
+attached s t (Ok root) c = played s t root c
 
-abbrev pub served : Tree → Cut → Outcome
-served t c = attached t (root_of t share_settings.root) c
+-- where there may be no fid, no root is attached to
+abbrev pub root_given : Serve → Tree → Result ℕ ℕ
+root_given s t = if nat_le s.ids 0 then Err ENFILE else root_of t (share_settings s).root
 
-abbrev pub mounted : Tree → List ℕ → Option ℕ → Outcome
-mounted t rest (Some errno) = (status.Stopped, told [] (verdict.Stopped (Mount errno) 0) t 0)
-mounted t rest None = served (linked t) (cut TURNS rest)
+abbrev pub served : Serve → Tree → Cut → Outcome
+served s t c = attached s t (root_given s t) c
+
+abbrev pub stopped : Cause → Tree → Outcome
+stopped cause t = (status.Stopped, told [] (verdict.Stopped cause 0) t 0)
+
+-- why nothing is served: messages are too short, or the mount is refused
+abbrev pub refusal : Serve → HeaderRead → Option Cause
+refusal s h = if nat_lt s.msize LEAST_MSIZE then Some MsizeTooSmall else option_map Mount (mount_refused s.target h)
+
+abbrev pub mounted : Serve → Tree → List ℕ → Option Cause → Outcome
+mounted s t rest (Some cause) = stopped cause t
+mounted s t rest None = served s (linked t) (cut s.turns rest)
 
 -- the run of what a header describes, on the bytes that follow it
-abbrev pub run_of : List ℕ → HeaderRead → List ℕ → Outcome
-run_of target h rest = mounted h.tree rest (mount_refused target h)
+abbrev pub run_of : Serve → HeaderRead → List ℕ → Outcome
+run_of s h rest = mounted s h.tree rest (refusal s h)
 
 -- refused words are told, whatever the input
 abbrev pub refused_words : List ℕ → Outcome
@@ -88,7 +105,7 @@ refused_words bytes = (status.Words, codes "words\n")
 abbrev pub outcome_by : Option Serve → Result (HeaderRead × List ℕ) ℕ → Outcome
 outcome_by None h = (status.Words, codes "words\n")
 outcome_by (Some s) (Err n) = (status.Header, number_line (codes "header") n)
-outcome_by (Some s) (Ok p) = run_of s.target p.0 p.1
+outcome_by (Some s) (Ok p) = run_of s p.0 p.1
 
 -- what these words do with these bytes of input
 abbrev pub outcome : List (List ℕ) → List ℕ → Outcome

@@ -7,7 +7,7 @@ use Rattle.port_base.specs.Escapes.{octal_digit, escaped}
 use Rattle.tree_model.specs.declared.attributes.Stamp.{Stamp}
 use Rattle.tree_model.specs.declared.attributes.Attr.{Attr}
 use Rattle.mount9_run.specs.declared.report.verdict.Cause.{Cause}
-use Rattle.mount9_run.specs.declared.report.verdict.Cause.TheVariants.{Torn, Mount, Attach}
+use Rattle.mount9_run.specs.declared.report.verdict.Cause.TheVariants.{Torn, BadLength, TurnsSpent, MsizeTooSmall, Mount, Attach}
 use Rattle.mount9_run.specs.declared.report.verdict.Verdict.{Verdict}
 use Rattle.mount9_run.specs.declared.report.verdict.Verdict.TheVariants.{Served, Stopped}
 
@@ -78,6 +78,9 @@ hex_lines bytes = hex_rows (div_ceil (length bytes) 32) bytes
 -- why a run stopped
 abbrev pub cause_fields : Cause → List (List ℕ)
 cause_fields Torn = codes "torn" ∷ []
+cause_fields BadLength = codes "length" ∷ []
+cause_fields TurnsSpent = codes "turns" ∷ []
+cause_fields MsizeTooSmall = codes "msize" ∷ []
 cause_fields (Mount e) = codes "mount" ∷ decimal e ∷ []
 cause_fields (Attach e) = codes "attach" ∷ decimal e ∷ []
 

@@ -8,12 +8,13 @@ use Rattle.frame_pump.specs.declared.outcome.Pumped.{Pumped}
 use Rattle.frame_pump.specs.declared.outcome.Stopped.{Stopped}
 use Rattle.frame_pump.specs.declared.outcome.PumpError.{PumpError}
 use Rattle.frame_pump.specs.declared.outcome.PumpError.TheVariants as error
+use Rattle.mount9_run.specs.Command.{Serve}
 use Rattle.mount9_run.specs.Outcome.{served, mount_table}
 use Rattle.mount9_run.specs.Report.{report}
-use Rattle.mount9_run.specs.declared.report.verdict.Cause.TheVariants.{Torn, Attach}
+use Rattle.mount9_run.specs.declared.report.verdict.Cause.TheVariants.{Torn, BadLength, TurnsSpent, Attach}
 use Rattle.mount9_run.specs.declared.report.verdict.Verdict.{Verdict}
 use Rattle.mount9_run.specs.declared.report.verdict.Verdict.TheVariants as verdict
-use Rattle.mount9_run.specs.declared.run.TheConstants.{TURNS, MOUNT_FLAGS}
+use Rattle.mount9_run.specs.declared.run.TheConstants.{MOUNT_FLAGS}
 use Rattle.mount9_run.specs.declared.run.Ending.{Ending}
 use Rattle.mount9_run.specs.declared.run.Status.{Status}
 use Rattle.mount9_run.specs.declared.run.Status.TheVariants as status
@@ -21,6 +22,8 @@ use Rattle.mount9_run.specs.declared.run.Status.TheVariants as status
 -- how a share that stopped ends a run
 abbrev pub stopped_by : ℕ → ℕ → PumpError → Result Ending Status
 stopped_by handled nine error.Torn = Ok (record { status = status.Stopped; verdict = verdict.Stopped Torn handled; nine = nine })
+stopped_by handled nine error.BadLength = Ok (record { status = status.Stopped; verdict = verdict.Stopped BadLength handled; nine = nine })
+stopped_by handled nine error.TurnsSpent = Ok (record { status = status.Stopped; verdict = verdict.Stopped TurnsSpent handled; nine = nine })
 stopped_by handled nine (error.Attach errno) = Ok (record { status = status.Stopped; verdict = verdict.Stopped (Attach errno) handled; nine = nine })
 stopped_by handled nine error.NoMemory = Err status.Memory
 stopped_by handled nine error.Read = Err status.Input
@@ -31,23 +34,25 @@ abbrev pub ending_of : Result Pumped Stopped → Result Ending Status
 ending_of (Ok r) = Ok (record { status = status.Served; verdict = verdict.Served MOUNT_FLAGS r.handled; nine = r.nine_frames })
 ending_of (Err r) = stopped_by r.handled r.nine_frames r.cause
 
--- the input didn't fail, and from the tree t its bytes lead to this answer and this report
-abbrev pub LeadsTo : Tree → Option (List ℕ) → ℕ → ℕ → Status → List ℕ → Verdict → Tree → ℕ → Type 0
-LeadsTo t left in0 in1 s replies verdict last nine = (in1 ≡ in0) × IfSome left (λ bytes. served (linked t) (cut TURNS bytes) ≡ (s, report replies verdict last mount_table (min nine (2 ^ 64 - 1))))
+-- the input didn't fail, and from the words w and the tree t its bytes lead to this answer and this report
+abbrev pub LeadsTo : Serve → Tree → Option (List ℕ) → ℕ → ℕ → Status → List ℕ → Verdict → Tree → ℕ → Type 0
+LeadsTo w t left in0 in1 s replies verdict last nine = (in1 ≡ in0) × IfSome left (λ bytes. served w (linked t) (cut w.turns bytes) ≡ (s, report replies verdict last mount_table (min nine (2 ^ 64 - 1))))
 
 -- a share that stopped, by the cause
-abbrev pub StoppedBy : Tree → Option (List ℕ) → ℕ → ℕ → List ℕ → Tree → ℕ → ℕ → PumpError → Type 0
-StoppedBy t left in0 in1 replies last handled nine error.Torn = LeadsTo t left in0 in1 status.Stopped replies (verdict.Stopped Torn handled) last nine
-StoppedBy t left in0 in1 replies last handled nine error.Read = Faulted in0 in1
-StoppedBy t left in0 in1 replies last handled nine error.NoMemory = in1 ≡ in0
-StoppedBy t left in0 in1 replies last handled nine error.Write = ⊥
-StoppedBy t left in0 in1 replies last handled nine (error.Attach errno) = LeadsTo t left in0 in1 status.Stopped replies (verdict.Stopped (Attach errno) handled) last nine
+abbrev pub StoppedBy : Serve → Tree → Option (List ℕ) → ℕ → ℕ → List ℕ → Tree → ℕ → ℕ → PumpError → Type 0
+StoppedBy w t left in0 in1 replies last handled nine error.Torn = LeadsTo w t left in0 in1 status.Stopped replies (verdict.Stopped Torn handled) last nine
+StoppedBy w t left in0 in1 replies last handled nine error.BadLength = LeadsTo w t left in0 in1 status.Stopped replies (verdict.Stopped BadLength handled) last nine
+StoppedBy w t left in0 in1 replies last handled nine error.TurnsSpent = LeadsTo w t left in0 in1 status.Stopped replies (verdict.Stopped TurnsSpent handled) last nine
+StoppedBy w t left in0 in1 replies last handled nine error.Read = Faulted in0 in1
+StoppedBy w t left in0 in1 replies last handled nine error.NoMemory = in1 ≡ in0
+StoppedBy w t left in0 in1 replies last handled nine error.Write = ⊥
+StoppedBy w t left in0 in1 replies last handled nine (error.Attach errno) = LeadsTo w t left in0 in1 status.Stopped replies (verdict.Stopped (Attach errno) handled) last nine
 
-abbrev pub SharesBy : Tree → Option (List ℕ) → ℕ → ℕ → List ℕ → Tree → Result Pumped Stopped → Type 0
-SharesBy t left in0 in1 replies last (Ok r) = LeadsTo t left in0 in1 status.Served replies (verdict.Served MOUNT_FLAGS r.handled) last r.nine_frames
-SharesBy t left in0 in1 replies last (Err r) = StoppedBy t left in0 in1 replies last r.handled r.nine_frames r.cause
+abbrev pub SharesBy : Serve → Tree → Option (List ℕ) → ℕ → ℕ → List ℕ → Tree → Result Pumped Stopped → Type 0
+SharesBy w t left in0 in1 replies last (Ok r) = LeadsTo w t left in0 in1 status.Served replies (verdict.Served MOUNT_FLAGS r.handled) last r.nine_frames
+SharesBy w t left in0 in1 replies last (Err r) = StoppedBy w t left in0 in1 replies last r.handled r.nine_frames r.cause
 
--- a share of the tree t leads to these replies and leaves this tree
-pub record Shares (t : Tree) (left : Option (List ℕ)) (in0 in1 : ℕ) (replies : List ℕ) (last : Tree) (result : Result Pumped Stopped) : Type 0 where
-  pub answer : SharesBy t left in0 in1 replies last result
+-- a share of the tree t, by the words w, leads to these replies and leaves this tree
+pub record Shares (w : Serve) (t : Tree) (left : Option (List ℕ)) (in0 in1 : ℕ) (replies : List ℕ) (last : Tree) (result : Result Pumped Stopped) : Type 0 where
+  pub answer : SharesBy w t left in0 in1 replies last result
   pub whole : linked last ≡ last

@@ -1,5 +1,5 @@
 //! The definitions of this crate at examples. Each function makes no call: its contract is the example.
-ghost use Rattle.std.specs.Prelude.{◌≡◌, ℕ, List, [], ◌∷◌, codes, Some, Err};
+ghost use Rattle.std.specs.Prelude.{◌≡◌, ℕ, List, [], ◌∷◌, codes, Some, None, Err};
 ghost use Rattle.tree_model.specs.declared.attributes.Kind.{Kind};
 ghost use Rattle.tree_model.specs.declared.attributes.Stamp.{Stamp};
 ghost use Rattle.mount9_run.specs.Command.{command};
@@ -8,10 +8,12 @@ ghost use Rattle.mount9_run.specs.Outcome.{outcome};
 ghost use Rattle.mount9_run.specs.declared.run.Status.TheVariants as status;
 ghost use Rattle.mount9_run.specs.ReportLines.{entry_line, directory_line, stamp_text};
 
-/// A share of the whole tree at `/mnt`.
-#[tactic(auto, using(crate::proofs::ByComputing::command_example))]
+/// A share of the whole tree at `/mnt`, with and without numbers; a message size of 255 is refused.
+#[tactic(auto, using(crate::proofs::ByComputing::command_example, crate::proofs::ByComputing::numbers_example, crate::proofs::ByComputing::msize_refused))]
 pub fn a_share_at_mnt()
-    ensures { command (codes "serve" ∷ codes "target=/mnt" ∷ codes "root=/" ∷ []) ≡ Some (record { target = codes "/mnt"; root = codes "/" }) }
+    ensures plain { command (codes "serve" ∷ codes "target=/mnt" ∷ codes "root=/" ∷ []) ≡ Some (record { target = codes "/mnt"; root = codes "/"; msize = 65560; turns = 4096; ids = 1024 }) }
+    ensures numbers { command (codes "serve" ∷ codes "ids=0" ∷ codes "root=/" ∷ codes "msize=4352" ∷ codes "target=/" ∷ []) ≡ Some (record { target = codes "/"; root = codes "/"; msize = 4352; turns = 4096; ids = 0 }) }
+    ensures short { command (codes "serve" ∷ codes "target=/" ∷ codes "root=/" ∷ codes "msize=255" ∷ []) ≡ None }
 {}
 
 /// A header whose second line tells no nanoseconds is refused at that line.

@@ -104,6 +104,9 @@ nine 4
             (Cause::Mount(2), 0, "stopped mount 2 handled=0\n"),
             (Cause::Attach(23), 0, "stopped attach 23 handled=0\n"),
             (Cause::Torn, 1, "stopped torn handled=1\n"),
+            (Cause::BadLength, 2, "stopped length handled=2\n"),
+            (Cause::TurnsSpent, 1, "stopped turns handled=1\n"),
+            (Cause::MsizeTooSmall, 0, "stopped msize handled=0\n"),
         ];
         for (cause, handled, want) in cases {
             let mut out = MemSink::new(alloc);

@@ -1,5 +1,5 @@
 //! The top call: words and a stream in, a report out.
-ghost use Rattle.std.specs.Prelude.{◌≡◌, ◌<◌, ◌^◌, IfOk, None, [], codes};
+ghost use Rattle.std.specs.Prelude.{◌≡◌, ◌<◌, ◌≤◌, ◌^◌, IfOk, None, [], codes};
 ghost use Rattle.std.specs.FinMap as map;
 ghost use Rattle.tree_model.specs.Tree.{linked};
 ghost use Rattle.tree_host.specs.TreeHosts.{tree};
@@ -9,13 +9,14 @@ ghost use Rattle.mount9_run.specs.HeaderViews.{IsFresh, header_view};
 ghost use Rattle.mount9_run.specs.Wrote.{Wrote};
 ghost use Rattle.mount9_run.specs.ReportLines.{number_line};
 ghost use Rattle.mount9_run.specs.Report.{report};
-ghost use Rattle.mount9_run.specs.Outcome.{share_settings, mount_table, is_present, mount_refused, served, run_of, refused_words, outcome};
+ghost use Rattle.mount9_run.specs.Outcome.{share_settings, mount_table, is_present, mount_refused, refusal, served, run_of, refused_words, outcome};
 ghost use Rattle.mount9_run.specs.Running.{Ran, Tells, after_text};
 ghost use Rattle.mount9_run.specs.Serving.{Shares, stopped_by, ending_of};
 ghost use Rattle.mount9_run.specs.Command.{command};
+ghost use Rattle.mount9_run.specs.CommandViews.{share_view};
 ghost use Rattle.mount9_run.specs.declared.run.Status.TheVariants as status;
 
-use crate::command::{WordsError, read_words};
+use crate::command::{Command, ShareWords, WordsError, read_words};
 use crate::header::error::HeaderError;
 use crate::header::text::{TextError, take_text};
 use crate::header::{Header, read_text};
@@ -23,6 +24,7 @@ use crate::report::verdict::{Cause, Verdict};
 use crate::report::write_report;
 use crate::report::writing::{write_number_line, write_replies, write_text};
 use frame_pump::outcome::{PumpError, Pumped, Stopped};
+use fuse_gate::gate::LEAST_MSIZE;
 use fuse_gate::pump::pump;
 use p9_server::{Config, Server};
 use port_base::errno::{ENOENT, EPERM};
@@ -34,12 +36,6 @@ use port_base::words::Words;
 use std::alloc::Global;
 use tree_host::TreeHost;
 
-/// How many fids a share has at most.
-pub const FID_LIMIT: u32 = 1024;
-
-/// How many frames a run handles at most.
-pub const TURNS: u32 = 4096;
-
 /// The flags of the mount: `MS_NOSUID` and `MS_NODEV`.
 pub const MOUNT_FLAGS: u64 = 6;
 
@@ -48,7 +44,7 @@ pub const MOUNT_FLAGS: u64 = 6;
 pub enum Status {
     /// The input was read to its end, and every frame handled.
     Served = 0,
-    /// The mount or the attach was refused, or the input ended within a frame.
+    /// Messages are too short, the mount or the attach was refused, or the input didn't end at a frame's end.
     Stopped,
     /// The words are refused.
     Words,
@@ -164,14 +160,16 @@ fn mount_refused(target: &[u8], header: &Header) -> Option<u32>
 }
 
 // How a share is set up.
-fn share_config(alloc: Global) -> Result<Config, NoMemory>
-    ensures settings { IfOk result (λ c. settings_of c ≡ share_settings) }
-    ensures msize { IfOk result (λ c. c.msize ≡ 65560) }
+fn share_config(alloc: Global, share: &ShareWords) -> Result<Config, NoMemory>
+    requires { LEAST_MSIZE ≤ share.now.msize }
+    ensures settings { IfOk result (λ c. settings_of c ≡ share_settings (share_view share.now)) }
+    ensures msize { IfOk result (λ c. c.msize ≡ share.now.msize) }
     ensures allowed { IfOk result (λ c. config_refused c.msize c.root.items ≡ None) }
 {
     let config = Config::standard(alloc)?;
     Ok(Config {
-        fid_limit: FID_LIMIT,
+        msize: share.msize,
+        fid_limit: share.ids,
         ..config
     })
 }
@@ -185,18 +183,25 @@ struct Shared {
 }
 
 // A tree is served to the requests of the input.
-fn share<S: Source>(alloc: Global, config: Config, host: TreeHost, input: &mut S) -> Shared
+fn share<S: Source>(
+    alloc: Global,
+    words: &ShareWords,
+    config: Config,
+    host: TreeHost,
+    input: &mut S,
+) -> Shared
     requires fresh { IsFresh host }
-    requires settings { settings_of config ≡ share_settings }
-    requires msize { config.msize ≡ 65560 }
+    requires long { LEAST_MSIZE ≤ words.now.msize }
+    requires settings { settings_of config ≡ share_settings (share_view words.now) }
+    requires msize { config.msize ≡ words.now.msize }
     requires allowed { config_refused config.msize config.root.items ≡ None }
-    ensures { Shares (tree host) (S.left input.old) (S.faults input.old) (S.faults input.new) result.replies.bytes.items (tree result.host) result.told }
+    ensures { Shares (share_view words.now) (tree host) (S.left input.old) (S.faults input.old) (S.faults input.new) result.replies.bytes.items (tree result.host) result.told }
 {
     let Ok(mut server) = Server::with_config(alloc, host, config) else {
         unreachable!()
     };
     let mut replies = MemSink::new(alloc);
-    let told = pump(alloc, &mut server, input, &mut replies, TURNS);
+    let told = pump(alloc, &mut server, input, &mut replies, words.turns);
     let host = server.into_host();
     Shared {
         told,
@@ -211,6 +216,8 @@ fn stopped_by(stopped: Stopped) -> Result<Ending, Status>
 {
     let cause = match stopped.cause {
         PumpError::Torn => Cause::Torn,
+        PumpError::BadLength => Cause::BadLength,
+        PumpError::TurnsSpent => Cause::TurnsSpent,
         PumpError::Attach(errno) => Cause::Attach(errno),
         PumpError::NoMemory => return Err(Status::Memory),
         PumpError::Read => return Err(Status::Input),
@@ -245,47 +252,64 @@ fn ending_of(told: Result<Pumped, Stopped>) -> Result<Ending, Status>
 }
 
 // A tree is served, and reported.
-fn serve<S: Source, K: Sink>(alloc: Global, host: TreeHost, input: &mut S, out: &mut K) -> Status
-    requires { IsFresh host }
-    ensures { Ran (λ bytes. served (linked (tree host)) (cut TURNS bytes)) (S.left input.old) (K.sent out.old) (K.sent out.new) (S.faults input.old) (S.faults input.new) (K.faults out.old) (K.faults out.new) result }
+fn serve<S: Source, K: Sink>(
+    alloc: Global,
+    words: &ShareWords,
+    host: TreeHost,
+    input: &mut S,
+    out: &mut K,
+) -> Status
+    requires fresh { IsFresh host }
+    requires long { LEAST_MSIZE ≤ words.now.msize }
+    ensures { Ran (λ bytes. served (share_view words.now) (linked (tree host)) (cut words.now.turns bytes)) (S.left input.old) (K.sent out.old) (K.sent out.new) (S.faults input.old) (S.faults input.new) (K.faults out.old) (K.faults out.new) result }
 {
-    let Ok(config) = share_config(alloc) else {
+    let Ok(config) = share_config(alloc, words) else {
         return Status::Memory;
     };
     let Shared {
         told,
         host,
         replies,
-    } = share(alloc, config, host, input);
+    } = share(alloc, words, config, host, input);
     match ending_of(told) {
         Ok(ending) => tell_report(alloc, out, ending, replies.as_bytes(), &host),
         Err(status) => status,
     }
 }
 
-// A tree is served and reported, or the refused mount of it.
+// Why nothing is served, though words and header are accepted.
+fn refusal(words: &ShareWords, header: &Header) -> Option<Cause>
+    ensures { result ≡ refusal (share_view words.now) (header_view header.now) }
+{
+    if words.msize < LEAST_MSIZE {
+        return Some(Cause::MsizeTooSmall);
+    }
+    match mount_refused(&words.target, header) {
+        Some(errno) => Some(Cause::Mount(errno)),
+        None => None,
+    }
+}
+
+// A tree is served and reported, or why it isn't.
 fn mount<S: Source, K: Sink>(
     alloc: Global,
-    target: &[u8],
+    words: &ShareWords,
     header: Header,
     input: &mut S,
     out: &mut K,
 ) -> Status
     requires { IsFresh header.host }
-    ensures { Ran (run_of target.now (header_view header)) (S.left input.old) (K.sent out.old) (K.sent out.new) (S.faults input.old) (S.faults input.new) (K.faults out.old) (K.faults out.new) result }
+    ensures { Ran (run_of (share_view words.now) (header_view header)) (S.left input.old) (K.sent out.old) (K.sent out.new) (S.faults input.old) (S.faults input.new) (K.faults out.old) (K.faults out.new) result }
 {
-    if let Some(errno) = mount_refused(target, &header) {
+    if let Some(cause) = refusal(words, &header) {
         let ending = Ending {
             status: Status::Stopped,
-            verdict: Verdict::Stopped {
-                cause: Cause::Mount(errno),
-                handled: 0,
-            },
+            verdict: Verdict::Stopped { cause, handled: 0 },
             nine: 0,
         };
         return tell_report(alloc, out, ending, &[], &header.host);
     }
-    serve(alloc, header.host, input, out)
+    serve(alloc, words, header.host, input, out)
 }
 
 /// Runs the program: `words` is the command line, `input` a header and the request frames behind it. The
@@ -297,8 +321,8 @@ pub fn run<S: Source, K: Sink>(alloc: Global, words: &Words, input: &mut S, out:
     ensures unread { command words.now ≡ None → input.new ≡ input.old }
     ensures refused { command words.now ≡ None → Ran refused_words (Some []) (K.sent out.old) (K.sent out.new) (S.faults input.old) (S.faults input.new) (K.faults out.old) (K.faults out.new) result }
 {
-    let command = match read_words(alloc, words) {
-        Ok(command) => command,
+    let share = match read_words(alloc, words) {
+        Ok(Command::Serve(share)) => share,
         Err(WordsError::Words) => return tell(out, Status::Words, b"words\n"),
         Err(WordsError::NoMemory) => return Status::Memory,
     };
@@ -310,7 +334,7 @@ pub fn run<S: Source, K: Sink>(alloc: Global, words: &Words, input: &mut S, out:
         Err(TextError::NoMemory) => return Status::Memory,
     }
     match read_text(alloc, &text) {
-        Ok(header) => mount(alloc, command.target(), header, input, out),
+        Ok(header) => mount(alloc, &share, header, input, out),
         Err(HeaderError::Line(line)) => tell_line(alloc, out, line),
         Err(HeaderError::NoMemory) => Status::Memory,
     }

@@ -119,6 +119,9 @@ fn push_cause(alloc: Global, line: &mut Vec<u8>, cause: Cause) -> Result<(), All
 {
     match cause {
         Cause::Torn => push_field(line, b"torn"),
+        Cause::BadLength => push_field(line, b"length"),
+        Cause::TurnsSpent => push_field(line, b"turns"),
+        Cause::MsizeTooSmall => push_field(line, b"msize"),
         Cause::Mount(errno) => {
             push_field(line, b"mount")?;
             push_number(alloc, line, errno as u64)

@@ -3,6 +3,7 @@ use Rattle.std.proofs.Common.{◌≡◌, refl, sym, ap, ◌∙◌, subst}
 use Rattle.tree_host.specs.declared.memory.TreeHost.{TreeHost}
 use Rattle.tree_host.specs.TreeHosts.{tree, holds}
 use Rattle.fid_model.specs.Fids.{ServerState}
+use Rattle.mount9_run.specs.CommandViews.{share_view}
 use Rattle.mount9_run.specs.Serving.{Shares}
 use Rattle.mount9_run.proofs.Reporting.{Shares-from, linked_whole}
 use Rattle.mount9_run.proofs.run.share.Goals as goal
@@ -12,9 +13,10 @@ returns g c =
     let h = c.pump-told.ensures.pumps in
     let at = c.in-Ok.ensures.host in
     let last = c.into_host-host.result in
-    subst (λ (x : TreeHost). Shares (tree x) (g.S.Source.left c.args.input.now) (g.S.Source.faults c.args.input.now) (g.S.Source.faults c.pump-told.new.input) c.pump-told.new.out.bytes.items (tree last) c.pump-told.result) at
-    (Shares-from _ _
+    subst (λ (x : TreeHost). Shares (share_view c.args.words.now) (tree x) (g.S.Source.left c.args.input.now) (g.S.Source.faults c.args.input.now) (g.S.Source.faults c.pump-told.new.input) c.pump-told.new.out.bytes.items (tree last) c.pump-told.result) at
+    (Shares-from (share_view c.args.words.now) _ _
     (ap (λ (s : ServerState). s.settings) c.in-Ok.ensures.state ∙ c.requires.settings)
+    (ap (λ (s : ServerState). s.msize) c.in-Ok.ensures.state ∙ c.requires.msize)
     (ap (λ (x : TreeHost). x.faults) at ∙ c.requires.fresh.faults)
     (h.steadily (ap (λ (x : TreeHost). x.steady) at ∙ c.requires.fresh.steady))
     _ _ _ _ _ _ c.new-replies.ensures (tree last) c.into_host-host.ensures.tree c.pump-told.result
