@@ -17,4 +17,6 @@ pub mod Presence
 pub mod Told
 pub mod Mounting
 pub mod HeaderTree
+pub mod HeaderUnescaping
+pub mod HeaderExamples
 pub mod Causes

@@ -1,16 +1,15 @@
 -- The lines of a header, each by its kind.
 use Rattle.std.specs.Prelude.{ℕ, ◌-◌, ◌^◌, List, [], ◌∷◌, ◌++◌, length, drop, Option, Some, None, Result, Ok, Err, ◌==◌, ◌&&◌, not, is_some, slice_index, if◌then◌else◌, Bool, true, false, codes, bytes_eq}
-use Rattle.std.specs.List.{list_any}
 use Rattle.hex.specs.Hex.{decode_of}
 use Rattle.hex.specs.declared.error.FromHexError.{FromHexError}
-use Rattle.port_base.specs.Escapes.{is_escaped}
 use Rattle.port_base.specs.Names.{name_fault}
 use Rattle.tree_model.specs.declared.attributes.Stamp.{Stamp}
 use Rattle.tree_model.specs.declared.attributes.Limits.{Limits}
 use Rattle.tree_model.specs.Tree.{Tree, top}
 use Rattle.tree_model.specs.Making.{NewFile, add_file_of}
 use Rattle.mount9_run.specs.Paths.{is_path}
-use Rattle.mount9_run.specs.Reading.{◌>>=◌, or_refused, field_at, keyword_at, after_word}
+use Rattle.mount9_run.specs.HeaderEscapes.{unescaped}
+use Rattle.mount9_run.specs.Reading.{◌>>=◌, check, or_refused, field_at, keyword_at, after_word}
 use Rattle.mount9_run.specs.Numbers.{number_at, number_field, mode_field}
 use Rattle.mount9_run.specs.declared.header.start.Top.{Top}
 
@@ -41,15 +40,14 @@ permit_at n line = do
   rest ← keyword_at (codes "permit") n line
   if bytes_eq rest (codes "yes") then Ok true else if bytes_eq rest (codes "no") then Ok false else Err n
 
--- no byte that an escape would stand for
-abbrev pub is_plain : List ℕ → Bool
-is_plain path = not (list_any is_escaped path)
-
 abbrev pub with_path : ℕ → List (List ℕ) → Option (List ℕ) → Result (Option (List (List ℕ))) ℕ
 with_path n paths None = Ok None
-with_path n paths (Some path) = if is_path path && is_plain path then Ok (Some (paths ++ path ∷ [])) else Err n
+with_path n paths (Some field) = do
+  path ← or_refused n (unescaped field)
+  ok ← check n (is_path path)
+  Ok (Some (paths ++ path ∷ []))
 
--- one more `present PATH`
+-- one more `present PATH`, with escapes
 unfoldable pub present_at : ℕ → List (List ℕ) → List ℕ → Result (Option (List (List ℕ))) ℕ
 present_at n paths line = with_path n paths (after_word (codes "present") line)
 
@@ -80,14 +78,14 @@ bytes_field n line = do
 
 -- a slash, and a name without fault directly below the top
 unfoldable pub name_of : List ℕ → Option (List ℕ)
-name_of path = if (slice_index path 0 == 47) && (is_plain path && not (is_some (name_fault (drop 1 path)))) then Some (drop 1 path) else None
+name_of path = if (slice_index path 0 == 47) && not (is_some (name_fault (drop 1 path))) then Some (drop 1 path) else None
 
 -- a file and its name
 pub record NamedFile : Type 0 where
   pub name : List ℕ
   pub file : NewFile
 
--- `file MODE UID GID HEX PATH`
+-- `file MODE UID GID HEX PATH`, with escapes in the path
 unfoldable pub file_at : ℕ → List ℕ → Result NamedFile ℕ
 file_at n line = do
   rest ← keyword_at (codes "file") n line
@@ -95,7 +93,8 @@ file_at n line = do
   uid ← number_field 0 OWNER_MAX n mode.1
   gid ← number_field 0 OWNER_MAX n uid.1
   bytes ← bytes_field n gid.1
-  name ← or_refused n (name_of bytes.1)
+  path ← or_refused n (unescaped bytes.1)
+  name ← or_refused n (name_of path)
   Ok (record { name = name; file = record { mode = mode.0; uid = uid.0; gid = gid.0; bytes = bytes.0 } })
 
 -- the tree that an addition leaves, or the refused line

@@ -1,6 +1,7 @@
 pub mod Command
 pub mod CommandViews
 pub mod Header
+pub mod HeaderEscapes
 pub mod HeaderLines
 pub mod HeaderViews
 pub mod Numbers

@@ -1,9 +1,10 @@
 //! The definitions of this crate at examples. Each function makes no call: its contract is the example.
-ghost use Rattle.std.specs.Prelude.{◌≡◌, ℕ, List, [], ◌∷◌, codes, Some, None, Err};
+ghost use Rattle.std.specs.Prelude.{◌≡◌, ℕ, List, [], ◌∷◌, codes, Some, None, Ok, Err};
 ghost use Rattle.tree_model.specs.declared.attributes.Kind.{Kind};
 ghost use Rattle.tree_model.specs.declared.attributes.Stamp.{Stamp};
 ghost use Rattle.mount9_run.specs.Command.{command};
 ghost use Rattle.mount9_run.specs.Header.{header};
+ghost use Rattle.mount9_run.specs.HeaderLines.{present_at, file_at};
 ghost use Rattle.mount9_run.specs.Outcome.{outcome};
 ghost use Rattle.mount9_run.specs.declared.run.Status.TheVariants as status;
 ghost use Rattle.mount9_run.specs.ReportLines.{entry_line, directory_line, stamp_text};
@@ -26,6 +27,30 @@ pub fn a_header_without_nanoseconds()
 #[tactic(auto, using(crate::proofs::ByComputing::endless_example))]
 pub fn a_header_without_end()
     ensures { header (codes "mount9 1\nending\nend") ≡ Err 0 }
+{}
+
+/// A directory with a blank in its name, as the header's sixth line tells it.
+#[tactic(auto, using(crate::proofs::HeaderExamples::blank_example))]
+pub fn a_path_with_an_escaped_blank()
+    ensures { present_at 6 [] (codes "present /a\\040b") ≡ Ok (Some (codes "/a b" ∷ [])) }
+{}
+
+/// A backslash that begins no escape is refused.
+#[tactic(auto, using(crate::proofs::HeaderExamples::backslash_example))]
+pub fn a_path_with_a_raw_backslash()
+    ensures { present_at 6 [] (codes "present /a\\b") ≡ Err 6 }
+{}
+
+/// A letter has no escape, so three digits that would tell one are refused.
+#[tactic(auto, using(crate::proofs::HeaderExamples::other_byte_example))]
+pub fn a_path_with_an_escaped_letter()
+    ensures { present_at 6 [] (codes "present /\\141") ≡ Err 6 }
+{}
+
+/// A blank in a file's path has to be escaped.
+#[tactic(auto, using(crate::proofs::HeaderExamples::raw_blank_example))]
+pub fn a_file_with_a_raw_blank()
+    ensures { file_at 7 (codes "file 0644 0 0 - /a b") ≡ Err 7 }
 {}
 
 /// The line of a directory's entry, with the blank in its name escaped.

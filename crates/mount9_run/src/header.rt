@@ -13,6 +13,7 @@ pub(crate) mod numbers;
 mod present;
 mod start;
 pub mod text;
+mod unescaping;
 
 use error::HeaderError;
 use files::file_lines;
@@ -104,13 +105,14 @@ mod tests {
     #[test]
     fn a_header_is_read(rt: HostRuntime) -> Result<(), Fail> {
         let text = format!(in rt.alloc();
-            "{START}present /mnt\ntop 0755 0 0\nfile 0644 1000 1001 68656C6c6f0a /hello\nend\nrest"
+            "{START}present /mnt\\040a\ntop 0755 0 0\nfile 0644 1000 1001 68656C6c6f0a /a\\040b\nend\nrest"
         )?;
         let header = read_header(rt.alloc(), text.as_bytes())
             .ok()
             .expect(&rt, "accepted");
         assert_eq!(rt; header.permitted, true);
         assert_eq!(rt; header.present.len(), 1);
+        assert_eq!(rt; header.present.get(0), Some(b"/mnt a".as_slice()));
         assert_eq!(rt; header.host.next_ino(), 3);
         let top = header.host.record_after(0).ok_or("no top")?;
         assert_eq!(rt; (top.ino, top.mode, top.links), (1, 0o755, 2));
@@ -121,6 +123,8 @@ mod tests {
         );
         assert_eq!(rt; (file.mtime.sec, file.mtime.nsec), (1600000000, 0));
         assert_eq!(rt; header.host.record_after(2), None);
+        assert_eq!(rt; header.host.find(b"/a b"), Some(2));
+        assert_eq!(rt; header.host.find(b"/a\\040b"), None);
         Ok(())
     }
 
@@ -137,7 +141,11 @@ mod tests {
             ("end\n", Some(6)),
             ("present /\npresent /a/b\nend\n", Some(8)),
             ("present /a \nend\n", Some(6)),
-            ("present /a\\040\nend\n", Some(6)),
+            ("present /a\\040\nend\n", Some(7)),
+            ("present /a\\041\nend\n", Some(6)),
+            ("present /a\\\nend\n", Some(6)),
+            ("present /\\056\nend\n", Some(6)),
+            ("present /a\\134040\ntop 0755 0 0\nend\n", None),
             ("present a\nend\n", Some(6)),
             ("top 755 0 0\nend\n", Some(6)),
             ("top 0855 0 0\nend\n", Some(6)),
@@ -153,7 +161,18 @@ mod tests {
             ("top 0755 0 0\nfile 0644 0 0 - /\nend\n", Some(7)),
             ("top 0755 0 0\nfile 0644 0 0 - /..\nend\n", Some(7)),
             ("top 0755 0 0\nfile 0644 0 0 - /a/b\nend\n", Some(7)),
-            ("top 0755 0 0\nfile 0644 0 0 - /a\\040b\nend\n", Some(7)),
+            ("top 0755 0 0\nfile 0644 0 0 - /a\\040b\nend\n", None),
+            ("top 0755 0 0\nfile 0644 0 0 - /a b\nend\n", Some(7)),
+            ("top 0755 0 0\nfile 0644 0 0 - /a\\b\nend\n", Some(7)),
+            ("top 0755 0 0\nfile 0644 0 0 - /a\\04\nend\n", Some(7)),
+            (
+                "top 0755 0 0\nfile 0644 0 0 - /\\134040\nfile 0644 0 0 - /\\040\nend\n",
+                None,
+            ),
+            (
+                "top 0755 0 0\nfile 0644 0 0 - /\\011\nfile 0644 0 0 - /\\011\nend\n",
+                Some(8),
+            ),
             ("top 0755 0 0\nfile 0644 0 0 - /a\tb\nend\n", Some(7)),
             (
                 "top 0755 0 0\nfile 0644 0 0 - /a\nfile 0644 0 0 - /a\nend\n",

@@ -12,7 +12,7 @@ ghost use Rattle.mount9_run.specs.HeaderViews.{file_view, GivesBytes, ChangesTre
 use crate::header::error::HeaderError;
 use crate::header::lines::{Place, field, keyword, next_line};
 use crate::header::numbers::{mode_field, owner_field};
-use crate::header::present::is_plain;
+use crate::header::unescaping::path_of_field;
 use port_base::names::name_fault;
 use std::alloc::Global;
 use tree_host::{NewItem, TreeHost};
@@ -66,7 +66,7 @@ fn name_of(path: &[u8]) -> Option<&[u8]>
     ensures value { option_map (λ x. x.now) result ≡ name_of path.now }
     ensures good { IfSome result (λ x. name_fault x.now ≡ None) }
 {
-    if path.is_empty() || path[0] != b'/' || !is_plain(path) {
+    if path.is_empty() || path[0] != b'/' {
         return None;
     }
     match name_fault(&path[1..]) {
@@ -85,7 +85,8 @@ fn file_line(alloc: Global, at: u64, line: &[u8]) -> Result<FileLine, HeaderErro
     let (uid, rest) = owner_field(at, rest)?;
     let (gid, rest) = owner_field(at, rest)?;
     let (bytes, rest) = bytes_field(alloc, at, rest)?;
-    match name_of(rest) {
+    let path = path_of_field(alloc, at, rest)?;
+    match name_of(&path) {
         Some(name) => {
             let name = Vec::from_slice(alloc, name)?;
             Ok(FileLine {
