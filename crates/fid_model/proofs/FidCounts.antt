@@ -1,12 +1,10 @@
 -- How many fids name an inode, when a fid comes, changes or goes.
-use Rattle.std.proofs.Common.{◌≡◌, ◌≢◌, ℕ, ◌+◌, ◌-◌, ◌<◌, ◌≤◌, Bool, true, false, cond, ◌||◌, List, [], ◌∷◌, length, refl, sym, ap, ◌∙◌, subst, Option, Some, None, arith, IsSome, nat_lt}
-use Rattle.std.specs.Prelude.{◌==◌}
+use Rattle.std.proofs.Common.{◌≡◌, ℕ, ◌+◌, ◌<◌, ◌≤◌, List, [], ◌∷◌, length, ap, Some, None, arith}
 use Rattle.std.proofs.lemmas.Bool.Decides.{nat_tests}
-use Rattle.std.specs.FinMap.{FinMap, get, insert, remove, entries, len, len-entries, empty}
-use Rattle.tree_model.specs.Tree.{weigh, weight, is_linked, Records}
-use Rattle.tree_model.specs.Sound.{IsKept}
+use Rattle.std.specs.FinMap.{get, insert, remove, entries, len, len-entries}
+use Rattle.tree_model.specs.Tree.{weigh, weight}
 use Rattle.tree_model.proofs.Counting.{weigh-insert, weigh-remove}
-use Rattle.fid_model.specs.Fids.{ServerState, Fids, Fid, fid_weight, fid_count, is_held, IsGoodServer}
+use Rattle.fid_model.specs.Fids.{Fids, Fid, fid_weight, fid_count}
 
 weigh-few : (i : ℕ) (es : List (ℕ × Fid)) → weigh (fid_weight i) es ≤ length es
 weigh-few i [] = omega arith

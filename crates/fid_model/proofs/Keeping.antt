@@ -1,15 +1,14 @@
 -- What `keep` leaves: all of a tree whose records are linked or held; and keeping twice is keeping what the second time keeps.
-use Rattle.std.proofs.Common.{◌≡◌, ◌≢◌, ℕ, ◌+◌, ◌<◌, ◌≤◌, Bool, true, false, cond, ◌||◌, List, [], refl, sym, ap, ◌∙◌, subst, Option, Some, None, arith, IsSome, nat_lt}
+use Rattle.std.proofs.Common.{◌≡◌, ℕ, Bool, true, false, cond, ◌||◌, [], refl, sym, ap, ◌∙◌, Option, Some, None, IsSome, nat_lt}
 use Rattle.std.specs.Prelude.{◌==◌}
 use Rattle.std.proofs.lemmas.Bool.{false≢true}
-use Rattle.std.proofs.lemmas.Bool.Decides.{nat_tests}
-use Rattle.std.specs.FinMap.{FinMap, get, retain_keys, entries}
+use Rattle.std.specs.FinMap.{get, retain_keys}
 use Rattle.tree_model.specs.Tree.{Tree, Record, Records, is_linked, name_count, names_in, count_names, listed, weight, keep, top}
-use Rattle.tree_model.specs.Good.{IsGoodTree, IsAt}
+use Rattle.tree_model.specs.Good.{IsGoodTree}
 use Rattle.tree_model.specs.Sound.{IsKept}
 use Rattle.tree_model.proofs.Maps.{retained, same_gets}
 use Rattle.tree_model.proofs.Counting.{weigh-alike}
-use Rattle.fid_model.specs.Fids.{ServerState, Fids, Fid, fid_count, is_held, settled, IsGoodServer}
+use Rattle.fid_model.specs.Fids.{ServerState, is_held, settled, IsGoodServer}
 
 passes : (b : Bool) (o : Option Record) → (IsSome o → b ≡ true) → cond b o None ≡ o
 passes true o h = refl

@@ -1,9 +1,9 @@
 -- A reply without a fault is the machine's on bytes.
-use Rattle.std.proofs.Common.{◌≡◌, ◌⊎◌, ⊎_elim, ℕ, List, Result, Ok, Err, Some, None, refl, sym, ap, ◌∙◌, subst}
+use Rattle.std.proofs.Common.{◌≡◌, ⊎_elim, ℕ, List, Result, Ok, Err, Some, None, sym, ap, ◌∙◌, subst}
 use Rattle.std.specs.declared.option.Option.{Option}
 use Rattle.port_base.specs.Faults.{Rose}
 use Rattle.p9_wire.specs.declared.error.WireError.{WireError}
-use Rattle.p9_wire.specs.Reading.{Reads, Found, ◌>>=◌, give}
+use Rattle.p9_wire.specs.Reading.{Found, ◌>>=◌, give}
 use Rattle.p9_tmsg.specs.Messages.{Message}
 use Rattle.p9_tmsg.specs.Frames.{frame_within}
 use Rattle.p9_rmsg.specs.Replies.{Reply}

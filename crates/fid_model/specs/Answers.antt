@@ -1,8 +1,8 @@
 -- The fid machine: what each message of 9P2000.L answers, and the state that it leaves.
-use Rattle.std.specs.Prelude.{◌≡◌, ℕ, ◌+◌, ◌-◌, ◌<◌, ◌≤◌, min, Bool, true, false, ◌&&◌, not, List, [], ◌∷◌, length, Option, Some, None, Result, Ok, Err, if◌then◌else◌, ◌==◌, nat_lt, nat_le, is_some}
+use Rattle.std.specs.Prelude.{ℕ, ◌-◌, min, Bool, ◌&&◌, not, List, [], ◌∷◌, length, Option, Some, None, Result, Ok, Err, if◌then◌else◌, ◌==◌, nat_lt, nat_le}
 use Rattle.std.specs.FinMap as map
 use Rattle.port_base.specs.Names.{name_fault}
-use Rattle.port_base.specs.declared.errno.TheConstants.{ENOENT, EBADF, EINVAL, ENFILE, EOPNOTSUPP}
+use Rattle.port_base.specs.declared.errno.TheConstants.{EBADF, EINVAL, ENFILE, EOPNOTSUPP}
 use Rattle.port_base.specs.declared.oflag.TheConstants.{TRUNC, APPEND}
 use Rattle.tree_model.specs.Tree.{Tree}
 use Rattle.tree_model.specs.Finding.{find, root_of}
@@ -14,7 +14,7 @@ use Rattle.p9_tmsg.specs.Messages.{Message}
 use Rattle.p9_tmsg.specs.Messages.Message.{attach as t_attach, clunk as t_clunk, getattr as t_getattr, lopen as t_lopen, read as t_read, walk as t_walk}
 use Rattle.p9_rmsg.specs.Replies.{Reply, Attributes}
 use Rattle.p9_rmsg.specs.Replies.Reply.{attach as r_attach, clunk as r_clunk, getattr as r_getattr, lerror as r_lerror, lopen as r_lopen, read as r_read, walk as r_walk}
-use Rattle.fid_model.specs.Fids.{Fid, Fids, ServerState, closed, is_readable, settled}
+use Rattle.fid_model.specs.Fids.{Fid, ServerState, closed, is_readable, settled}
 use Rattle.fid_model.specs.Fids.OpenState.{Opened}
 use Rattle.fid_model.specs.declared.sizes.TheConstants.{READ_HEAD}
 

@@ -1,11 +1,11 @@
 -- What single messages answer, in the terms of those that ask them.
-use Rattle.std.specs.Prelude.{◌≡◌, ◌⊎◌, ℕ, List, [], ◌∷◌, Option, Some, None, Result, Ok, Err, if◌then◌else◌, nat_le}
+use Rattle.std.specs.Prelude.{◌≡◌, ◌⊎◌, ℕ, List, Result, Ok, Err, if◌then◌else◌, nat_le}
 use Rattle.std.specs.FinMap as map
 use Rattle.port_base.specs.Faults.{Rose}
 use Rattle.port_base.specs.declared.errno.TheConstants.{EIO, ENFILE}
 use Rattle.tree_model.specs.Finding.{find, root_of}
 use Rattle.tree_model.specs.Attributes.{Qid, stat_of}
-use Rattle.tree_model.specs.Settings.{Settings, shown_told}
+use Rattle.tree_model.specs.Settings.{shown_told}
 use Rattle.tree_model.specs.declared.attributes.Attr.{Attr}
 use Rattle.fid_model.specs.Fids.{ServerState, settled, closed}
 use Rattle.fid_model.specs.Answers.{qid_at}

@@ -1,5 +1,5 @@
 -- What handling one message promises, whatever the host's faults.
-use Rattle.std.specs.Prelude.{◌≡◌, ◌⊎◌, ℕ, ◌<◌, ◌≤◌, List, length, Bool, true, IsTrue, Result, Ok, Err}
+use Rattle.std.specs.Prelude.{◌≡◌, ◌⊎◌, ℕ, ◌<◌, ◌≤◌, List, length, Bool, IsTrue, Result, Ok, Err}
 use Rattle.std.specs.declared.option.Option.{Option}
 use Rattle.std.specs.Io.KnownBytes.{Appends, Keeps}
 use Rattle.port_base.specs.Faults.{Faulted, Rose}
@@ -7,7 +7,7 @@ use Rattle.port_base.specs.Streams.{SentFront}
 use Rattle.port_base.specs.declared.errno.TheConstants.{EIO, EINVAL}
 use Rattle.p9_wire.specs.declared.error.WireError.{WireError}
 use Rattle.p9_wire.specs.declared.error.WireError.TheVariants.{InvalidInput, InvalidData, UnexpectedEof, Read, Write, NoMemory}
-use Rattle.p9_wire.specs.Reading.{Reads, Found, Refused}
+use Rattle.p9_wire.specs.Reading.{Found, Refused}
 use Rattle.p9_tmsg.specs.Messages.{Message}
 use Rattle.p9_tmsg.specs.Messages.Message.{attach as t_attach, getattr as t_getattr, lopen as t_lopen, read as t_read, walk as t_walk}
 use Rattle.p9_tmsg.specs.Frames.{frame_within}

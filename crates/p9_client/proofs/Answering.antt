@@ -1,12 +1,12 @@
 -- What the machine's answers say of the calls.
-use Rattle.std.proofs.Common.{◌≡◌, ◌≢◌, ◌⊎◌, inl, inr, ⊎_elim, ℕ, ◌+◌, ◌<◌, ◌≤◌, Bool, true, false, cond, not, ◌&&◌, List, [], ◌∷◌, length, Result, Ok, Err, Some, None, Option, refl, sym, ap, ◌∙◌, subst, arith, IsSome, OnErr, nat_le}
+use Rattle.std.proofs.Common.{◌≡◌, ◌⊎◌, inl, inr, ⊎_elim, ℕ, ◌<◌, Bool, true, false, cond, not, ◌&&◌, List, [], ◌∷◌, Result, Ok, Err, Some, None, Option, refl, sym, ap, ◌∙◌, subst, arith, IsSome, OnErr, nat_le}
 use Rattle.std.proofs.lemmas.Bool.{false≢true}
 use Rattle.std.proofs.lemmas.Bool.Decides.{nat_tests}
 use Rattle.std.specs.Prelude.{◌==◌, is_some, slice_get, map as mapped}
 use Rattle.std.specs.FinMap as map
 use Rattle.port_base.specs.Faults.{Rose}
 use Rattle.port_base.specs.Names.{name_fault}
-use Rattle.port_base.specs.declared.errno.TheConstants.{EIO, EBADF, ENFILE, EINVAL}
+use Rattle.port_base.specs.declared.errno.TheConstants.{EIO, EBADF, ENFILE}
 use Rattle.tree_model.specs.Finding.{find}
 use Rattle.tree_model.specs.Attributes.{Qid, stat_of}
 use Rattle.tree_model.specs.Settings.{shown_told, shown_of}
@@ -22,9 +22,9 @@ use Rattle.p9_rmsg.specs.declared.message.Rlerror.{Rlerror}
 use Rattle.p9_rmsg.specs.Replies.{Reply, Attributes, reply_of}
 use Rattle.p9_rmsg.specs.Replies.Reply.{walk as r_walk, getattr as r_getattr, clunk as r_clunk, lerror as r_lerror}
 use Rattle.fid_model.specs.Fids.{ServerState, Fid, settled, IsGoodServer, closed}
-use Rattle.fid_model.specs.Answers.{answer, core, walk_core, walk_from, walk_told, walk_names, walked_on, step_to, find_unless, getattr_by, got, clunk_by, qid_at, attributes_of}
-use Rattle.fid_model.specs.Handling.{Outcome, IsHurtReply, IsPartOfWalk}
-use Rattle.fid_model.specs.Asked.{Asks, named, walk_one_told, getattr_told, clunked}
+use Rattle.fid_model.specs.Answers.{answer, walk_core, walk_from, walk_told, walk_names, walked_on, find_unless, getattr_by, got, clunk_by, qid_at, attributes_of}
+use Rattle.fid_model.specs.Handling.{Outcome, IsPartOfWalk}
+use Rattle.fid_model.specs.Asked.{Asks, named, walk_one_told, clunked}
 use Rattle.fid_model.proofs.Keeping.{settled_same}
 use Rattle.p9_client.specs.Asking.{IsUnfinished}
 use Rattle.p9_client.specs.Views.{laid_out}

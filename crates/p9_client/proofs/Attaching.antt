@@ -1,26 +1,22 @@
 -- What an attach to a server without fids answers.
-use Rattle.std.proofs.Common.{◌≡◌, ◌⊎◌, inl, inr, ⊎_elim, ℕ, ◌<◌, ◌^◌, Bool, true, false, cond, List, [], Result, Ok, Err, Some, None, Option, refl, sym, ap, ◌∙◌, subst, arith, nat_le}
+use Rattle.std.proofs.Common.{◌≡◌, inl, inr, ⊎_elim, ℕ, Bool, true, false, cond, List, Result, Ok, Err, None, Option, refl, sym, ap, ◌∙◌, subst, nat_le}
 use Rattle.std.specs.Prelude.{is_some}
-use Rattle.std.specs.Str.{is_utf8}
 use Rattle.std.specs.Ordering.{nat_cmp}
 use Rattle.std.specs.FinMap as map
-use Rattle.port_base.specs.Faults.{Rose}
-use Rattle.port_base.specs.declared.errno.TheConstants.{EIO, EBADF, ENFILE}
+use Rattle.port_base.specs.declared.errno.TheConstants.{EBADF, ENFILE}
 use Rattle.tree_model.specs.Finding.{root_of}
 use Rattle.tree_model.specs.Attributes.{Qid}
-use Rattle.p9_wire.specs.Texts.{is_text}
 use Rattle.p9_tmsg.specs.Messages.{Message}
 use Rattle.p9_tmsg.specs.Messages.Message.{attach as t_attach}
 use Rattle.p9_rmsg.specs.declared.message.Rmessage.{Rmessage}
 use Rattle.p9_rmsg.specs.Replies.{Reply, reply_of}
 use Rattle.p9_rmsg.specs.Replies.Reply.{attach as r_attach, lerror as r_lerror}
 use Rattle.fid_model.specs.Fids.{ServerState, Fid, Fids, settled, IsGoodServer, closed}
-use Rattle.fid_model.specs.Answers.{answer, attach_core, attached, qid_at}
+use Rattle.fid_model.specs.Answers.{answer, attached, qid_at}
 use Rattle.fid_model.specs.Handling.{Outcome}
 use Rattle.fid_model.specs.Asked.{Asks, named, attach_told}
 use Rattle.fid_model.proofs.Keeping.{settled_same}
-use Rattle.p9_client.specs.Asking.{IsAskable, IsUnfinished}
-use Rattle.p9_client.specs.Views.{IsRoomy}
+use Rattle.p9_client.specs.Asking.{IsUnfinished}
 use Rattle.p9_client.proofs.Settled.{settled_new}
 
 abbrev pair : Reply → ServerState → Reply × ServerState

@@ -1,30 +1,25 @@
 -- What the machine's answers say of the calls that open and read.
-use Rattle.std.proofs.Common.{◌≡◌, ◌≢◌, ◌⊎◌, inl, inr, ⊎_elim, ℕ, ◌-◌, ◌<◌, ◌≤◌, Bool, true, false, cond, not, ◌&&◌, List, [], Result, Ok, Err, Some, None, Option, refl, sym, ap, ◌∙◌, subst, arith, IsSome, nat_le}
+use Rattle.std.proofs.Common.{◌≡◌, ◌≢◌, inl, inr, ⊎_elim, ℕ, ◌-◌, ◌<◌, Bool, true, false, cond, not, ◌&&◌, List, [], Result, Ok, Err, Some, None, Option, refl, sym, ap, ◌∙◌, subst, arith, IsSome, nat_le}
 use Rattle.std.proofs.lemmas.Bool.{false≢true}
 use Rattle.std.proofs.lemmas.Bool.Decides.{nat_tests}
 use Rattle.std.specs.Prelude.{◌==◌, ◌||◌, is_some, min, nat_lt}
 use Rattle.std.specs.FinMap as map
-use Rattle.port_base.specs.Faults.{Rose}
 use Rattle.port_base.specs.declared.errno.TheConstants.{EIO, EBADF, ENFILE, EOPNOTSUPP}
 use Rattle.port_base.specs.declared.oflag.TheConstants.{TRUNC}
-use Rattle.tree_model.specs.Tree.{Tree, is_linked}
+use Rattle.tree_model.specs.Tree.{is_linked}
 use Rattle.tree_model.specs.Attributes.{Qid}
 use Rattle.tree_model.specs.Opening.{has_flag, open_check_of, read_of}
-use Rattle.p9_wire.specs.declared.qid.Qid.{Qid as QidStruct}
-use Rattle.p9_wire.specs.Qids.{qid_of}
 use Rattle.p9_tmsg.specs.Messages.{Message}
 use Rattle.p9_tmsg.specs.Messages.Message.{walk as t_walk, lopen as t_lopen, read as t_read}
 use Rattle.p9_rmsg.specs.declared.message.Rmessage.{Rmessage}
 use Rattle.p9_rmsg.specs.declared.message.Rmessage.TheVariants as variant
-use Rattle.p9_rmsg.specs.declared.message.Rwalk.{Rwalk}
 use Rattle.p9_rmsg.specs.declared.message.Rlopen.{Rlopen}
-use Rattle.p9_rmsg.specs.declared.message.Rread.{Rread}
 use Rattle.p9_rmsg.specs.declared.message.Rlerror.{Rlerror}
 use Rattle.p9_rmsg.specs.Replies.{Reply, reply_of}
 use Rattle.p9_rmsg.specs.Replies.Reply.{walk as r_walk, lopen as r_lopen, read as r_read, lerror as r_lerror}
 use Rattle.fid_model.specs.Fids.{ServerState, Fid, settled, IsGoodServer, closed, is_readable, fid_count, fid_weight}
 use Rattle.fid_model.specs.declared.sizes.TheConstants.{READ_HEAD}
-use Rattle.fid_model.specs.Answers.{answer, core, walk_core, walk_from, walk_told, opened, lopen_core, lopen_by, lopen_told, read_by, piece_told, qid_at}
+use Rattle.fid_model.specs.Answers.{answer, walk_core, walk_from, walk_told, opened, lopen_by, lopen_told, read_by, piece_told, qid_at}
 use Rattle.fid_model.specs.Handling.{Outcome, IsHurtReply, IsPartOfWalk}
 use Rattle.fid_model.specs.Asked.{Asks}
 use Rattle.fid_model.proofs.Keeping.{settled_same, settled_kept}

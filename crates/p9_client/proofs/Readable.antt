@@ -5,11 +5,11 @@ use Rattle.std.specs.FinMap as map
 use Rattle.port_base.specs.declared.errno.TheConstants.{EIO, EBADF, EINVAL, ENFILE, EOPNOTSUPP}
 use Rattle.port_base.specs.declared.oflag.TheConstants.{TRUNC}
 use Rattle.std.proofs.lemmas.List.{length-take}
-use Rattle.tree_model.specs.Tree.{Tree, Body, body_at}
+use Rattle.tree_model.specs.Tree.{Body, body_at}
 use Rattle.tree_model.specs.Tree.Body.{File, Directory, Link}
 use Rattle.tree_model.specs.Opening.{asked, has_flag, open_check_of, read_body, read_of}
 use Rattle.tree_model.specs.Finding.{root_of}
-use Rattle.tree_model.specs.Attributes.{Qid, stat_of}
+use Rattle.tree_model.specs.Attributes.{stat_of}
 use Rattle.tree_model.specs.Settings.{Settings}
 use Rattle.tree_model.specs.declared.attributes.Attr.{Attr}
 use Rattle.p9_tmsg.specs.Messages.{Message}
@@ -19,7 +19,7 @@ use Rattle.p9_rmsg.specs.Replies.Reply.{lerror as r_lerror, walk as r_walk}
 use Rattle.fid_model.specs.Fids.{ServerState, Fid, is_readable}
 use Rattle.p9_client.specs.Asking.{IsBounded}
 use Rattle.fid_model.specs.declared.sizes.TheConstants.{READ_HEAD}
-use Rattle.fid_model.specs.Answers.{WALK_LIMIT, lopen_told, lopen_by, piece_told, read_by, answer, core, attached, walk_told, walk_from, walk_names, Walked, got, getattr_by, clunk_by}
+use Rattle.fid_model.specs.Answers.{WALK_LIMIT, lopen_told, lopen_by, piece_told, read_by, core, attached, walk_told, walk_from, walk_names, Walked, got, getattr_by, clunk_by}
 use Rattle.fid_model.specs.Handling.{Outcome, IsHurtReply, IsPartOfWalk}
 
 readable_either : (b : Bool) (x y : Reply × ServerState) → IsReadableReply x.0 → IsReadableReply y.0 → IsReadableReply (cond b x y).0

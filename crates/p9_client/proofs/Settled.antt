@@ -1,9 +1,9 @@
 -- Where nothing has to go, nothing goes.
-use Rattle.std.proofs.Common.{◌≡◌, ℕ, ◌+◌, Bool, true, false, ◌||◌, refl, sym, ap, ◌∙◌, Option, None, arith, nat_lt}
+use Rattle.std.proofs.Common.{◌≡◌, ℕ, ◌+◌, Bool, true, false, ◌||◌, refl, None, arith, nat_lt}
 use Rattle.std.proofs.lemmas.Bool.Decides.{nat_tests}
 use Rattle.std.specs.FinMap.{get, insert}
 use Rattle.tree_model.specs.Tree.{is_linked}
-use Rattle.fid_model.specs.Fids.{ServerState, Fids, Fid, fid_weight, fid_count, is_held, settled, IsGoodServer}
+use Rattle.fid_model.specs.Fids.{ServerState, Fid, fid_weight, fid_count, is_held, settled, IsGoodServer}
 use Rattle.fid_model.proofs.Keeping.{settled_kept}
 use Rattle.fid_model.proofs.FidCounts.{fid_count-new}
 

@@ -1,13 +1,10 @@
 -- No message that is served changes the greatest size of a frame.
-use Rattle.std.proofs.Common.{◌≡◌, ◌⊎◌, ⊎_elim, ℕ, Bool, true, false, cond, not, ◌&&◌, List, [], ◌∷◌, length, Result, Ok, Err, Some, None, refl, sym, ap, ◌∙◌, nat_le, nat_lt}
-use Rattle.std.specs.Prelude.{◌==◌, is_some}
+use Rattle.std.proofs.Common.{◌≡◌, ⊎_elim, ℕ, Bool, true, false, cond, List, [], ◌∷◌, Result, Ok, Err, Some, None, refl, ap, ◌∙◌}
 use Rattle.std.specs.declared.option.Option.{Option}
 use Rattle.std.specs.FinMap as map
 use Rattle.port_base.specs.declared.errno.TheConstants.{EBADF, EINVAL, ENFILE, EOPNOTSUPP}
-use Rattle.port_base.specs.declared.oflag.TheConstants.{TRUNC}
-use Rattle.tree_model.specs.Attributes.{Qid}
 use Rattle.tree_model.specs.Finding.{root_of}
-use Rattle.tree_model.specs.Opening.{has_flag, open_check_of}
+use Rattle.tree_model.specs.Opening.{open_check_of}
 use Rattle.p9_wire.specs.declared.error.WireError.{WireError}
 use Rattle.p9_wire.specs.declared.error.WireError.TheVariants.{InvalidInput, InvalidData, UnexpectedEof, Read, Write, NoMemory}
 use Rattle.p9_tmsg.specs.Messages.{Message}
@@ -15,7 +12,7 @@ use Rattle.p9_tmsg.specs.Messages.Message.{attach as t_attach, clunk as t_clunk,
 use Rattle.p9_rmsg.specs.Replies.{Reply}
 use Rattle.p9_rmsg.specs.Replies.Reply.{lerror as r_lerror}
 use Rattle.fid_model.specs.Fids.{ServerState, Fid}
-use Rattle.fid_model.specs.Answers.{WALK_LIMIT, Walked, answer, attached, walk_names, walk_told, walk_from, lopen_told, lopen_by, clunk_by}
+use Rattle.fid_model.specs.Answers.{Walked, answer, attached, walk_names, walk_told, walk_from, lopen_told, lopen_by, clunk_by}
 use Rattle.fid_model.specs.Handling.{Outcome, BodyOutcome, Replied, HandledBy, Handled}
 
 -- a refusal, or what else is answered

@@ -1,5 +1,5 @@
 -- What asking a server promises.
-use Rattle.std.specs.Prelude.{◌≡◌, ◌⊎◌, ℕ, ◌+◌, ◌<◌, ◌≤◌, List, length}
+use Rattle.std.specs.Prelude.{◌≡◌, ◌⊎◌, ℕ, ◌+◌, ◌≤◌, List, length}
 use Rattle.p9_tmsg.specs.Messages.{Message, MessageSpells, message_spelling, IsReadableMessage}
 use Rattle.p9_tmsg.specs.Messages.Message.{read as t_read}
 use Rattle.p9_rmsg.specs.Replies.{Reply, ReplySpells, IsReadableReply}

@@ -1,5 +1,5 @@
 -- What the calls give, without where it lies in memory.
-use Rattle.std.specs.Prelude.{◌≡◌, ℕ, ◌≤◌, List, Result, Ok, Err}
+use Rattle.std.specs.Prelude.{ℕ, ◌≤◌, List, Result, Ok, Err}
 use Rattle.tree_model.specs.Attributes.{Qid}
 use Rattle.tree_model.specs.declared.attributes.Attr.{Attr}
 use Rattle.p9_wire.specs.declared.qid.Qid.{Qid as QidStruct}

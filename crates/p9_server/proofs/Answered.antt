@@ -1,5 +1,5 @@
 -- A step's answer is the reply to its message.
-use Rattle.std.proofs.Common.{◌≡◌, ◌⊎◌, inl, inr, ℕ, ◌+◌, ◌≤◌, Bool, List, [], ◌∷◌, length, map, refl, sym, ap, ◌∙◌, subst, Result, Ok, Err, IfOk, arith}
+use Rattle.std.proofs.Common.{◌≡◌, inl, inr, ℕ, ◌≤◌, Bool, List, [], ◌∷◌, map, refl, sym, ap, subst, Result, Ok, Err, IfOk, arith}
 use Rattle.port_base.specs.declared.errno.TheConstants.{EINVAL}
 use Rattle.tree_model.specs.declared.attributes.HostError.{HostError}
 use Rattle.tree_model.specs.declared.attributes.HostError.TheVariants as host
@@ -14,7 +14,7 @@ use Rattle.p9_rmsg.specs.declared.message.Rmessage.{Rmessage}
 use Rattle.fid_model.specs.Fids.{ServerState}
 use Rattle.fid_model.specs.Handling.{Outcome, Steadily}
 use Rattle.p9_server.specs.Steps.{Steps}
-use Rattle.p9_server.specs.Answering.{refusal_told, reply_told, IsShort, Fits, IsSized, Answered}
+use Rattle.p9_server.specs.Answering.{reply_told, IsShort, Fits, IsSized, Answered}
 
 same_reply : (r : Rmessage) (told : Reply) → ◌≡◌ {A = Result Reply WireError} (Ok (reply_of r)) (Ok told) → reply_of r ≡ told
 same_reply r told e = cc

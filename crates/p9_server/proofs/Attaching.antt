@@ -1,13 +1,13 @@
 -- A new fid for the root of the share.
-use Rattle.std.proofs.Common.{◌≡◌, ◌≢◌, ℕ, ◌+◌, ◌<◌, ◌≤◌, Bool, true, false, cond, List, [], refl, sym, ap, ◌∙◌, subst, Option, Some, None, Result, Ok, Err, arith}
+use Rattle.std.proofs.Common.{◌≡◌, ℕ, ◌<◌, Bool, true, false, cond, [], refl, sym, ap, ◌∙◌, subst, Option, Some, None, Result, Ok, Err, arith}
 use Rattle.std.specs.Prelude.{nat_le}
 use Rattle.std.proofs.lemmas.Bool.Decides.{nat_tests}
-use Rattle.std.specs.FinMap.{get, insert, len, contains_key}
+use Rattle.std.specs.FinMap.{insert, len, contains_key}
 use Rattle.tree_model.specs.Tree.{Tree, keep}
 use Rattle.tree_model.specs.Settings.{Settings}
 use Rattle.tree_model.specs.Sound.{IsKept}
 use Rattle.tree_model.specs.Finding.{root_of}
-use Rattle.tree_model.specs.Attributes.{Qid, qid_of, stat_of}
+use Rattle.tree_model.specs.Attributes.{qid_of, stat_of}
 use Rattle.tree_model.specs.declared.attributes.Attr.{Attr}
 use Rattle.tree_model.specs.declared.attributes.HostError.{HostError}
 use Rattle.tree_model.specs.declared.attributes.HostError.TheVariants.{Errno, Fault, NoMemory}
@@ -18,12 +18,12 @@ use Rattle.p9_wire.specs.Qids.{qid_of as qid_plain}
 use Rattle.p9_tmsg.specs.Messages.Message.{attach}
 use Rattle.p9_rmsg.specs.Replies.{Reply}
 use Rattle.p9_rmsg.specs.Replies.Reply.{attach as attached, lerror}
-use Rattle.fid_model.specs.Fids.{Fids, Fid, ServerState, closed, settled, is_held as is_named}
-use Rattle.fid_model.specs.Answers.{answer, attach_core, attached as attached_by, qid_told}
+use Rattle.fid_model.specs.Fids.{Fids, ServerState, closed, settled, is_held as is_named}
+use Rattle.fid_model.specs.Answers.{attach_core, attached as attached_by, qid_told}
 use Rattle.fid_model.proofs.Keeping.{settled_kept}
 use Rattle.p9_server.specs.Walking.{Finds}
 use Rattle.p9_server.specs.Steps.{Steps, server_state, attach_refused}
-use Rattle.p9_server.proofs.Stepping.{pair, step_ok, step_errno, step_refused, step_fault, step_no_memory}
+use Rattle.p9_server.proofs.Stepping.{pair, step_ok, step_refused, step_fault, step_no_memory}
 
 abbrev pub attaches : QidStruct → Reply
 attaches q = attached (qid_plain q)

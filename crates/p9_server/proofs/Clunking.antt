@@ -1,7 +1,6 @@
 -- A fid goes, and its hold with it.
-use Rattle.std.proofs.Common.{◌≡◌, ◌≢◌, ℕ, ◌+◌, ◌-◌, ◌<◌, ◌≤◌, Bool, true, false, cond, refl, sym, ap, ◌∙◌, subst, Option, Some, None, Ok, Err, arith}
+use Rattle.std.proofs.Common.{◌≡◌, ℕ, ◌-◌, ◌<◌, ◌≤◌, Bool, true, cond, refl, sym, ap, ◌∙◌, subst, Option, Some, None, Ok, Err, arith}
 use Rattle.std.specs.Prelude.{is_some}
-use Rattle.std.proofs.lemmas.Bool.{cases_eq}
 use Rattle.std.specs.FinMap.{get, remove, len, len-remove, contains_key}
 use Rattle.std.specs.Cmp.{nat_cmp_total}
 use Rattle.tree_model.specs.Tree.{Tree, keep}
@@ -12,12 +11,11 @@ use Rattle.tree_model.proofs.Maps.{same_by, removed, remove_keeps}
 use Rattle.tree_host.specs.Holds.{Holds, hold_count, held_less, is_held}
 use Rattle.port_base.specs.declared.errno.TheConstants.{EBADF}
 use Rattle.p9_tmsg.specs.Messages.Message.{clunk}
-use Rattle.p9_rmsg.specs.Replies.{Reply}
-use Rattle.p9_rmsg.specs.Replies.Reply.{clunk as clunked, lerror}
-use Rattle.fid_model.specs.Fids.{Fids, Fid, ServerState, fid_weight, fid_count, settled, is_held as is_named}
-use Rattle.fid_model.specs.Answers.{answer, clunk_by}
+use Rattle.p9_rmsg.specs.Replies.Reply.{clunk as clunked}
+use Rattle.fid_model.specs.Fids.{Fids, Fid, fid_count, settled, is_held as is_named}
+use Rattle.fid_model.specs.Answers.{clunk_by}
 use Rattle.fid_model.proofs.FidCounts.{fid_count-gone, fid_count-named}
-use Rattle.p9_server.specs.Holding.{AreFids, IsSound, IsMore}
+use Rattle.p9_server.specs.Holding.{AreFids, IsSound}
 use Rattle.p9_server.specs.Steps.{Steps, server_state}
 use Rattle.p9_server.proofs.HoldCounts.{less_counts_of, keep_named}
 use Rattle.p9_server.proofs.Stepping.{pair, step_ok, step_refused}

@@ -1,17 +1,16 @@
 -- Holds that come and go, by their counts; and trees that stay where holds come and go.
-use Rattle.std.proofs.Common.{◌≡◌, ◌≢◌, ℕ, ◌+◌, ◌-◌, ◌<◌, ◌≤◌, Bool, true, false, cond, ◌||◌, refl, sym, ap, ◌∙◌, subst, Option, Some, None, ⊎_elim, arith, IsSome, nat_lt, unwrap_or, ◌^◌}
+use Rattle.std.proofs.Common.{◌≡◌, ◌≢◌, ℕ, ◌+◌, ◌-◌, ◌<◌, ◌≤◌, Bool, true, false, cond, ◌||◌, refl, sym, ap, ◌∙◌, subst, Some, ⊎_elim, arith, nat_lt, unwrap_or}
 use Rattle.std.specs.Prelude.{◌==◌}
-use Rattle.std.proofs.lemmas.Bool.{cases_eq, false≢true}
+use Rattle.std.proofs.lemmas.Bool.{cases_eq}
 use Rattle.std.proofs.lemmas.Bool.Decides.{nat_tests}
-use Rattle.std.specs.FinMap.{FinMap, get, insert, remove}
-use Rattle.tree_model.specs.Tree.{Tree, Records, Record, keep, is_linked}
+use Rattle.std.specs.FinMap.{get, insert, remove}
+use Rattle.tree_model.specs.Tree.{Tree, keep, is_linked}
 use Rattle.tree_model.specs.Sound.{IsKept, AreStored}
 use Rattle.tree_model.proofs.Maps.{inserted, insert_keeps, removed, remove_keeps}
 use Rattle.tree_host.specs.Holds.{Holds, hold_count, held_more, held_less, is_held}
-use Rattle.fid_model.specs.Fids.{Fids, Fid, fid_count, is_held as is_named}
+use Rattle.fid_model.specs.Fids.{Fids, is_held as is_named}
 use Rattle.fid_model.proofs.Keeping.{keep_same, keep_alike}
-use Rattle.fid_model.proofs.FidCounts.{fid_count-few}
-use Rattle.p9_server.specs.Holding.{AreFids, IsMore, IsSame}
+use Rattle.p9_server.specs.Holding.{AreFids, IsMore}
 
 own : (i q n m : ℕ) → q ≡ i → n ≡ m + 1 → n ≡ m + cond (i == q) 1 0
 own i q n m is e = grind (arith, nat_tests)

@@ -1,6 +1,6 @@
 -- A fid that names an inode whose hold was taken.
-use Rattle.std.proofs.Common.{◌≡◌, ◌≢◌, ℕ, ◌+◌, ◌-◌, ◌<◌, ◌≤◌, ◌^◌, Bool, true, false, cond, ◌||◌, refl, sym, ap, ◌∙◌, subst, Option, Some, None, Result, Ok, Err, IsSome, OnOk, OnErr, arith}
-use Rattle.std.specs.Prelude.{◌==◌, nat_lt, is_some}
+use Rattle.std.proofs.Common.{◌≡◌, ℕ, ◌+◌, ◌-◌, ◌<◌, ◌≤◌, ◌^◌, Bool, true, false, cond, ◌||◌, refl, sym, ap, ◌∙◌, subst, Option, Some, None, Result, Ok, Err, OnOk, OnErr, arith}
+use Rattle.std.specs.Prelude.{◌==◌, nat_lt}
 use Rattle.std.proofs.lemmas.Bool.Decides.{nat_tests}
 use Rattle.std.specs.FinMap.{get, insert, len, len-insert, contains_key}
 use Rattle.std.specs.Cmp.{nat_cmp_total}
@@ -9,13 +9,13 @@ use Rattle.tree_model.specs.Settings.{Settings}
 use Rattle.tree_model.specs.Sound.{IsKept}
 use Rattle.tree_model.specs.declared.attributes.HostError.{HostError}
 use Rattle.tree_model.specs.declared.attributes.HostError.TheVariants.{NoMemory}
-use Rattle.tree_host.specs.Holds.{Holds, hold_count, held_less, is_held}
+use Rattle.tree_host.specs.Holds.{Holds, hold_count, held_less}
 use Rattle.fid_model.specs.Fids.{Fids, Fid, closed, fid_count, fid_weight, is_held as is_named}
 use Rattle.fid_model.proofs.FidCounts.{fid_count-new, fid_count-replaced, fid_count-named, fid_count-few}
 use Rattle.fid_model.proofs.Keeping.{keep_same}
 use Rattle.p9_server.specs.Holding.{AreFids, IsSound, IsMore, IsSame}
 use Rattle.p9_server.specs.Steps.{ino_before}
-use Rattle.p9_server.proofs.HoldCounts.{less_counts_of, keep_named}
+use Rattle.p9_server.proofs.HoldCounts.{less_counts_of}
 
 -- ---- what a fid named before
 

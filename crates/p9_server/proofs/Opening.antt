@@ -1,11 +1,11 @@
 -- A fid is opened: it names the inode that it named, so no hold changes.
-use Rattle.std.proofs.Common.{◌≡◌, ℕ, ◌+◌, ◌-◌, ◌<◌, ◌≤◌, Bool, true, false, cond, ◌||◌, refl, sym, ap, ◌∙◌, subst, Option, Some, None, Result, Ok, Err, OnOk, OnErr, arith, nat_lt}
+use Rattle.std.proofs.Common.{◌≡◌, ℕ, ◌+◌, Bool, true, false, cond, ◌||◌, refl, sym, ap, ◌∙◌, subst, Option, Some, None, Result, Ok, Err, OnOk, OnErr, arith, nat_lt}
 use Rattle.std.specs.Prelude.{◌==◌, is_some, option_map}
 use Rattle.std.specs.FinMap.{get, insert, len, len-insert, contains_key}
 use Rattle.std.specs.Cmp.{nat_cmp_total}
 use Rattle.port_base.specs.declared.errno.TheConstants.{EBADF, EOPNOTSUPP}
 use Rattle.port_base.specs.declared.oflag.TheConstants.{TRUNC}
-use Rattle.tree_model.specs.Tree.{Tree, Record, Body, is_linked}
+use Rattle.tree_model.specs.Tree.{Tree, Record, is_linked}
 use Rattle.tree_model.specs.Sound.{IsKept}
 use Rattle.tree_model.specs.Settings.{Settings}
 use Rattle.tree_model.specs.Attributes.{stat_of, attr_or_missing, kind_of, qid_of as attr_qid}
@@ -13,7 +13,7 @@ use Rattle.tree_model.specs.Opening.{asked, unless, has_flag, open_check_of, ope
 use Rattle.tree_model.specs.declared.attributes.Attr.{Attr}
 use Rattle.tree_model.specs.declared.attributes.HostError.{HostError}
 use Rattle.tree_model.specs.declared.attributes.HostError.TheVariants.{Errno, Fault, NoMemory}
-use Rattle.tree_host.specs.Holds.{Holds, hold_count}
+use Rattle.tree_host.specs.Holds.{Holds}
 use Rattle.tree_host.specs.Host.{Answers, Causes}
 use Rattle.p9_wire.specs.declared.qid.Qid.{Qid as QidStruct}
 use Rattle.p9_wire.specs.Qids.{qid_of as qid_plain}
@@ -21,11 +21,10 @@ use Rattle.p9_tmsg.specs.Messages.Message.{lopen}
 use Rattle.p9_rmsg.specs.Replies.{Reply}
 use Rattle.p9_rmsg.specs.Replies.Reply.{lopen as r_lopen, lerror}
 use Rattle.fid_model.specs.Fids.{Fids, Fid, ServerState, closed, fid_weight, fid_count, settled, is_held as is_named}
-use Rattle.fid_model.specs.Fids.OpenState.{Opened}
-use Rattle.fid_model.specs.Answers.{answer, core, opened, lopen_by, lopen_told, qid_told}
+use Rattle.fid_model.specs.Answers.{core, opened, lopen_by, lopen_told, qid_told}
 use Rattle.fid_model.proofs.FidCounts.{fid_count-replaced}
 use Rattle.fid_model.proofs.Keeping.{settled_kept}
-use Rattle.p9_server.specs.Holding.{AreFids, IsSound}
+use Rattle.p9_server.specs.Holding.{IsSound}
 use Rattle.p9_server.specs.Steps.{Steps, server_state, ino_told}
 use Rattle.p9_server.specs.Opening.{Opens}
 use Rattle.p9_server.proofs.Showing.{named, unnamed}

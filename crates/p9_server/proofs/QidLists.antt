@@ -1,12 +1,11 @@
 -- Qids in a list: each fits, and how many bytes they have.
-use Rattle.std.proofs.Common.{◌≡◌, ℕ, ◌+◌, ◌*◌, ◌<◌, ◌≤◌, ◌^◌, List, [], ◌∷◌, ◌++◌, length, map, refl, sym, ap, ◌∙◌, subst, Option, Some, None, Result, Ok, Err, arith}
-use Rattle.std.specs.Prelude.{is_ok, if◌then◌else◌}
+use Rattle.std.proofs.Common.{◌≡◌, ◌*◌, ◌≤◌, List, [], ◌∷◌, ◌++◌, length, map, refl, ap, ◌∙◌, arith}
 use Rattle.std.specs.List.{AllByRecursion, flat_map}
 use Rattle.std.proofs.lemmas.List.{length-append, length-map, map-append}
 use Rattle.tree_model.specs.Attributes.{Qid}
 use Rattle.p9_wire.specs.declared.qid.Qid.{Qid as QidStruct}
 use Rattle.p9_wire.specs.Qids.{qid_of}
-use Rattle.p9_wire.specs.Values.{QidSpells, QidsSpell, qid_spelling, qids_spelling}
+use Rattle.p9_wire.specs.Values.{QidSpells, qid_spelling}
 use Rattle.p9_rmsg.specs.Replies.Reply.{walk}
 use Rattle.p9_server.specs.Answering.{IsShort}
 

@@ -1,5 +1,5 @@
 -- What is read of a fid that is open to be read.
-use Rattle.std.proofs.Common.{◌≡◌, ℕ, ◌+◌, ◌-◌, ◌<◌, ◌≤◌, Bool, true, false, cond, List, length, take, refl, sym, ap, ◌∙◌, subst, Option, Some, None, Result, Ok, Err, arith}
+use Rattle.std.proofs.Common.{◌≡◌, ℕ, ◌-◌, ◌<◌, Bool, true, false, cond, List, take, refl, sym, ap, ◌∙◌, subst, Option, Some, None, Result, Ok, Err, arith}
 use Rattle.std.specs.Prelude.{min}
 use Rattle.std.specs.FinMap.{get}
 use Rattle.port_base.specs.declared.errno.TheConstants.{EBADF}
@@ -14,9 +14,9 @@ use Rattle.tree_host.specs.Host.{Reads, Causes}
 use Rattle.p9_tmsg.specs.Messages.Message.{read}
 use Rattle.p9_rmsg.specs.Replies.{Reply}
 use Rattle.p9_rmsg.specs.Replies.Reply.{read as r_read, lerror}
-use Rattle.fid_model.specs.Fids.{Fids, Fid, ServerState, fid_count, is_readable, settled, is_held as is_named}
+use Rattle.fid_model.specs.Fids.{Fids, Fid, ServerState, is_readable, settled, is_held as is_named}
 use Rattle.fid_model.specs.declared.sizes.TheConstants.{READ_HEAD}
-use Rattle.fid_model.specs.Answers.{answer, core, read_by, piece_told}
+use Rattle.fid_model.specs.Answers.{answer, read_by, piece_told}
 use Rattle.fid_model.proofs.FidCounts.{fid_count-named}
 use Rattle.fid_model.proofs.Keeping.{settled_kept}
 use Rattle.p9_server.specs.Holding.{AreFids}

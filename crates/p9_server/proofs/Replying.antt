@@ -1,21 +1,18 @@
 -- One message from its frame to its reply.
-use Rattle.std.proofs.Common.{◌≡◌, ◌≢◌, ℕ, ◌+◌, ◌<◌, ◌≤◌, Bool, List, ◌++◌, length, refl, sym, ap, ◌∙◌, subst, Option, Some, None, Result, Ok, Err, arith}
+use Rattle.std.proofs.Common.{◌≡◌, ℕ, Bool, List, ◌++◌, refl, sym, ap, ◌∙◌, subst, Option, Some, None, Result, Ok, Err, arith}
 use Rattle.std.specs.Io.KnownBytes.{Appends, Keeps}
 use Rattle.port_base.specs.Faults.{Faulted}
-use Rattle.port_base.specs.Streams.{SentFront}
 use Rattle.p9_wire.specs.declared.error.WireError.{WireError}
 use Rattle.p9_wire.specs.declared.error.WireError.TheVariants.{InvalidInput, InvalidData, UnexpectedEof, Read, Write, NoMemory}
-use Rattle.p9_wire.specs.Reading.{Found}
 use Rattle.p9_wire.specs.Frames.{result_view}
 use Rattle.p9_tmsg.specs.declared.frame.Tframe.{Tframe}
 use Rattle.p9_tmsg.specs.Messages.{message_of}
-use Rattle.p9_tmsg.specs.Frames.{frame_of, frame_within}
 use Rattle.p9_rmsg.specs.Replies.{reply_of}
 use Rattle.p9_rmsg.specs.Frames.{reply_frame}
 use Rattle.p9_rmsg.specs.declared.message.Rmessage.{Rmessage}
 use Rattle.fid_model.specs.Fids.{ServerState}
-use Rattle.fid_model.specs.Handling.{Handled, HandledBy, Replied, Steadily}
-use Rattle.p9_server.specs.Answering.{Answered, IsSent, IsShort}
+use Rattle.fid_model.specs.Handling.{Handled, HandledBy, Replied}
+use Rattle.p9_server.specs.Answering.{Answered, IsSent}
 use Rattle.p9_server.specs.Handling.{ReadsFrame}
 use Rattle.p9_server.proofs.Sending.{reply_length}
 

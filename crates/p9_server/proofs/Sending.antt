@@ -1,8 +1,6 @@
 -- A reply and its frame: there is room for it, and it is not longer than the smallest message size.
-use Rattle.std.proofs.Common.{◌≡◌, ℕ, ◌+◌, ◌<◌, ◌≤◌, ◌^◌, List, ◌∷◌, ◌++◌, length, refl, sym, ap, ◌∙◌, subst, Result, Ok, Err, arith}
+use Rattle.std.proofs.Common.{◌≡◌, ℕ, ◌+◌, ◌≤◌, List, length, subst, Err, arith}
 use Rattle.std.specs.declared.option.Option.{Option}
-use Rattle.std.specs.Int.{w16, w32, to_le_bytes}
-use Rattle.std.proofs.lemmas.List.{length-append}
 use Rattle.port_base.specs.declared.sink.SinkFault.{SinkFault}
 use Rattle.port_base.specs.declared.sink.SinkFault.TheVariants as sink
 use Rattle.p9_wire.specs.Sending.{Sends}

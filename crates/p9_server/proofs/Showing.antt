@@ -1,9 +1,9 @@
 -- What is shown of an inode that a fid names.
-use Rattle.std.proofs.Common.{◌≡◌, ◌≢◌, ℕ, ◌+◌, ◌-◌, ◌<◌, ◌≤◌, Bool, true, false, cond, refl, sym, ap, ◌∙◌, subst, Option, Some, None, Result, Ok, Err, arith}
+use Rattle.std.proofs.Common.{◌≡◌, ℕ, ◌<◌, Bool, refl, sym, ap, ◌∙◌, subst, Option, Some, None, Result, Ok, Err, arith}
 use Rattle.std.specs.Result.{IsErrAnd}
 use Rattle.std.proofs.lemmas.Result.{err_from_is_err_and}
 use Rattle.std.specs.FinMap.{get}
-use Rattle.tree_model.specs.Tree.{Tree, Record, keep}
+use Rattle.tree_model.specs.Tree.{Tree, Record}
 use Rattle.tree_model.specs.Good.{IsGoodTree}
 use Rattle.tree_model.specs.Settings.{Settings, shown_of}
 use Rattle.tree_model.specs.Sound.{IsKept}
@@ -17,7 +17,7 @@ use Rattle.port_base.specs.declared.errno.TheConstants.{EBADF}
 use Rattle.p9_tmsg.specs.Messages.Message.{getattr}
 use Rattle.p9_rmsg.specs.Replies.{Reply}
 use Rattle.p9_rmsg.specs.Replies.Reply.{getattr as shown, lerror}
-use Rattle.fid_model.specs.Fids.{Fids, Fid, ServerState, fid_count, settled, is_held as is_named}
+use Rattle.fid_model.specs.Fids.{Fids, Fid, ServerState, settled, is_held as is_named}
 use Rattle.fid_model.specs.Answers.{answer, getattr_by, got, attributes_of}
 use Rattle.fid_model.proofs.FidCounts.{fid_count-named}
 use Rattle.fid_model.proofs.Keeping.{settled_kept}

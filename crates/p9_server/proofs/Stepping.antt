@@ -1,10 +1,8 @@
 -- Ways to make a step: an answer, a refusal that changes nothing, a fault.
-use Rattle.std.proofs.Common.{◌≡◌, ◌≢◌, ◌⊎◌, inl, inr, ℕ, ◌+◌, ◌≤◌, Bool, true, false, refl, sym, ap, ◌∙◌, subst, Result, Ok, Err, arith}
-use Rattle.std.specs.Prelude.{IsTrue}
+use Rattle.std.proofs.Common.{◌≡◌, inl, inr, ℕ, Bool, false, sym, ap, ◌∙◌, Ok, Err, arith}
 use Rattle.std.proofs.lemmas.Bool.{false≢true}
-use Rattle.port_base.specs.Faults.{Rose, Faulted}
+use Rattle.port_base.specs.Faults.{Faulted}
 use Rattle.port_base.specs.declared.errno.TheConstants.{EIO}
-use Rattle.tree_model.specs.declared.attributes.HostError.{HostError}
 use Rattle.tree_model.specs.declared.attributes.HostError.TheVariants.{Errno, Fault, NoMemory}
 use Rattle.tree_model.specs.Sound.{IsKept}
 use Rattle.p9_tmsg.specs.Messages.{Message}
@@ -12,9 +10,9 @@ use Rattle.p9_rmsg.specs.Replies.{Reply}
 use Rattle.p9_rmsg.specs.Replies.Reply.{lerror}
 use Rattle.fid_model.specs.Fids.{ServerState, settled, is_held}
 use Rattle.fid_model.specs.Answers.{core, answer}
-use Rattle.fid_model.specs.Handling.{Outcome, Steadily, IsHurtReply}
+use Rattle.fid_model.specs.Handling.{Steadily, IsHurtReply}
 use Rattle.fid_model.proofs.Keeping.{settled_kept}
-use Rattle.p9_server.specs.Steps.{Steps, StepBy}
+use Rattle.p9_server.specs.Steps.{Steps}
 
 abbrev pub pair : Reply → ServerState → Reply × ServerState
 pair reply s = (reply, s)

@@ -1,10 +1,10 @@
 -- An inode whose hold was taken, and what is told of it; where nothing is told, the hold goes again.
-use Rattle.std.proofs.Common.{◌≡◌, ◌≢◌, ℕ, ◌+◌, ◌-◌, ◌<◌, ◌≤◌, Bool, true, false, cond, refl, sym, ap, ◌∙◌, subst, Option, Some, None, Result, Ok, Err, OnOk, OnErr, IfOk, arith, IsSome}
+use Rattle.std.proofs.Common.{◌≡◌, ℕ, ◌<◌, Bool, true, refl, sym, ap, ◌∙◌, subst, Option, Some, None, Result, Ok, Err, OnOk, OnErr, IfOk, arith, IsSome}
 use Rattle.std.proofs.lemmas.Bool.{false≢true}
 use Rattle.std.proofs.lemmas.Bool.Decides.{nat_tests}
 use Rattle.std.specs.Prelude.{nat_lt}
 use Rattle.std.specs.FinMap.{get}
-use Rattle.tree_model.specs.Tree.{Tree, Record, keep}
+use Rattle.tree_model.specs.Tree.{Tree, Record}
 use Rattle.tree_model.specs.Sound.{IsKept, AreStored}
 use Rattle.tree_model.specs.Attributes.{stat_of, attr_of, attr_or_missing}
 use Rattle.tree_model.specs.declared.attributes.Attr.{Attr}
@@ -14,7 +14,7 @@ use Rattle.tree_host.specs.Holds.{Holds, hold_count, held_more, held_less, is_he
 use Rattle.tree_host.specs.Host.{Answers, Causes}
 use Rattle.p9_server.specs.Holding.{IsMore, IsSame}
 use Rattle.p9_server.specs.Walking.{Finds}
-use Rattle.p9_server.proofs.HoldCounts.{more_counts_of, less_counts_of, more_held, kept_more, keep_stays}
+use Rattle.p9_server.proofs.HoldCounts.{more_counts_of, less_counts_of, more_held, kept_more}
 
 held_test : (n : ℕ) → 0 < n → nat_lt 0 n ≡ true
 held_test n more = grind (arith, nat_tests)

@@ -9,7 +9,6 @@ use Rattle.p9_rmsg.specs.Replies.Reply.{lerror}
 use Rattle.p9_rmsg.specs.declared.message.Rmessage.{Rmessage}
 use Rattle.fid_model.specs.Fids.{ServerState, settled}
 use Rattle.fid_model.specs.Answers.{core, answer}
-use Rattle.fid_model.specs.Handling.{Outcome}
 use Rattle.fid_model.proofs.Keeping.{settled_same}
 use Rattle.fid_model.specs.Fids.{IsGoodServer}
 use Rattle.p9_server.specs.Answering.{IsShort, Answered}

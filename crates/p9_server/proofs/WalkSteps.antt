@@ -1,10 +1,9 @@
 -- A walk of the server: where it begins, what it tells, and the fid that it gives.
-use Rattle.std.proofs.Common.{◌≡◌, ◌≢◌, ◌⊎◌, inl, inr, ⊎_elim, ℕ, ◌+◌, ◌<◌, ◌≤◌, Bool, true, false, cond, not, ◌&&◌, List, [], ◌∷◌, length, map, refl, sym, ap, ◌∙◌, subst, Option, Some, None, Result, Ok, Err, IfOk, IfErr, arith}
+use Rattle.std.proofs.Common.{◌≡◌, ◌≢◌, ◌⊎◌, inl, inr, ⊎_elim, ℕ, ◌<◌, ◌≤◌, Bool, true, false, cond, not, ◌&&◌, List, [], ◌∷◌, length, map, refl, sym, ap, ◌∙◌, subst, Option, Some, None, Result, Ok, Err, IfOk, IfErr, arith}
 use Rattle.std.specs.Prelude.{◌==◌, nat_le, nat_lt, is_some}
 use Rattle.std.proofs.lemmas.Bool.Decides.{nat_tests}
 use Rattle.std.proofs.lemmas.List.{length-map}
 use Rattle.std.specs.FinMap.{get, insert, len, contains_key}
-use Rattle.port_base.specs.Faults.{Rose}
 use Rattle.tree_model.specs.Tree.{Tree, keep}
 use Rattle.tree_model.specs.Settings.{Settings}
 use Rattle.tree_model.specs.Sound.{IsKept}
@@ -13,20 +12,20 @@ use Rattle.tree_model.specs.declared.attributes.HostError.{HostError}
 use Rattle.tree_model.specs.declared.attributes.HostError.TheVariants.{Errno, Fault, NoMemory}
 use Rattle.tree_host.specs.Holds.{Holds, hold_count}
 use Rattle.tree_host.specs.Host.{Causes}
-use Rattle.port_base.specs.declared.errno.TheConstants.{EBADF, EINVAL, EIO, ENFILE}
+use Rattle.port_base.specs.declared.errno.TheConstants.{EBADF, EINVAL, ENFILE}
 use Rattle.p9_wire.specs.declared.qid.Qid.{Qid as QidStruct}
 use Rattle.p9_wire.specs.Qids.{qid_of as qid_plain}
 use Rattle.p9_tmsg.specs.Messages.Message.{walk}
 use Rattle.p9_rmsg.specs.Replies.{Reply}
 use Rattle.p9_rmsg.specs.Replies.Reply.{walk as walked, lerror}
-use Rattle.fid_model.specs.Fids.{Fids, Fid, ServerState, closed, settled, fid_count, is_held as is_named}
-use Rattle.fid_model.specs.Answers.{answer, Walked, WALK_LIMIT, walk_core, walk_from, walk_told, walk_names}
+use Rattle.fid_model.specs.Fids.{Fids, Fid, ServerState, closed, settled, is_held as is_named}
+use Rattle.fid_model.specs.Answers.{WALK_LIMIT, walk_core, walk_from, walk_told, walk_names}
 use Rattle.fid_model.proofs.FidCounts.{fid_count-named}
 use Rattle.fid_model.proofs.Keeping.{settled_kept}
 use Rattle.p9_server.specs.Holding.{AreFids}
 use Rattle.p9_server.specs.Walking.{Walks}
 use Rattle.p9_server.specs.Steps.{Steps, server_state, start_from, walk_start}
-use Rattle.p9_server.proofs.Stepping.{pair, not_steady, step_ok, step_errno, step_refused, step_fault, step_no_memory}
+use Rattle.p9_server.proofs.Stepping.{pair, not_steady, step_ok, step_refused, step_fault, step_no_memory}
 
 -- ---- where it begins
 

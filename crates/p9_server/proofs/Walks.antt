@@ -1,12 +1,12 @@
 -- A walk, name by name.
-use Rattle.std.proofs.Common.{◌≡◌, ◌≢◌, ℕ, zero, suc, ◌+◌, ◌-◌, ◌<◌, ◌≤◌, Bool, true, false, cond, List, [], ◌∷◌, ◌++◌, length, take, drop, map, refl, sym, ap, ◌∙◌, subst, Option, Some, None, Result, Ok, Err, OnErr, IfOk, arith, add-one, get_or}
+use Rattle.std.proofs.Common.{◌≡◌, ◌≢◌, ℕ, zero, suc, ◌+◌, ◌<◌, ◌≤◌, false, cond, List, [], ◌∷◌, ◌++◌, length, take, drop, map, refl, sym, ap, ◌∙◌, subst, Result, Ok, Err, arith, add-one, get_or}
 use Rattle.std.proofs.lemmas.Bool.Decides.{nat_tests}
 use Rattle.std.proofs.lemmas.List.{take_more, take-append-drop, length-map, length-append, append-nil}
 use Rattle.std.proofs.Math.Seq.{drop-cons, take-length}
 use Rattle.std.specs.Prelude.{◌==◌}
 use Rattle.tree_model.specs.Tree.{Tree}
 use Rattle.tree_model.specs.Sound.{IsKept}
-use Rattle.tree_model.specs.Attributes.{Qid, stat_of, qid_of}
+use Rattle.tree_model.specs.Attributes.{Qid, qid_of}
 use Rattle.tree_model.specs.declared.attributes.Attr.{Attr}
 use Rattle.tree_model.specs.declared.attributes.HostError.{HostError}
 use Rattle.tree_model.specs.declared.attributes.HostError.TheVariants.{Errno, Fault, NoMemory}

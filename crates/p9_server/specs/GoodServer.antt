@@ -1,5 +1,5 @@
 -- A server keeps what each server keeps.
-use Rattle.std.proofs.Common.{◌≡◌, ℕ, ◌+◌, ◌<◌, Bool, true, ◌||◌, refl, sym, ap, ◌∙◌, nat_lt}
+use Rattle.std.proofs.Common.{ℕ, ◌||◌, sym, ap, ◌∙◌, nat_lt}
 use Rattle.tree_model.specs.Tree.{Tree, is_linked}
 use Rattle.tree_model.specs.Good.{IsGoodTree}
 use Rattle.tree_model.specs.Settings.{Settings}

@@ -1,12 +1,10 @@
 -- What is found in a host's tree, and the holds that finding takes.
-use Rattle.std.specs.Prelude.{◌≡◌, ℕ, zero, suc, ◌+◌, ◌<◌, ◌≤◌, Bool, true, false, cond, ◌||◌, ◌==◌, nat_lt, List, length, Result, Ok, Err, ⊤}
-use Rattle.tree_model.specs.Tree.{Tree, keep}
-use Rattle.tree_model.specs.Sound.{IsKept}
+use Rattle.std.specs.Prelude.{◌≡◌, ℕ, zero, suc, ◌<◌, ◌≤◌, false, cond, ◌==◌, List, length, Result, Ok, Err, ⊤}
+use Rattle.tree_model.specs.Tree.{Tree}
 use Rattle.tree_model.specs.Attributes.{Qid, stat_of}
 use Rattle.tree_model.specs.declared.attributes.Attr.{Attr}
 use Rattle.tree_model.specs.declared.attributes.HostError.{HostError}
 use Rattle.tree_model.specs.declared.attributes.HostError.TheVariants.{Errno, Fault, NoMemory}
-use Rattle.tree_host.specs.Holds.{Holds, hold_count}
 use Rattle.fid_model.specs.Answers.{walk_names}
 
 abbrev pub FindsBy : Tree → Result ℕ ℕ → Result Attr HostError → Type 0

@@ -1,5 +1,5 @@
 -- A copy of a fid is made, or nothing.
-use Rattle.std.proofs.Common.{◌≡◌, ap, refl, List, ℕ, map}
+use Rattle.std.proofs.Common.{ap, refl, List, ℕ, map}
 use Rattle.p9_tmsg.specs.Messages.Message.{walk as t_walk}
 use Rattle.p9_rmsg.specs.Replies.{reply_of}
 use Rattle.p9_client.proofs.Answering.{on_err}

@@ -1,5 +1,5 @@
 -- A read gives the bytes that the machine tells, or its refusal.
-use Rattle.std.proofs.Common.{◌≡◌, ap, refl, true, subst, sym, Bool, Some, Option}
+use Rattle.std.proofs.Common.{◌≡◌, ap, refl, true, subst, Option}
 use Rattle.fid_model.specs.Fids.{Fid}
 use Rattle.p9_rmsg.specs.Replies.{reply_of}
 use Rattle.p9_client.specs.Opening.{is_readable_at}

@@ -1,5 +1,5 @@
 -- Each part is tested; the parts are those of the split.
-use Rattle.std.proofs.Common.{◌≡◌, ℕ, List, map, ◌&&◌, true, sym, ap, ◌∙◌, rules, tests, refl, Bor}
+use Rattle.std.proofs.Common.{ℕ, List, ◌&&◌, true, sym, ap, ◌∙◌, rules, tests, refl, Bor}
 use Rattle.std.specs.Prelude.{◌==◌}
 use Rattle.std.proofs.lemmas.Iterator.Consumers.{YieldsList-end}
 use Rattle.std.proofs.lemmas.Iterator.Splits.{YieldsList-from_slice_split}

@@ -1,5 +1,5 @@
 -- It begins with a slash, and its parts are good.
-use Rattle.std.proofs.Common.{◌≡◌, ◌∙◌, ap, sym, Some}
+use Rattle.std.proofs.Common.{◌∙◌, ap, sym, Some}
 use Rattle.p9_server.proofs.RootLaws.{root_is}
 use Rattle.p9_server.proofs.config.is_good_root.Goals as goal
 

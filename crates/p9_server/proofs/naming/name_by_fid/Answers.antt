@@ -1,7 +1,7 @@
 -- The fid names the inode, and what it named before is let go; or all is as it was.
 use Rattle.p9_server.proofs.HoldCounts.{keep_named}
 use Rattle.p9_server.proofs.NamedFids.{untaken, new_named, new_tree, old_held, old_named}
-use Rattle.std.proofs.Common.{◌∙◌, ◌≡◌, ap, sym, subst}
+use Rattle.std.proofs.Common.{◌∙◌, ap, sym, subst}
 use Rattle.std.specs.FinMap as map
 use Rattle.fid_model.specs.Fids.{Fids}
 use Rattle.p9_server.specs.Holding.{AreFids}

@@ -1,6 +1,5 @@
 -- Each fid that goes lets go of its hold.
-use Rattle.std.proofs.Common.{◌≡◌, ◌<◌, ◌∙◌, ap, sym, refl, subst}
-use Rattle.std.specs.FinMap as map
+use Rattle.std.proofs.Common.{◌<◌, ◌∙◌, ap, sym, refl, subst}
 use Rattle.tree_host.specs.Holds.{hold_count, held_less}
 use Rattle.fid_model.specs.Fids.{Fids}
 use Rattle.p9_server.specs.Holding.{AreFids}

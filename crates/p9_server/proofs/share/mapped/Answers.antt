@@ -1,7 +1,5 @@
 -- An owner's pair, as a finite map has it.
-use Rattle.std.proofs.Common.{◌≡◌, Some, None, Option, ℕ, ◌∙◌, ap, sym, unwrap_or}
-use Rattle.std.specs.Ordering.{nat_cmp}
-use Rattle.std.specs.FinMap as map
+use Rattle.std.proofs.Common.{◌∙◌, ap, sym, unwrap_or}
 use Rattle.port_base.proofs.TableViews.{get_view}
 use Rattle.p9_server.proofs.share.mapped.Goals as goal
 

@@ -1,5 +1,5 @@
 -- The qid fits, as each before it does.
-use Rattle.std.proofs.Common.{rules, arith, subst, sym, List, map}
+use Rattle.std.proofs.Common.{rules, subst, sym, List, map}
 use Rattle.std.specs.List.{AllByRecursion}
 use Rattle.tree_model.specs.Attributes.{Qid}
 use Rattle.p9_wire.specs.Qids.{qid_of}

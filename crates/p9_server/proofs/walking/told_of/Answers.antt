@@ -1,7 +1,6 @@
 -- Of a held inode a host fails to tell by a fault alone.
-use Rattle.std.proofs.Common.{◌≡◌, ◌∙◌, sym, ap, subst}
-use Rattle.tree_model.specs.Tree.{Tree, keep}
-use Rattle.tree_model.specs.Sound.{IsKept}
+use Rattle.std.proofs.Common.{◌∙◌, ap}
+use Rattle.tree_model.specs.Tree.{keep}
 use Rattle.tree_host.specs.Holds.{is_held}
 use Rattle.fid_model.proofs.Keeping.{keep_same}
 use Rattle.p9_server.proofs.Taking.{only_fault}

@@ -1,5 +1,5 @@
 -- Each name takes the walk a step on, or ends it with all holds let go.
-use Rattle.std.proofs.Common.{◌≡◌, ◌≤◌, ◌∙◌, ℕ, List, [], ◌∷◌, ◌++◌, map, ap, sym, subst, arith, get_or, length, vec_capacity}
+use Rattle.std.proofs.Common.{◌≡◌, ◌∙◌, ℕ, List, [], ◌∷◌, ◌++◌, map, ap, sym, subst, arith, get_or}
 use Rattle.tree_model.specs.Attributes.{Qid}
 use Rattle.p9_wire.specs.Qids.{qid_of as qid_plain}
 use Rattle.p9_server.proofs.Taking.{failed_cause}

@@ -1,5 +1,5 @@
 -- The reply to each message is what its step gives.
-use Rattle.std.proofs.Common.{◌≡◌, ◌∙◌, refl, ap, sym, subst, Ok, Err, List, ℕ, Vec, map, IfOk}
+use Rattle.std.proofs.Common.{◌∙◌, refl, ap, subst, List, ℕ, Vec, map, IfOk}
 use Rattle.p9_wire.specs.Qids.{qid_of}
 use Rattle.p9_tmsg.specs.Messages.Message.{walk, getattr, attach, clunk, lopen, read}
 use Rattle.p9_rmsg.specs.Replies.Reply.{walk as walked, getattr as shown, attach as attached, clunk as clunked, lopen as was_opened, read as was_read}

@@ -1,5 +1,5 @@
 -- The root of the share has a new fid, or all is as it was.
-use Rattle.std.proofs.Common.{◌≡◌, ◌∙◌, ap, sym, subst, Ok, Err, List, ℕ}
+use Rattle.std.proofs.Common.{◌∙◌, ap, sym, subst, Ok, Err, List, ℕ}
 use Rattle.tree_model.specs.Tree.{Tree, keep}
 use Rattle.tree_model.specs.Sound.{IsKept}
 use Rattle.tree_model.specs.Finding.{root_of}

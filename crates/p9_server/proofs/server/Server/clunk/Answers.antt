@@ -1,5 +1,4 @@
 -- A fid goes with its hold; one that isn't there leaves all as it was.
-use Rattle.std.proofs.Common.{refl}
 use Rattle.p9_server.proofs.HoldCounts.{kept_named}
 use Rattle.p9_server.proofs.Clunking.{absent_sound, absent_step, gone_held, gone_sound, gone_step}
 use Rattle.p9_server.proofs.server.Server.clunk.Goals as goal

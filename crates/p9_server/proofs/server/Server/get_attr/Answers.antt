@@ -1,5 +1,5 @@
 -- What the host tells of the inode that a fid names, as it is shown.
-use Rattle.std.proofs.Common.{Err, Result}
+use Rattle.std.proofs.Common.{Result}
 use Rattle.tree_model.specs.declared.attributes.Attr.{Attr}
 use Rattle.tree_model.specs.declared.attributes.HostError.{HostError}
 use Rattle.p9_tmsg.specs.Messages.Message.{getattr}

@@ -1,5 +1,5 @@
 -- The bytes that the host tells, or all is as it was.
-use Rattle.std.proofs.Common.{◌≡◌, ℕ, Vec, refl, rules}
+use Rattle.std.proofs.Common.{Vec, rules}
 use Rattle.std.proofs.Common.{arith}
 use Rattle.std.proofs.lemmas.Grind.{common_steps}
 use Rattle.p9_server.proofs.HoldCounts.{kept_named}

@@ -1,11 +1,11 @@
 -- The new fid names what the names lead to, or all is as it was.
-use Rattle.std.proofs.Common.{◌≡◌, ◌∙◌, ap, sym, subst, inl, inr, Ok, Err, List, ℕ, Vec}
+use Rattle.std.proofs.Common.{◌∙◌, ap, sym, subst, Vec}
 use Rattle.tree_model.specs.Tree.{Tree, keep}
 use Rattle.tree_model.specs.Sound.{IsKept}
 use Rattle.fid_model.specs.Fids.{is_held}
 use Rattle.p9_server.proofs.HoldCounts.{kept_named}
 use Rattle.p9_server.proofs.NamedFids.{sound_room, sound_with, named_few}
-use Rattle.p9_server.proofs.WalkSteps.{start_held, start_room, walk_unstarted, walk_stopped, walk_done, walk_no_memory}
+use Rattle.p9_server.proofs.WalkSteps.{start_held, start_room, walk_unstarted, walk_stopped, walk_no_memory}
 use Rattle.p9_server.proofs.server.Server.walk.Goals as goal
 
 pub returns-in-Err-clause-step : goal.returns-in-Err-clause-step

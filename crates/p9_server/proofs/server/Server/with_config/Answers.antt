@@ -1,5 +1,5 @@
 -- A server begins without fids.
-use Rattle.std.proofs.Common.{◌≡◌, ◌<◌, ◌^◌, ◌∙◌, ap, sym, subst, rules, ℕ}
+use Rattle.std.proofs.Common.{◌<◌, ◌^◌, ap, sym, subst, rules, ℕ}
 use Rattle.tree_model.specs.Settings.{Settings}
 use Rattle.p9_server.proofs.Emptying.{sound_empty, config_roomy}
 use Rattle.p9_server.proofs.server.Server.with_config.Goals as goal
