@@ -1,7 +1,7 @@
 // What stands before a mark and after it.
 ghost use Rattle.std.specs.Prelude.{◌≡◌, ◌<◌, ◌≤◌, ◌-◌, IfOk, length};
 ghost use Rattle.std.specs.List.{prefix_len, suffix_len};
-ghost use Rattle.libmount.specs.Cuts.{cut, cut_at, is_space, last_of, without_leading_spaces, without_trailing_spaces};
+ghost use Rattle.libmount.specs.Cuts.{cut_at, is_space, last_of, without_leading_spaces, without_trailing_spaces};
 ghost use Rattle.libmount.specs.Reading.{field_at, Gives};
 ghost use Rattle.libmount.specs.Slices.{LiesIn, placed};
 

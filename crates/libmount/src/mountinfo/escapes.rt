@@ -1,7 +1,6 @@
 // Texts in which a backslash and three octal digits are one byte.
-ghost use Rattle.std.specs.Prelude.{◌≡◌, ◌<◌, ◌≤◌, ◌∷◌, ◌+◌, IsTrue, IfOk, length, slice_index};
+ghost use Rattle.std.specs.Prelude.{◌≡◌, ◌<◌, ◌≤◌, IsTrue, IfOk, length};
 ghost use Rattle.libmount.specs.Escapes.{has_escape, is_octal, octal_value, starts_with_escape, unescaped, TakesByte};
-ghost use Rattle.libmount.specs.Reading.{Gives};
 ghost use Rattle.libmount.specs.Slices.{FieldLiesIn, placed};
 ghost use Rattle.libmount.specs.Views.{text, GivesText};
 ghost use Rattle.libmount.specs.Rows.{text_bytes, text_of};

@@ -1,6 +1,6 @@
 // Numbers as text.
-ghost use Rattle.std.specs.Prelude.{◌≡◌, ◌<◌, ◌≤◌, ◌^◌, IfOk, IfErr, IsTrue, length};
-ghost use Rattle.libmount.specs.Numbers.{digits_value, is_digit, number_at, number_field, number_of, unsigned, with_digit, Goes};
+ghost use Rattle.std.specs.Prelude.{◌≡◌, IfOk};
+ghost use Rattle.libmount.specs.Numbers.{digits_value, number_at, number_field, number_of, unsigned, with_digit, Goes};
 ghost use Rattle.libmount.specs.Reading.{Gives};
 ghost use Rattle.libmount.specs.Slices.{LiesIn, placed};
 

@@ -1,5 +1,5 @@
 -- The first place at which the mark stands is where the text is cut.
-use Rattle.std.proofs.Common.{◌≡◌, ◌∙◌, sym, ap, arith, refl, List, ℕ, length, drop}
+use Rattle.std.proofs.Common.{◌∙◌, sym, ap, arith, refl, List, ℕ, length, drop}
 use Rattle.std.proofs.lemmas.List.{take_rest, drop_all, length-drop}
 use Rattle.libmount.proofs.CutLemmas.{from, cut-placed, Looked-found, Looked-more, Looked-all}
 use Rattle.libmount.proofs.mountinfo.cuts.cut.Goals as goal
