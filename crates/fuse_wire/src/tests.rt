@@ -1,8 +1,10 @@
 use crate::attr::FileAttr;
 use crate::frames::{Next, next_frame};
-use crate::ids::{Errno, INodeNo, RequestId};
-use crate::reply::{reply_attr, reply_entry, reply_error, reply_init};
-use crate::request::{Body, FuseRequest};
+use crate::ids::{Errno, FileHandle, INodeNo, RequestId};
+use crate::reply::{
+    reply_attr, reply_bytes, reply_empty, reply_entry, reply_error, reply_init, reply_opened,
+};
+use crate::request::{Body, ForgetOne, FuseRequest};
 use port_base::memory::SliceSource;
 use std::test::Fail;
 
@@ -82,10 +84,140 @@ fn a_look_up_and_its_attributes(rt: HostRuntime) -> Result<(), Fail> {
                 assert_eq!(rt; request.head.nodeid, 2);
                 reply_attr(&mut replies, unique, &FILE);
             }
+            _ => assert!(rt; false),
         }
     }
     assert_eq!(rt; next_frame(&mut source, &mut frame)?, Next::AtEnd);
     assert_eq!(rt; replies.as_slice(), REPLIES.as_slice());
+    Ok(())
+}
+
+// READ of at most 9 bytes from 4 on of handle 2, by the owner 7 of a lock.
+const READ: [u8; 40] = [
+    2, 0, 0, 0, 0, 0, 0, 0, 4, 0, 0, 0, 0, 0, 0, 0, 9, 0, 0, 0, 2, 0, 0, 0, 7, 0, 0, 0, 0, 0, 0, 0,
+    1, 0, 0, 0, 0, 0, 0, 0,
+];
+
+// The same without the flag of an owner.
+const READ_UNLOCKED: [u8; 40] = [
+    2, 0, 0, 0, 0, 0, 0, 0, 4, 0, 0, 0, 0, 0, 0, 0, 9, 0, 0, 0, 1, 0, 0, 0, 7, 0, 0, 0, 0, 0, 0, 0,
+    1, 0, 0, 0, 0, 0, 0, 0,
+];
+
+// A handle and what RELEASE and FLUSH tell behind it, and a byte more than they have.
+const HANDLE: [u8; 25] = [
+    3, 1, 0, 0, 0, 0, 0, 0, 9, 9, 9, 9, 9, 9, 9, 9, 9, 9, 9, 9, 9, 9, 9, 9, 9,
+];
+
+// BATCH_FORGET of 3 of node 2 and of 258 of node 5, and a byte more than it has.
+const BATCH: [u8; 41] = [
+    2, 0, 0, 0, 9, 9, 9, 9, 2, 0, 0, 0, 0, 0, 0, 0, 3, 0, 0, 0, 0, 0, 0, 0, 5, 0, 0, 0, 0, 0, 0, 0,
+    2, 1, 0, 0, 0, 0, 0, 0, 9,
+];
+
+#[test]
+fn what_files_and_forgets_ask(rt: HostRuntime) -> Result<(), Fail> {
+    let read = |lock| Body::Read {
+        fh: 2,
+        offset: 4,
+        size: 9,
+        flags: 1,
+        lock,
+    };
+    let cases: [(u8, &[u8], Body<'_>); 8] = [
+        (
+            14,
+            b"\0\x80\0\0\x09\x09\x09\x09",
+            Body::OpenFile { flags: 32768 },
+        ),
+        (15, &READ, read(Some(7))),
+        (15, &READ_UNLOCKED, read(None)),
+        (25, &HANDLE[..24], Body::Flush { fh: 259 }),
+        (18, &HANDLE[..24], Body::Release { fh: 259 }),
+        (2, b"\0\0\0\0\0\0\0\x01", Body::Forget { nlookup: 1 << 56 }),
+        (
+            42,
+            b"\0\0\0\0\x09\x09\x09\x09",
+            Body::BatchForget { pairs: b"" },
+        ),
+        (
+            42,
+            &BATCH[..40],
+            Body::BatchForget {
+                pairs: &BATCH[8..40],
+            },
+        ),
+    ];
+    for (opcode, body, want) in cases {
+        let mut frame = Vec::from_slice(rt.alloc(), &[0; 40])?;
+        frame[4] = opcode;
+        frame.extend_from_slice(body)?;
+        assert_eq!(rt; FuseRequest::read(&frame)?.body, want);
+    }
+    Ok(())
+}
+
+#[test]
+fn bodies_of_another_length_are_refused(rt: HostRuntime) -> Result<(), Fail> {
+    let cases: [(u8, &[u8]); 16] = [
+        (14, &HANDLE[..7]),
+        (14, &HANDLE[..9]),
+        (15, &READ[..39]),
+        (15, &BATCH),
+        (25, &HANDLE[..23]),
+        (25, &HANDLE),
+        (18, &HANDLE[..23]),
+        (18, &HANDLE),
+        (2, &HANDLE[..7]),
+        (2, &HANDLE[..9]),
+        (42, &BATCH[..7]),
+        (42, &BATCH[..8]),
+        (42, &BATCH[..24]),
+        (42, &BATCH[..39]),
+        (42, &BATCH),
+        // 16 times 2^28 and 1 is 16 in 32 bits.
+        (
+            42,
+            b"\x01\0\0\x10\0\0\0\0\x02\0\0\0\0\0\0\0\x03\0\0\0\0\0\0\0",
+        ),
+    ];
+    for (opcode, body) in cases {
+        let mut frame = Vec::from_slice(rt.alloc(), &[0; 40])?;
+        frame[4] = opcode;
+        frame.extend_from_slice(body)?;
+        assert_eq!(rt; FuseRequest::read(&frame).err(), Some(Errno(22)));
+    }
+    Ok(())
+}
+
+#[test]
+fn pairs_of_a_batch(rt: HostRuntime) -> Result<(), Fail> {
+    let cases = [(8, 2, 3), (24, 5, 258)];
+    for (at, nodeid, nlookup) in cases {
+        let pair = ForgetOne { nodeid, nlookup };
+        assert_eq!(rt; ForgetOne::read(&BATCH[at..at + 16]), pair);
+        assert_eq!(rt; ForgetOne::read(&BATCH[at..]), pair);
+    }
+    Ok(())
+}
+
+#[test]
+fn short_replies(rt: HostRuntime) -> Result<(), Fail> {
+    let mut out = Vec::new(rt.alloc());
+    out.reserve(16)?;
+    reply_empty(&mut out, RequestId(3));
+    out.reserve(21)?;
+    reply_bytes(&mut out, RequestId(4), b"hello");
+    out.reserve(16)?;
+    reply_bytes(&mut out, RequestId(5), b"");
+    out.reserve(32)?;
+    reply_opened(&mut out, RequestId(1 << 56), FileHandle(259));
+    let want = [
+        16, 0, 0, 0, 0, 0, 0, 0, 3, 0, 0, 0, 0, 0, 0, 0, 21, 0, 0, 0, 0, 0, 0, 0, 4, 0, 0, 0, 0, 0,
+        0, 0, 0x68, 0x65, 0x6c, 0x6c, 0x6f, 16, 0, 0, 0, 0, 0, 0, 0, 5, 0, 0, 0, 0, 0, 0, 0, 32, 0,
+        0, 0, 0, 0, 0, 0, 0, 0, 0, 0, 0, 0, 0, 1, 3, 1, 0, 0, 0, 0, 0, 0, 0, 0, 0, 0, 0, 0, 0, 0,
+    ];
+    assert_eq!(rt; out.as_slice(), want.as_slice());
     Ok(())
 }
 
