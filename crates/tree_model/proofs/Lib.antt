@@ -18,5 +18,6 @@ pub mod Unlinking
 pub mod Leaving
 pub mod Creating
 pub mod Moving
+pub mod Renaming
 pub mod Reading
 pub mod Sampling

@@ -6,19 +6,18 @@ use Rattle.std.proofs.Props.{props}
 use Rattle.std.proofs.lemmas.Bool.{cases_eq, false≢true}
 use Rattle.std.proofs.lemmas.Bool.Decides.{nat_tests}
 use Rattle.std.proofs.lemmas.List.Elements.{Contains-append_cases}
-use Rattle.std.specs.FinMap.{get, insert}
+use Rattle.std.specs.FinMap.{get}
 use Rattle.port_base.specs.Names.{name_fault}
 use Rattle.tree_model.specs.Tree.{Tree, Record, Records, Body, Entry, top, body_at, listed, is_directory, is_directory_at, name_count, names_in, is_linked, count_names, weight}
 use Rattle.tree_model.specs.Tree.Body.{File, Directory, Link}
 use Rattle.tree_model.specs.Good.{IsAt, IsGoodBody, IsGoodRecord, IsGoodTree, Climbs, links_of}
-use Rattle.tree_model.specs.Sound.{IsKept, AreStored}
+use Rattle.tree_model.specs.Sound.{IsKept, IsKeptBut, AreStored}
 use Rattle.tree_model.specs.Finding.{entry_named}
 use Rattle.tree_model.specs.Making.{change, changed, joined_by, with_entries, next_cookie}
 use Rattle.tree_model.specs.Reading.{above}
 use Rattle.tree_model.specs.Creating.{stamped}
 use Rattle.tree_model.specs.Unlinking.{without, parted_by}
 use Rattle.tree_model.specs.Renaming.{above_at, climbs_past, placed_below, settled, with_moved}
-use Rattle.tree_model.proofs.Maps.{inserted, insert_keeps}
 use Rattle.tree_model.proofs.Changing.{change_at, change_keeps}
 use Rattle.tree_model.proofs.Counting.{weigh-insert}
 use Rattle.tree_model.proofs.Naming.{names_in-le, named_is_stored, top_is_unnamed}
@@ -34,7 +33,7 @@ mapped_some f None x is = absurd (cc)
 mapped_some f (Some r) x is = (r, refl, sym (same_some (f r) x is))
 
 -- what stands at a number after a change stood there before, changed or not
-change_from : (f : Record → Record) (rs : Records) (i q : ℕ) (x : Record) → IsAt (change f rs i) q x → (r : Record) × IsAt rs q r × (((q ≡ i) × (x ≡ f r)) ⊎ ((q ≢ i) × (x ≡ r)))
+pub change_from : (f : Record → Record) (rs : Records) (i q : ℕ) (x : Record) → IsAt (change f rs i) q x → (r : Record) × IsAt rs q r × (((q ≡ i) × (x ≡ f r)) ⊎ ((q ≢ i) × (x ≡ r)))
 change_from f rs i q x at = ⊎_elim
     (λ is.
     let was = mapped_some f (get rs i) x (sym (change_at f rs i) ∙ ap (get (change f rs i)) (sym is) ∙ at) in
@@ -43,7 +42,7 @@ change_from f rs i q x at = ⊎_elim
     (cases_eq q i)
 
 -- and what stood there stands there
-change_to : (f : Record → Record) (rs : Records) (i q : ℕ) (r : Record) → IsAt rs q r → (x : Record) × IsAt (change f rs i) q x
+pub change_to : (f : Record → Record) (rs : Records) (i q : ℕ) (r : Record) → IsAt rs q r → (x : Record) × IsAt (change f rs i) q x
 change_to f rs i q r at = ⊎_elim
     (λ is. (f r, ap (get (change f rs i)) is ∙ change_at f rs i ∙ ap (option_map f) (sym (ap (get rs) is) ∙ at)))
     (λ ne. (r, change_keeps f rs i q ne ∙ at))
@@ -116,11 +115,14 @@ module _ (olddir newdir ino q : ℕ) where
 step_kin : (olddir newdir ino : ℕ) (f : Record → Record) (rs : Records) (i : ℕ) → ((r : Record) → IsAt rs i r → IsKin olddir newdir ino i r (f r))
     → (q : ℕ) (x : Record) → IsAt (change f rs i) q x → (r : Record) × IsAt rs q r × IsKin olddir newdir ino q r x
 step_kin olddir newdir ino f rs i kin q x at =
-    let was = change_from f rs i q x at in
-    (was.0, was.1, ⊎_elim
-    (λ is. subst (λ x. IsKin olddir newdir ino q was.0 x) (sym is.1) (subst (λ q. IsKin olddir newdir ino q was.0 (f was.0)) (sym is.0) (kin was.0 (subst (λ q. IsAt rs q was.0) is.0 was.1))))
-    (λ is. same_kin olddir newdir ino q was.0 x (ap (λ (r : Record). r.body) is.1) (ap (λ (r : Record). r.links) is.1))
-    was.2)
+    let was = change_from f rs i q x at in (
+      was.0,
+      was.1,
+      ⊎_elim
+          (λ is. subst (λ x. IsKin olddir newdir ino q was.0 x) (sym is.1) (subst (λ q. IsKin olddir newdir ino q was.0 (f was.0)) (sym is.0) (kin was.0 (subst (λ q. IsAt rs q was.0) is.0 was.1))))
+          (λ is. same_kin olddir newdir ino q was.0 x (ap (λ (r : Record). r.body) is.1) (ap (λ (r : Record). r.links) is.1))
+          was.2,
+    )
 
 -- ---- bodies
 
@@ -505,6 +507,9 @@ module _ (t : Tree) (g : IsGoodTree t) (olddir : ℕ) (oldname : List ℕ) (newd
 
   pub moved_kept : (held : ℕ → Bool) → IsKept rs held → IsKept made held
   moved_kept held k q had = ap (λ b. b || held q) (same_linked q) ∙ k q (was_stored q had)
+
+  pub moved_kept_but : (held : ℕ → Bool) (i : ℕ) → IsKeptBut rs held i → IsKeptBut made held i
+  moved_kept_but held i k q ne had = ap (λ b. b || held q) (same_linked q) ∙ k q ne (was_stored q had)
 
   pub moved_stored : (held : ℕ → Bool) → AreStored rs held → AreStored made held
   moved_stored held s q h = stored q (s q h)
