@@ -74,7 +74,7 @@ change_told {X} tell f rs i q same = ⊎_elim
       by_record (Some r) = same r
 
 -- a record whose name goes keeps its body
-change_body : (f : Record → Record) (rs : Records) (i q : ℕ) → ((r : Record) → (f r).body ≡ r.body) → (r : Record) → IsAt rs q r → (x : Record) × IsAt (change f rs i) q x × (x.body ≡ r.body)
+pub change_body : (f : Record → Record) (rs : Records) (i q : ℕ) → ((r : Record) → (f r).body ≡ r.body) → (r : Record) → IsAt rs q r → (x : Record) × IsAt (change f rs i) q x × (x.body ≡ r.body)
 change_body f rs i q same r at = ⊎_elim
     (λ is. (f r, ap (get (change f rs i)) is ∙ change_at f rs i ∙ ap (option_map f) (sym (ap (get rs) is) ∙ at), same r))
     (λ ne. (r, change_keeps f rs i q ne ∙ at, refl))
@@ -93,7 +93,7 @@ climbs_past-same rs rs' same ino (suc k) i =
 -- ---- what is known where nothing refuses
 
 -- a directory is stored
-stored_directory : (o : Option Record) → is_directory_at (option_map (λ (r : Record). r.body) o) ≡ true → (r : Record) × (o ≡ Some r) × (is_directory r.body ≡ true)
+pub stored_directory : (o : Option Record) → is_directory_at (option_map (λ (r : Record). r.body) o) ≡ true → (r : Record) × (o ≡ Some r) × (is_directory r.body ≡ true)
 stored_directory None is = absurd (false≢true is)
 stored_directory (Some r) is = (r, refl, is)
 
