@@ -139,8 +139,8 @@ kept_all t held k = same_gets _ _ (λ q. sym (retained t.records (λ q. is_linke
   by_record q (Some r) at = ap (λ b. cond b (get t.records q) None) (k q (subst IsSome (sym at) refl))
 
 module _ (t : Tree) (h : Holds) (g : IsGoodTree t) (s : IsHeldIn t h) (olddir : ℕ) (oldname : List ℕ) (newdir : ℕ) (newname : List ℕ) (fine : name_fault newname ≡ None) (ino : ℕ) (is : lookup_of t olddir oldname ≡ Ok ino)
-  (directory : is_directory_at (body_at t.records newdir) ≡ true) (live : is_linked t.records newdir ≡ true)
-  (other : same_ino ino (if_told (lookup_of t newdir newname)) ≡ false) (free : move_refused t olddir newdir ino (if_told (lookup_of t newdir newname)) ≡ None) where
+    (directory : is_directory_at (body_at t.records newdir) ≡ true) (live : is_linked t.records newdir ≡ true)
+    (other : same_ino ino (if_told (lookup_of t newdir newname)) ≡ false) (free : move_refused t olddir newdir ino (if_told (lookup_of t newdir newname)) ≡ None) where
   abbrev moved : Tree
   moved = with_moved (without_replaced t newdir newname (if_told (lookup_of t newdir newname))) olddir oldname newdir newname ino
 

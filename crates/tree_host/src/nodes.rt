@@ -32,9 +32,9 @@ use crate::node::{Name, Node, TOP};
 pub use creating::{create_node, link_node, make_node};
 use port_base::errno::{ENOENT, ENOTDIR};
 use port_base::table::Table;
+pub use renaming::{found, move_entry, move_refusal, sweep_replaced};
 use std::alloc::{AllocError, Global};
 use tree_model::{HostError, Limits, Stamp};
-pub use renaming::{found, move_entry, move_refusal, sweep_replaced};
 pub use unlinking::{find_empty, find_file, remove_entry};
 
 /// The inode that a name of a directory names.
