@@ -1,6 +1,5 @@
 -- A step of the climb.
-use Rattle.std.proofs.Common.{◌≢◌, ◌<◌, ◌∙◌}
-use Rattle.tree_model.specs.Tree.{top}
+use Rattle.std.proofs.Common.{◌∙◌}
 use Rattle.tree_host.proofs.Moving.{climb_step}
 use Rattle.tree_host.proofs.nodes.renaming.climbs_past.Goals as goal
 
