@@ -5,3 +5,4 @@ pub mod Striking
 pub mod Writing
 pub mod Making
 pub mod Leaving
+pub mod Moving

@@ -10,6 +10,7 @@ ghost use Rattle.tree_model.specs.Attributing.{touch_ctime_of, set_mode_of, set_
 ghost use Rattle.tree_model.specs.Reading.{entry_after_of};
 ghost use Rattle.tree_model.specs.Creating.{create_of, mkdir_of, link_of};
 ghost use Rattle.tree_model.specs.Unlinking.{unlink_of, rmdir_of};
+ghost use Rattle.tree_model.specs.Renaming.{rename_of};
 ghost use Rattle.tree_model.specs.Opening.{open_check_of, read_of, readlink_of};
 ghost use Rattle.tree_host.specs.Holds.{Holds, hold_count, is_held, held_more, held_less};
 ghost use Rattle.tree_host.specs.Scripts.{Plan, Follows};
@@ -256,6 +257,29 @@ pub trait Host {
         ensures leaves { Leaves (rmdir_of (is_held (holds self.old)) (tree self.old) dir name.now) (tree self.old) (tree self.new) result }
         ensures holds { holds self.new ≡ holds self.old }
         ensures memory { result ≢ Err HostError.NoMemory }
+        ensures cause { Causes (steady self.old) (faults self.old) (faults self.new) result }
+        ensures steady { steady self.new ≡ steady self.old }
+        ensures plan { Follows (plan self.old) (plan self.new) result };
+
+    /// Moves an entry to a new name, which gets the next cookie of its directory; what had that name goes. What is
+    /// moved and what is replaced get the moment as ctime, both directories as mtime and ctime. Nothing changes
+    /// where both names name one inode. ENOTDIR where either directory is none; ENOENT where no entry has the old
+    /// name, or no entry names the new directory; EINVAL for a directory into itself or below; ENOTDIR for a
+    /// directory onto what is none; EISDIR for what is no directory onto one; ENOTEMPTY onto one with entries;
+    /// ENOSPC where the new directory is full and gets an entry more, or no cookie is left.
+    fn rename(
+        &mut self,
+        olddir: u64,
+        oldname: &[u8],
+        newdir: u64,
+        newname: &[u8],
+    ) -> Result<(), HostError>
+        requires from { 0 < hold_count (holds self.old) olddir }
+        requires to { 0 < hold_count (holds self.old) newdir }
+        requires old { name_fault oldname.now ≡ None }
+        requires new { name_fault newname.now ≡ None }
+        ensures leaves { Leaves (rename_of (is_held (holds self.old)) (tree self.old) olddir oldname.now newdir newname.now) (tree self.old) (tree self.new) result }
+        ensures holds { holds self.new ≡ holds self.old }
         ensures cause { Causes (steady self.old) (faults self.old) (faults self.new) result }
         ensures steady { steady self.new ≡ steady self.old }
         ensures plan { Follows (plan self.old) (plan self.new) result };

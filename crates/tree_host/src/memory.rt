@@ -12,6 +12,7 @@ mod call_tests;
 mod changing;
 mod creating;
 mod readers;
+mod renaming;
 #[cfg(test)]
 mod tests;
 mod unlinking;
@@ -323,6 +324,19 @@ impl Host for TreeHost {
         let ino = find_empty(&self.nodes, dir, name)?;
         self.remove(dir, name, ino);
         Ok(())
+    }
+
+    fn rename(
+        &mut self,
+        olddir: u64,
+        oldname: &[u8],
+        newdir: u64,
+        newname: &[u8],
+    ) -> Result<(), HostError> {
+        if self.script.strikes(&mut self.faults) {
+            return Err(HostError::Fault);
+        }
+        self.rename_entry(olddir, oldname, newdir, newname)
     }
 
     fn readlink(&mut self, ino: u64) -> Result<Vec<u8>, HostError> {

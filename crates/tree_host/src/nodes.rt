@@ -22,6 +22,7 @@ ghost use Rattle.tree_model.specs.declared.attributes.Limits.{Limits};
 ghost use Rattle.tree_model.specs.declared.attributes.Stamp.{Stamp};
 
 mod creating;
+mod renaming;
 mod unlinking;
 
 use crate::change::Change;
@@ -31,6 +32,7 @@ use crate::node::{Name, Node, TOP};
 pub use creating::{create_node, link_node, make_node};
 use port_base::errno::{ENOENT, ENOTDIR};
 use port_base::table::Table;
+pub use renaming::{found, move_entry, move_refusal, sweep_replaced};
 use std::alloc::{AllocError, Global};
 use tree_model::{HostError, Limits, Stamp};
 pub use unlinking::{find_empty, find_file, remove_entry};
@@ -45,7 +47,8 @@ pub fn find_in(nodes: &Table<Node>, dir: u64, name: &[u8]) -> Result<u64, HostEr
     }
 }
 
-fn is_directory(nodes: &Table<Node>, ino: u64) -> bool
+/// Whether an inode is a directory.
+pub fn is_directory(nodes: &Table<Node>, ino: u64) -> bool
     ensures { result ≡ is_directory_at (body_at nodes.now ino) }
 {
     match nodes.get(ino) {
@@ -54,7 +57,8 @@ fn is_directory(nodes: &Table<Node>, ino: u64) -> bool
     }
 }
 
-fn has_no_links(nodes: &Table<Node>, ino: u64) -> bool
+/// Whether a record is there that has no links.
+pub fn has_no_links(nodes: &Table<Node>, ino: u64) -> bool
     ensures { result ≡ has_no_links (map.get nodes.now ino) }
 {
     match nodes.get(ino) {

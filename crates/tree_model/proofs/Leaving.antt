@@ -17,7 +17,7 @@ use Rattle.tree_model.proofs.Naming.{found_among-exact, found_is_named, named_is
 use Rattle.tree_model.proofs.Keeping.{keep_good}
 use Rattle.tree_model.proofs.Bodies.{lists_none}
 use Rattle.tree_model.proofs.Parting.{good_parted}
-use Rattle.tree_model.proofs.Unlinking.{IsUnlinkedIn, mid_dir, unlinked_in_good, unlinked_kept, unlinked_stored}
+use Rattle.tree_model.proofs.Unlinking.{IsUnlinkedIn, mid_dir, apart, same_linked, unlinked_in_good, unlinked_kept, unlinked_stored}
 
 -- an entry that a name finds in a directory
 pub record IsEntryIn (rs : Records) (dir : ℕ) (name : List ℕ) (ino : ℕ) : Type 0 where
@@ -101,6 +101,14 @@ module _ (t : Tree) (g : IsGoodTree t) (dir : ℕ) (name : List ℕ) (ino : ℕ)
         (record { body = good_parted found.d.body name found.e found.directory d.body found.goes; mode = d.mode; links = d.links; atime = d.atime; mtime = g.moment; ctime = g.moment })
         (record { body = w.body; mode = w.mode; links = (let l = w.links in let less = links_left-le x.body x.links in omega arith); atime = w.atime; mtime = w.mtime; ctime = g.moment }))
 
+    -- the directory stays linked
+    without_live_at : is_linked (without_entry t dir name ino).records dir ≡ true
+    without_live_at =
+        ap (λ (rs : Records). is_linked rs dir) records_are
+        ∙ same_linked t g dir ino name found.e found.d (parted_by name t.moment found.d) x (one_name_less t.moment x) is_unlinked_in dir
+        (apart t g dir ino name found.e found.d (parted_by name t.moment found.d) x (one_name_less t.moment x) is_unlinked_in)
+        ∙ lists_live
+
     without_kept_at : (held : ℕ → Bool) → IsKept t.records held → IsKeptBut (without_entry t dir name ino).records held ino
     without_kept_at held k = subst (λ (rs : Records). IsKeptBut rs held ino) (sym records_are) (unlinked_kept t g dir ino name found.e found.d (parted_by name t.moment found.d) x (one_name_less t.moment x) is_unlinked_in held k)
 
@@ -120,6 +128,9 @@ module _ (t : Tree) (g : IsGoodTree t) (dir : ℕ) (name : List ℕ) (ino : ℕ)
 
     pub without_good : IsGoodTree (without_entry t dir name ino)
     without_good = without_good_at named_at.0 named_at.1 nothing_at
+
+    pub without_live : is_linked (without_entry t dir name ino).records dir ≡ true
+    without_live = without_live_at named_at.0 named_at.1 nothing_at
 
     pub without_kept : (held : ℕ → Bool) → IsKept t.records held → IsKeptBut (without_entry t dir name ino).records held ino
     without_kept = without_kept_at named_at.0 named_at.1 nothing_at

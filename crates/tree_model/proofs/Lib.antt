@@ -17,5 +17,7 @@ pub mod Parting
 pub mod Unlinking
 pub mod Leaving
 pub mod Creating
+pub mod Moving
+pub mod Renaming
 pub mod Reading
 pub mod Sampling

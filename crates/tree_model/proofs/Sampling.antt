@@ -1,5 +1,5 @@
 -- A tree with one file, `hello`: what is told of it follows by computation from what its map has.
-use Rattle.std.proofs.Common.{◌≡◌, ◌≢◌, ℕ, Bool, true, false, cond, not, List, [], ◌∷◌, length, refl, sym, ap, ◌∙◌, Option, Some, None, Result, Ok, Err, ⊎_elim, arith}
+use Rattle.std.proofs.Common.{◌≡◌, ◌≢◌, ℕ, Bool, true, false, cond, not, ◌&&◌, ◌||◌, List, [], ◌∷◌, length, refl, sym, ap, ◌∙◌, Option, Some, None, Result, Ok, Err, ⊎_elim, arith}
 use Rattle.std.specs.Prelude.{codes, option_map, option_and_then}
 use Rattle.std.proofs.lemmas.Bool.{cases_eq}
 use Rattle.std.specs.Ordering.{nat_cmp}
@@ -18,6 +18,7 @@ use Rattle.tree_model.specs.Placing.{create_refused, placed, placed_unless, link
 use Rattle.tree_model.specs.Attributing.{changing, rewritten_at, resized, refused_at, refused_unless_file, set_len_of, write_of, write_refused, fitting, overwritten_at, set_times_of, times_refused, retimed}
 use Rattle.tree_model.specs.Unlinking.{unless_directory, is_empty_at, if_empty, removed_at, without_entry, unlink_of, rmdir_of}
 use Rattle.tree_model.specs.Creating.{made_unless, with_name, link_of}
+use Rattle.tree_model.specs.Renaming.{climbs_past, is_at_or_below, room_refused, first_of, moved_unless, move_to, with_moved, renamed_at, rename_of}
 use Rattle.tree_model.specs.Reading.{peek_entry_of, entry_above, part}
 use Rattle.tree_model.proofs.Maps.{inserted, insert_keeps, retained, same_gets, rewritten}
 use Rattle.tree_model.proofs.Naming.{entry_is_counted}
@@ -238,3 +239,54 @@ none_removed held = ap (removed held 1 (codes "b")) b_missing
 
 pub none_removed_below : (held : ℕ → Bool) → rmdir_of held sample 2 hello ≡ Err ENOTDIR
 none_removed_below held = ap (removed held 2 hello) in_file
+
+-- ---- what moves
+
+kind_of_top : is_directory_at (body_at sample.records 1) ≡ true
+kind_of_top = ap is_directory_at body_of_top
+
+kind_of_file : is_directory_at (body_at sample.records 2) ≡ false
+kind_of_file = ap is_directory_at body_of_file
+
+pub top_below_itself : is_at_or_below sample 1 1 ≡ true
+top_below_itself = ap (λ b. b && not (climbs_past sample.records 1 3 1)) kind_of_top
+
+pub file_not_above : is_at_or_below sample 2 1 ≡ false
+file_not_above = ap (λ b. b && not (climbs_past sample.records 2 3 1)) kind_of_file
+
+module _ (held : ℕ → Bool) where
+  -- what a rename between two inodes answers, by their kinds and what the old name names
+  abbrev moved : ℕ → List ℕ → ℕ → List ℕ → Bool → Bool → Result ℕ ℕ → Result (Unit {0} × Tree) ℕ
+  moved olddir oldname newdir newname a b r = cond (not a || not b) (Err ENOTDIR) (renamed_at held sample olddir oldname newdir newname r)
+
+  pub file_elsewhere : (newname : List ℕ) → rename_of held sample 2 hello 1 newname ≡ Err ENOTDIR
+  file_elsewhere newname = ap (λ a. moved 2 hello 1 newname a (is_directory_at (body_at sample.records 1)) (lookup_of sample 2 hello)) kind_of_file
+
+  pub into_file : rename_of held sample 1 hello 2 hello ≡ Err ENOTDIR
+  into_file =
+      ap (λ a. moved 1 hello 2 hello a (is_directory_at (body_at sample.records 2)) (lookup_of sample 1 hello)) kind_of_top
+      ∙ ap (λ b. moved 1 hello 2 hello true b (lookup_of sample 1 hello)) kind_of_file
+
+  in_top : (oldname newname : List ℕ) → rename_of held sample 1 oldname 1 newname ≡ renamed_at held sample 1 oldname 1 newname (lookup_of sample 1 oldname)
+  in_top oldname newname = ap (λ a. moved 1 oldname 1 newname a a (lookup_of sample 1 oldname)) kind_of_top
+
+  pub none_moves : rename_of held sample 1 (codes "b") 1 hello ≡ Err ENOENT
+  none_moves = in_top (codes "b") hello ∙ ap (renamed_at held sample 1 (codes "b") 1 hello) b_missing
+
+  pub file_stays : rename_of held sample 1 hello 1 hello ≡ Ok (tt, sample)
+  file_stays =
+      in_top hello hello ∙ ap (renamed_at held sample 1 hello 1 hello) found
+      ∙ ap (λ r. move_to held sample 1 hello 1 hello 2 (if_told r)) found
+
+  abbrev target : Tree
+  target = with_moved sample 1 hello 1 (codes "b") 2
+
+  abbrev answer : Bool → Option Body → Result (Unit {0} × Tree) ℕ
+  answer below b = moved_unless (cond below (Some EINVAL) (first_of None (room_refused 2 false b))) held target
+
+  pub file_moves : rename_of held sample 1 hello 1 (codes "b") ≡ Ok (tt, keep held target)
+  file_moves =
+      in_top hello (codes "b") ∙ ap (renamed_at held sample 1 hello 1 (codes "b")) found
+      ∙ ap (λ r. move_to held sample 1 hello 1 (codes "b") 2 (if_told r)) b_missing
+      ∙ ap (λ below. answer below (body_at sample.records 1)) file_not_above
+      ∙ ap (answer false) body_of_top

@@ -113,7 +113,7 @@ module _ (t : Tree) (g : IsGoodTree t) (dir ino : ℕ) (name : List ℕ) (e : En
   loose : is_directory x'.body ≡ true → is_linked made ino ≡ false
   loose is = loose_by ino (name_count made ino) not_top (unnamed is)
 
-  same_linked : (q : ℕ) → q ≢ ino → is_linked made q ≡ is_linked rs q
+  pub same_linked : (q : ℕ) → q ≢ ino → is_linked made q ≡ is_linked rs q
   same_linked q ne = ap (λ n. (q == top) || nat_lt 0 n) (same_count q ne)
 
   by_place : (P : ℕ → Record → Type 0) → P ino x' → P dir d' → ((q : ℕ) (r : Record) → q ≢ ino → q ≢ dir → IsAt rs q r → P q r) → (q : ℕ) (r : Record) → IsAt made q r → P q r

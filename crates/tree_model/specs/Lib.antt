@@ -13,3 +13,4 @@ pub mod Placing
 pub mod Attributing
 pub mod Unlinking
 pub mod Creating
+pub mod Renaming

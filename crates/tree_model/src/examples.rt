@@ -1,10 +1,10 @@
 //! Definitions computed on a small tree: a top directory with the file `hello`, inode 2, of five bytes.
-ghost use Rattle.std.specs.Prelude.{◌≡◌, ℕ, Bool, Ok, Err, Some, None, [], ◌∷◌, codes};
+ghost use Rattle.std.specs.Prelude.{◌≡◌, ℕ, Bool, true, false, Ok, Err, Some, None, [], ◌∷◌, codes};
 ghost use Rattle.port_base.specs.declared.errno.TheConstants.{EPERM, ENOENT, EEXIST, ENOTDIR, EISDIR, EINVAL, EFBIG, ENOTEMPTY, ELOOP, EOPNOTSUPP};
 ghost use Rattle.tree_model.specs.declared.attributes.Kind.TheVariants as kind;
 ghost use Rattle.tree_model.specs.Samples.{born, alone, sample, hello};
 ghost use Rattle.tree_model.specs.Tree.{keep};
-ghost use Rattle.tree_model.specs.Tree.Body.{Directory, Link};
+ghost use Rattle.tree_model.specs.Tree.Body.{File, Directory, Link};
 ghost use Rattle.tree_model.specs.Making.{top_record};
 ghost use Rattle.tree_model.specs.Placing.{add_directory_of, add_link_of, add_hard_of, with_record, with_link, directory_record, link_record};
 ghost use Rattle.tree_model.specs.Attributing.{resized, written, fitting, set_len_of, write_of, set_times_of, refused_for_link, with_changed, retimed, rewritten_at};
@@ -12,6 +12,7 @@ ghost use Rattle.tree_model.specs.Opening.{open_check_of, open_refused, read_of,
 ghost use Rattle.tree_model.specs.Attributes.{statfs_of};
 ghost use Rattle.tree_model.specs.Creating.{stamped, with_new, with_name, empty_file, empty_directory, create_of, mkdir_of, link_of};
 ghost use Rattle.tree_model.specs.Unlinking.{without, links_left, without_entry, unless_directory, if_empty, unlink_of, rmdir_of};
+ghost use Rattle.tree_model.specs.Renaming.{climbs_past, is_at_or_below, place_refused, has_no_room, placed_below, with_moved, rename_of};
 ghost use Rattle.tree_model.specs.declared.attributes.TimeSet.TheVariants.{Keep, Now, At};
 
 /// Opens of the file and of the directory, and the kinds that flags refuse.
@@ -106,4 +107,23 @@ pub fn removing()
     ensures below_file { (held : ℕ → Bool) → rmdir_of held sample 2 hello ≡ Err ENOTDIR }
     ensures directory_links { links_left (Directory [] 1 1) 2 ≡ 0 }
     ensures file_links { links_left (Link hello) 2 ≡ 1 }
+{}
+
+/// Names that move, whatever is held, and what is refused.
+pub fn renaming()
+    ensures file { (held : ℕ → Bool) → rename_of held sample 1 hello 1 (codes "b") ≡ Ok (tt, keep held (with_moved sample 1 hello 1 (codes "b") 2)) }
+    ensures same { (held : ℕ → Bool) → rename_of held sample 1 hello 1 hello ≡ Ok (tt, sample) }
+    ensures missing { (held : ℕ → Bool) → rename_of held sample 1 (codes "b") 1 hello ≡ Err ENOENT }
+    ensures from_file { (held : ℕ → Bool) → rename_of held sample 2 hello 1 hello ≡ Err ENOTDIR }
+    ensures into_file { (held : ℕ → Bool) → rename_of held sample 1 hello 2 hello ≡ Err ENOTDIR }
+    ensures into_itself { is_at_or_below sample 1 1 ≡ true }
+    ensures file_is_nowhere { is_at_or_below sample 2 1 ≡ false }
+    ensures climb { climbs_past sample.records 2 1 1 ≡ true }
+    ensures onto_file { place_refused (Some (Directory [] 1 1)) (Some (File [])) ≡ Some ENOTDIR }
+    ensures onto_directory { place_refused (Some (File [])) (Some (Directory [] 1 1)) ≡ Some EISDIR }
+    ensures onto_filled { place_refused (Some (Directory [] 1 1)) (Some (Directory (record { cookie = 1; name = hello; ino = 2 } ∷ []) 2 1)) ≡ Some ENOTEMPTY }
+    ensures onto_empty { place_refused (Some (Directory [] 1 1)) (Some (Directory [] 1 1)) ≡ None }
+    ensures full { has_no_room 0 true (Directory [] 1 1) ≡ true }
+    ensures as_many { has_no_room 0 false (Directory [] 1 1) ≡ false }
+    ensures below { placed_below 7 (Directory [] 1 1) ≡ Directory [] 1 7 }
 {}

@@ -10,6 +10,7 @@ ghost use Rattle.tree_model.specs.Placing.{add_directory_of, add_link_of, add_ha
 ghost use Rattle.tree_model.specs.Attributes.{stat_of};
 ghost use Rattle.tree_model.specs.Attributing.{set_mode_of, set_owner_of, touch_ctime_of, set_times_of, set_len_of, write_of};
 ghost use Rattle.tree_model.specs.Unlinking.{unlink_of, rmdir_of};
+ghost use Rattle.tree_model.specs.Renaming.{rename_of};
 ghost use Rattle.tree_model.specs.Creating.{create_of, mkdir_of, link_of};
 ghost use Rattle.tree_model.specs.Reading.{record_after_of};
 ghost use Rattle.tree_model.specs.declared.attributes.Attr.{Attr};
@@ -126,6 +127,12 @@ pub fn trees_with_a_made_directory_are_good()
 /// A good tree stays good where a file or a link is linked once more.
 pub fn trees_with_one_more_link_are_good()
     ensures { (t u : Tree) (dir ino : ℕ) (name : List ℕ) → IsGoodTree t → name_fault name ≡ None → link_of t ino dir name ≡ Ok (tt, u) → IsGoodTree u }
+{}
+
+/// A good tree stays good where a name moves, whatever is held.
+pub fn trees_with_another_name_are_good()
+    ensures { (held : ℕ → Bool) (t u : Tree) (olddir newdir : ℕ) (oldname newname : List ℕ) →
+        IsGoodTree t → name_fault newname ≡ None → rename_of held t olddir oldname newdir newname ≡ Ok (tt, u) → IsGoodTree u }
 {}
 
 /// The record that is told next is stored under its number, which is above the one asked for.

@@ -5,7 +5,7 @@ ghost use Rattle.tree_host.specs.Holds.{hold_count};
 ghost use Rattle.tree_host.specs.TreeHosts.{tree, holds};
 
 use super::TreeHost;
-use super::tests::put_link;
+use super::tests::{put_directory, put_link};
 use crate::holds::is_held;
 use crate::host::Host;
 use port_base::errno::{EEXIST, EINVAL, EISDIR, EMLINK, ENOENT, ENOSPC, ENOTDIR, ENOTEMPTY, EPERM};
@@ -68,6 +68,19 @@ fn rmdir(rt: &impl Abort, host: &mut TreeHost, dir: u64, name: &[u8]) -> Result<
     assert!(rt; name_fault(name).is_none());
     assert!(rt; is_held(&host.holds, dir));
     host.rmdir(dir, name)
+}
+
+fn rename(
+    rt: &impl Abort,
+    host: &mut TreeHost,
+    (olddir, oldname): (u64, &[u8]),
+    (newdir, newname): (u64, &[u8]),
+) -> Result<(), HostError> {
+    assert!(rt; name_fault(oldname).is_none());
+    assert!(rt; name_fault(newname).is_none());
+    assert!(rt; is_held(&host.holds, olddir));
+    assert!(rt; is_held(&host.holds, newdir));
+    host.rename(olddir, oldname, newdir, newname)
 }
 
 fn is_link(host: &TreeHost, ino: u64) -> bool
@@ -186,5 +199,43 @@ fn an_unlinked_file_stays_readable(rt: HostRuntime) -> Result<(), Fail> {
     assert!(rt; is_held(&host.holds, 2));
     host.release(2);
     assert_eq!(rt; host.record_after(1), None);
+    Ok(())
+}
+
+#[test]
+fn names_move(rt: HostRuntime) -> Result<(), Fail> {
+    let mut host = served(&rt)?;
+    let name = b"a".as_slice();
+    assert_eq!(rt; put_directory(&rt, &mut host, 1, name), Ok(2));
+    assert!(rt; name_fault(name).is_none());
+    assert!(rt; is_held(&host.holds, 1));
+    assert_eq!(rt; host.lookup(1, name), Ok(2));
+    assert_eq!(rt; put_directory(&rt, &mut host, 2, b"b"), Ok(3));
+    assert_eq!(rt; create(&rt, &mut host, 1, b"f"), Ok(4));
+    assert_eq!(rt; link(&rt, &mut host, 4, 1, b"g"), Ok(()));
+    let cases: [((u64, &[u8]), (u64, &[u8]), Result<(), HostError>); 10] = [
+        ((1, b"a"), (2, b"c"), Err(HostError::Errno(EINVAL))),
+        ((1, b"f"), (1, b"g"), Ok(())),
+        ((1, b"f"), (1, b"a"), Err(HostError::Errno(EISDIR))),
+        ((1, b"a"), (1, b"f"), Err(HostError::Errno(ENOTDIR))),
+        ((2, b"b"), (1, b"a"), Err(HostError::Errno(ENOTEMPTY))),
+        ((1, b"x"), (1, b"y"), Err(HostError::Errno(ENOENT))),
+        ((4, b"x"), (1, b"y"), Err(HostError::Errno(ENOTDIR))),
+        ((2, b"b"), (1, b"h"), Ok(())),
+        ((1, b"f"), (2, b"f"), Ok(())),
+        ((1, b"h"), (1, b"a"), Err(HostError::Errno(ENOTEMPTY))),
+    ];
+    for (old, new, want) in cases {
+        assert_eq!(rt; rename(&rt, &mut host, old, new), want);
+    }
+    assert_eq!(rt; host.find(b"/a/f"), Some(4));
+    assert_eq!(rt; host.find(b"/h"), Some(3));
+    assert_eq!(rt; host.peek_entry(1, 1), Some((3, 4, b"g".as_slice())));
+    assert_eq!(rt; host.peek_entry(1, 3), Some((4, 3, b"h".as_slice())));
+    assert_eq!(rt; unlink(&rt, &mut host, 2, b"f"), Ok(()));
+    assert_eq!(rt; rename(&rt, &mut host, (1, b"h"), (1, b"a")), Ok(()));
+    assert_eq!(rt; host.peek_entry(1, 3), Some((5, 3, b"a".as_slice())));
+    assert_eq!(rt; host.record_after(1).map(|a| a.links), Some(0));
+    assert_eq!(rt; host.next_cookie(1), 6);
     Ok(())
 }

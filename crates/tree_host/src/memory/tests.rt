@@ -43,12 +43,14 @@ fn put_hard(
     put(rt, host, dir, name, NewItem::Hard { ino })
 }
 
-fn put_directory(
+pub(super) fn put_directory(
     rt: &impl Abort,
     host: &mut TreeHost,
     dir: u64,
     name: &[u8],
-) -> Result<u64, HostError> {
+) -> Result<u64, HostError>
+    ensures { holds host.new ≡ holds host.old }
+{
     let item = NewItem::Dir {
         mode: 0o755,
         uid: 1,

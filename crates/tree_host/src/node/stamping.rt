@@ -2,6 +2,7 @@
 ghost use Rattle.std.specs.Prelude.{◌≡◌};
 ghost use Rattle.tree_model.specs.Attributing.{restamped};
 ghost use Rattle.tree_model.specs.Creating.{stamped, empty_file, empty_directory};
+ghost use Rattle.tree_model.specs.Renaming.{placed_below, settled, has_no_room};
 
 use super::{Node, Stored};
 use std::alloc::Global;
@@ -46,5 +47,28 @@ impl Node {
         ensures { self.new ≡ restamped moment self.old }
     {
         self.ctime = moment;
+    }
+
+    /// It was moved into the directory `dir`.
+    pub fn settle(&mut self, moment: Stamp, dir: u64)
+        ensures { self.new ≡ settled moment dir self.old }
+    {
+        if let Stored::Names { above, .. } = &mut self.body {
+            *above = dir;
+        }
+        self.ctime = moment;
+    }
+
+    /// Whether it has no room for an entry, where it lists one more then, or as many.
+    pub fn has_no_room(&self, limit: u64, more: bool) -> bool
+        ensures { result ≡ has_no_room limit more self.now.body }
+    {
+        match &self.body {
+            Stored::Names { entries, next, .. } => {
+                (more && entries.len() as u64 >= limit) || *next >= u64::MAX
+            }
+            Stored::Bytes(_) => more && limit == 0,
+            Stored::Target(_) => more && limit == 0,
+        }
     }
 }

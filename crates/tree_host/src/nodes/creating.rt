@@ -16,7 +16,8 @@ use port_base::table::Table;
 use std::alloc::{AllocError, Global};
 use tree_model::Stamp;
 
-fn stamp(nodes: &mut Table<Node>, dir: u64, moment: Stamp)
+/// The mtime and ctime of a directory become the moment.
+pub fn stamp(nodes: &mut Table<Node>, dir: u64, moment: Stamp)
     ensures { nodes.new ≡ change (stamped moment) nodes.old dir }
 {
     match nodes.get_mut(dir) {

@@ -24,7 +24,8 @@ pub fn find_file(nodes: &Table<Node>, dir: u64, name: &[u8]) -> Result<u64, Host
     Ok(ino)
 }
 
-fn is_empty(nodes: &Table<Node>, ino: u64) -> bool
+/// Whether an inode lists nothing.
+pub fn is_empty(nodes: &Table<Node>, ino: u64) -> bool
     ensures { result ≡ is_empty_at (body_at nodes.now ino) }
 {
     match nodes.get(ino) {
@@ -58,7 +59,8 @@ fn name_less(nodes: &mut Table<Node>, ino: u64, moment: Stamp)
     }
 }
 
-fn part_from(nodes: &mut Table<Node>, dir: u64, name: &[u8], moment: Stamp)
+/// The entry of a name goes.
+pub fn part_from(nodes: &mut Table<Node>, dir: u64, name: &[u8], moment: Stamp)
     ensures { nodes.new ≡ change (parted_by name.now moment) nodes.old dir }
 {
     match nodes.get_mut(dir) {

@@ -1,0 +1,24 @@
+-- The new entry is added first, and what is replaced goes last: the tree is that of the definition.
+use Rattle.std.proofs.Common.{ap, ◌∙◌}
+use Rattle.tree_model.specs.Tree.{Records}
+use Rattle.tree_host.specs.Holds.{is_held}
+use Rattle.tree_host.specs.Kept.{tree_from, swept_of}
+use Rattle.tree_host.proofs.Moving.{moves}
+use Rattle.tree_host.proofs.memory.TreeHost.move_free.Goals as goal
+
+pub invariant_of-self : goal.invariant_of-self
+invariant_of-self c =
+    let a = c.args in
+    let s = a.self.now in
+    let q = c.requires in
+    let made = c.sweep_replaced.ensures ∙ ap (λ (rs : Records). swept_of (is_held s.holds) a.there rs) c.in-Ok.ensures.ok in
+    let is = moves (tree_from s.nodes s.next s.limits s.moment) s.holds s.good s.stored a.olddir a.oldname.now a.newdir a.newname.now a.ino q.named q.old q.directory q.live a.there q.new q.other q.free c.sweep_replaced.new.nodes made in
+    record { good = is.good; stored = is.held; timed = s.timed; quiet = s.quiet }
+
+pub returns-in-Ok-clause-ok : goal.returns-in-Ok-clause-ok
+returns-in-Ok-clause-ok c =
+    let a = c.args in
+    let s = a.self.now in
+    let q = c.requires in
+    let made = c.sweep_replaced.ensures ∙ ap (λ (rs : Records). swept_of (is_held s.holds) a.there rs) c.in-Ok.ensures.ok in
+    (moves (tree_from s.nodes s.next s.limits s.moment) s.holds s.good s.stored a.olddir a.oldname.now a.newdir a.newname.now a.ino q.named q.old q.directory q.live a.there q.new q.other q.free c.sweep_replaced.new.nodes made).tree

@@ -1,0 +1,515 @@
+-- A good tree in which an entry moves is good.
+use Rattle.std.proofs.Common.{◌≡◌, ◌≢◌, ℕ, zero, suc, ◌+◌, ◌<◌, ◌≤◌, Bool, true, false, cond, ◌||◌, List, [], ◌∷◌, ◌++◌, length, refl, sym, ap, ◌∙◌, subst, Option, Some, None, ◌⊎◌, inl, inr, ⊎_elim, arith, IsSome, IsTrue, nat_lt, bytes_eq, get_or, unwrap_or}
+use Rattle.std.specs.Prelude.{◌==◌, option_map, IfSome, Contains}
+use Rattle.std.proofs.Math.Logic.{∥∥₁_map, ∥∥₁_elim}
+use Rattle.std.proofs.Props.{props}
+use Rattle.std.proofs.lemmas.Bool.{cases_eq, false≢true}
+use Rattle.std.proofs.lemmas.Bool.Decides.{nat_tests}
+use Rattle.std.proofs.lemmas.List.Elements.{Contains-append_cases}
+use Rattle.std.specs.FinMap.{get}
+use Rattle.port_base.specs.Names.{name_fault}
+use Rattle.tree_model.specs.Tree.{Tree, Record, Records, Body, Entry, top, body_at, listed, is_directory, is_directory_at, name_count, names_in, is_linked, count_names, weight}
+use Rattle.tree_model.specs.Tree.Body.{File, Directory, Link}
+use Rattle.tree_model.specs.Good.{IsAt, IsGoodBody, IsGoodRecord, IsGoodTree, Climbs, links_of}
+use Rattle.tree_model.specs.Sound.{IsKept, IsKeptBut, AreStored}
+use Rattle.tree_model.specs.Finding.{entry_named}
+use Rattle.tree_model.specs.Making.{change, changed, joined_by, with_entries, next_cookie}
+use Rattle.tree_model.specs.Reading.{above}
+use Rattle.tree_model.specs.Creating.{stamped}
+use Rattle.tree_model.specs.Unlinking.{without, parted_by}
+use Rattle.tree_model.specs.Renaming.{above_at, climbs_past, placed_below, settled, with_moved}
+use Rattle.tree_model.proofs.Changing.{change_at, change_keeps}
+use Rattle.tree_model.proofs.Counting.{weigh-insert}
+use Rattle.tree_model.proofs.Naming.{names_in-le, named_is_stored, top_is_unnamed}
+use Rattle.tree_model.proofs.Bodies.{shows_links, with_entries-is_directory, with_entries-listed, with_entries-above, same_some, good_joined}
+use Rattle.tree_model.proofs.Adding.{count_names-push}
+use Rattle.tree_model.proofs.Parting.{good_parted, without-Contains, count_names-without}
+use Rattle.tree_model.proofs.Leaving.{IsEntryIn}
+
+-- ---- one record changed
+
+mapped_some : (f : Record → Record) (o : Option Record) (x : Record) → option_map f o ≡ Some x → (r : Record) × (o ≡ Some r) × (x ≡ f r)
+mapped_some f None x is = absurd (cc)
+mapped_some f (Some r) x is = (r, refl, sym (same_some (f r) x is))
+
+-- what stands at a number after a change stood there before, changed or not
+pub change_from : (f : Record → Record) (rs : Records) (i q : ℕ) (x : Record) → IsAt (change f rs i) q x → (r : Record) × IsAt rs q r × (((q ≡ i) × (x ≡ f r)) ⊎ ((q ≢ i) × (x ≡ r)))
+change_from f rs i q x at = ⊎_elim
+    (λ is.
+    let was = mapped_some f (get rs i) x (sym (change_at f rs i) ∙ ap (get (change f rs i)) (sym is) ∙ at) in
+    (was.0, ap (get rs) is ∙ was.1, inl (is, was.2)))
+    (λ ne. (x, sym (change_keeps f rs i q ne) ∙ at, inr (ne, refl)))
+    (cases_eq q i)
+
+-- and what stood there stands there
+pub change_to : (f : Record → Record) (rs : Records) (i q : ℕ) (r : Record) → IsAt rs q r → (x : Record) × IsAt (change f rs i) q x
+change_to f rs i q r at = ⊎_elim
+    (λ is. (f r, ap (get (change f rs i)) is ∙ change_at f rs i ∙ ap (option_map f) (sym (ap (get rs) is) ∙ at)))
+    (λ ne. (r, change_keeps f rs i q ne ∙ at))
+    (cases_eq q i)
+
+change_counts : (f : Record → Record) (rs : Records) (i q : ℕ) (r : Record) → IsAt rs i r → name_count (change f rs i) q + names_in q r ≡ name_count rs q + names_in q (f r)
+change_counts f rs i q r at =
+    let is = ap (λ o. name_count (changed f o rs i) q) at in
+    let one = weigh-insert (names_in q) rs i (f r) in
+    let had = ap (weight (names_in q)) at in
+    omega arith
+
+same_counts : (f : Record → Record) (rs : Records) (i q : ℕ) → ((r : Record) → names_in q (f r) ≡ names_in q r) → name_count (change f rs i) q ≡ name_count rs q
+same_counts f rs i q same = by_record (get rs i) refl where
+  by_record : (o : Option Record) → get rs i ≡ o → name_count (changed f o rs i) q ≡ name_count rs q
+  by_record None at = refl
+  by_record (Some r) at =
+      let one = weigh-insert (names_in q) rs i (f r) in
+      let had = ap (weight (names_in q)) at in
+      let is = same r in
+      omega arith
+
+all_good : (f : Record → Record) (rs : Records) (i : ℕ) → ((q : ℕ) (r : Record) → IsAt rs q r → IsGoodRecord r) → ((r : Record) → IsAt rs i r → IsGoodRecord (f r)) → (q : ℕ) (x : Record) → IsAt (change f rs i) q x → IsGoodRecord x
+all_good f rs i good makes q x at =
+    let was = change_from f rs i q x at in
+    ⊎_elim
+    (λ is. subst IsGoodRecord (sym is.1) (makes was.0 (subst (λ q. IsAt rs q was.0) is.0 was.1)))
+    (λ is. subst IsGoodRecord (sym is.1) (good q was.0 was.1))
+    was.2
+
+-- ---- what is alike in a record before and after
+
+-- a record and what becomes of it: only the names of one inode may differ, only in two directories, and only what moves may stand elsewhere
+record IsKin (olddir newdir ino q : ℕ) (r x : Record) : Type 0 where
+  pub directory : is_directory x.body ≡ is_directory r.body
+  pub links : x.links ≡ r.links
+  pub shows : (n : ℕ) (linked : Bool) → links_of x.body n linked ≡ links_of r.body n linked
+  pub names : (i : ℕ) → i ≢ ino → names_in i x ≡ names_in i r
+  pub entries : (e : Entry) → Contains (listed x.body) e → Contains (listed r.body) e ⊎ (e.ino ≡ ino)
+  pub lists : q ≢ olddir → q ≢ newdir → listed x.body ≡ listed r.body
+  pub place : q ≢ ino → (es : List Entry) (n up : ℕ) → x.body ≡ Directory es n up → (fs : List Entry) × (m : ℕ) × (r.body ≡ Directory fs m up)
+  pub stays : q ≢ ino → (es : List Entry) (n up : ℕ) → r.body ≡ Directory es n up → (fs : List Entry) × (m : ℕ) × (x.body ≡ Directory fs m up)
+
+module _ (olddir newdir ino q : ℕ) where
+  -- the body stays
+  same_kin : (r x : Record) → x.body ≡ r.body → x.links ≡ r.links → IsKin olddir newdir ino q r x
+  same_kin r x body links = record {
+    directory = ap is_directory body;
+    links = links;
+    shows = λ n linked. ap (λ b. links_of b n linked) body;
+    names = λ i ne. ap (λ b. count_names i (listed b)) body;
+    entries = λ e c. inl (subst (λ b. Contains (listed b) e) body c);
+    lists = λ no nn. ap listed body;
+    place = λ ne es n up is. (es, n, sym body ∙ is);
+    stays = λ ne es n up is. (es, n, body ∙ is);
+  }
+
+  kin_trans : (r x y : Record) → IsKin olddir newdir ino q r x → IsKin olddir newdir ino q x y → IsKin olddir newdir ino q r y
+  kin_trans r x y k l = record {
+    directory = l.directory ∙ k.directory;
+    links = l.links ∙ k.links;
+    shows = λ n linked. l.shows n linked ∙ k.shows n linked;
+    names = λ i ne. l.names i ne ∙ k.names i ne;
+    entries = λ e c. ⊎_elim (λ c. k.entries e c) (λ is. inr is) (l.entries e c);
+    lists = λ no nn. l.lists no nn ∙ k.lists no nn;
+    place = λ ne es n up is. let mid = l.place ne es n up is in k.place ne mid.0 mid.1 up mid.2;
+    stays = λ ne es n up is. let mid = k.stays ne es n up is in l.stays ne mid.0 mid.1 up mid.2;
+  }
+
+step_kin : (olddir newdir ino : ℕ) (f : Record → Record) (rs : Records) (i : ℕ) → ((r : Record) → IsAt rs i r → IsKin olddir newdir ino i r (f r))
+    → (q : ℕ) (x : Record) → IsAt (change f rs i) q x → (r : Record) × IsAt rs q r × IsKin olddir newdir ino q r x
+step_kin olddir newdir ino f rs i kin q x at =
+    let was = change_from f rs i q x at in (
+      was.0,
+      was.1,
+      ⊎_elim
+          (λ is. subst (λ x. IsKin olddir newdir ino q was.0 x) (sym is.1) (subst (λ q. IsKin olddir newdir ino q was.0 (f was.0)) (sym is.0) (kin was.0 (subst (λ q. IsAt rs q was.0) is.0 was.1))))
+          (λ is. same_kin olddir newdir ino q was.0 x (ap (λ (r : Record). r.body) is.1) (ap (λ (r : Record). r.links) is.1))
+          was.2,
+    )
+
+-- ---- bodies
+
+-- a directory with other entries stays below the same directory
+other_entries : (b : Body) (es fs : List Entry) (next n up : ℕ) → b ≡ Directory es n up → with_entries b fs next ≡ Directory fs next up
+other_entries b es fs next n up is = ap (λ b. with_entries b fs next) is
+
+placed-is_directory : (dir : ℕ) (b : Body) → is_directory (placed_below dir b) ≡ is_directory b
+placed-is_directory dir (File bytes) = refl
+placed-is_directory dir (Directory es next up) = refl
+placed-is_directory dir (Link target) = refl
+
+placed-listed : (dir : ℕ) (b : Body) → listed (placed_below dir b) ≡ listed b
+placed-listed dir (File bytes) = refl
+placed-listed dir (Directory es next up) = refl
+placed-listed dir (Link target) = refl
+
+placed-shows : (dir : ℕ) (b : Body) (n : ℕ) (linked : Bool) → links_of (placed_below dir b) n linked ≡ links_of b n linked
+placed-shows dir (File bytes) n linked = refl
+placed-shows dir (Directory es next up) n linked = refl
+placed-shows dir (Link target) n linked = refl
+
+placed-good : (dir : ℕ) (b : Body) → IsGoodBody b → IsGoodBody (placed_below dir b)
+placed-good dir (File bytes) good = good
+placed-good dir (Directory es next up) good = good
+placed-good dir (Link target) good = good
+
+placed-above : (dir : ℕ) (b : Body) (es : List Entry) (n up : ℕ) → placed_below dir b ≡ Directory es n up → up ≡ dir
+placed-above dir (File bytes) es n up is = absurd (cc)
+placed-above dir (Directory fs m a) es n up is = let same : dir ≡ up = cc in sym same
+placed-above dir (Link target) es n up is = absurd (cc)
+
+-- a name that isn't there isn't there without another
+without-none : (name other : List ℕ) (es : List Entry) → entry_named other es ≡ None → entry_named other (without name es) ≡ None
+without-none name other [] none = refl
+without-none name other (e ∷ es) none = by_tests (bytes_eq e.name name) (bytes_eq e.name other) refl none (λ none. without-none name other es none) where
+  by_tests : (b c : Bool) → bytes_eq e.name other ≡ c → cond c (Some e) (entry_named other es) ≡ None → (entry_named other es ≡ None → entry_named other (without name es) ≡ None)
+      → entry_named other (cond b es (e ∷ without name es)) ≡ None
+  by_tests b true is none later = absurd (cc)
+  by_tests true false is none later = none
+  by_tests false false is none later = ap (λ c. cond c (Some e) (entry_named other (without name es))) is ∙ later none
+
+-- ---- the move
+
+-- what is known of a move: an entry that names the inode, a directory without the new name, which isn't at or below what moves
+pub record IsMove (t : Tree) (olddir : ℕ) (oldname : List ℕ) (newdir : ℕ) (newname : List ℕ) (ino : ℕ) : Type 0 where
+  pub old : IsEntryIn t.records olddir oldname ino
+  pub n : Record
+  pub there : IsAt t.records newdir n
+  pub directory : is_directory n.body ≡ true
+  pub live : is_linked t.records newdir ≡ true
+  pub new : entry_named newname (listed n.body) ≡ None
+  pub fine : name_fault newname ≡ None
+  pub steps : ℕ
+  pub past : is_directory_at (body_at t.records ino) ≡ true → climbs_past t.records ino steps newdir ≡ true
+
+module _ (t : Tree) (g : IsGoodTree t) (olddir : ℕ) (oldname : List ℕ) (newdir : ℕ) (newname : List ℕ) (ino : ℕ) (w : IsMove t olddir oldname newdir newname ino) where
+  abbrev pub rs : Records
+  rs = t.records
+
+  abbrev d : Record
+  d = w.old.d
+
+  abbrev parts : Record → Record
+  parts = parted_by oldname t.moment
+
+  abbrev joins : Record → Record
+  joins = joined_by newname ino
+
+  abbrev parted : Records
+  parted = change parts rs olddir
+
+  abbrev joined : Records
+  joined = change joins parted newdir
+
+  abbrev stamps : Records
+  stamps = change (stamped t.moment) joined newdir
+
+  abbrev pub made : Records
+  made = change (settled t.moment newdir) stamps ino
+
+  abbrev Kin : ℕ → Record → Record → Type 0
+  Kin = IsKin olddir newdir ino
+
+  -- ---- the old entry goes
+
+  fewer : (q : ℕ) → names_in q (parts d) + cond {A = ℕ} (w.old.e.ino == q) 1 0 ≡ names_in q d
+  fewer q =
+      ap (λ es. count_names q es + cond {A = ℕ} (w.old.e.ino == q) 1 0) (with_entries-listed d.body (without oldname (listed d.body)) (next_cookie d.body) w.old.directory)
+      ∙ count_names-without q oldname (listed d.body) w.old.e w.old.goes
+
+  not_it : (q : ℕ) → q ≢ ino → cond {A = ℕ} (w.old.e.ino == q) 1 0 ≡ 0
+  not_it q ne = let is = w.old.names in grind (arith, nat_tests)
+
+  parts_kin : (r : Record) → IsAt rs olddir r → Kin olddir r (parts r)
+  parts_kin r at = subst (λ (r : Record). Kin olddir r (parts r)) (same_some d r (sym w.old.at ∙ at)) (record {
+    directory = with_entries-is_directory d.body _ _;
+    links = refl;
+    shows = λ n linked. sym (shows_links d.body _ _ n n linked w.old.directory);
+    names = λ i ne. let less = fewer i in let none = not_it i ne in omega arith;
+    entries = λ e c. inl (without-Contains oldname (listed d.body) w.old.e e w.old.goes (subst (λ es. Contains es e) (with_entries-listed d.body (without oldname (listed d.body)) (next_cookie d.body) w.old.directory) c));
+    lists = λ no nn. absurd (no refl);
+    place = λ ne es n up is. with_entries-above d.body _ es _ n up is;
+    stays = λ ne es n up is. (without oldname (listed d.body), next_cookie d.body, other_entries d.body es _ _ n up is);
+  })
+
+  parted_from : (q : ℕ) (x : Record) → IsAt parted q x → (r : Record) × IsAt rs q r × Kin q r x
+  parted_from = step_kin olddir newdir ino parts rs olddir parts_kin
+
+  -- ---- the new directory then
+
+  m : (x : Record) × IsAt parted newdir x
+  m = change_to parts rs olddir newdir w.n w.there
+
+  m_directory : is_directory (m.0).body ≡ true
+  m_directory =
+      let was = parted_from newdir m.0 m.1 in
+      was.2.directory ∙ ap (λ (r : Record). is_directory r.body) (same_some was.0 w.n (sym was.1 ∙ w.there)) ∙ w.directory
+
+  m_new : entry_named newname (listed (m.0).body) ≡ None
+  m_new =
+      let was = change_from parts rs olddir newdir m.0 m.1 in
+      let same : was.0 ≡ w.n = same_some was.0 w.n (sym was.1 ∙ w.there) in
+      ⊎_elim
+      (λ is.
+      let lists : listed (m.0).body ≡ without oldname (listed (was.0).body) = ap (λ (r : Record). listed r.body) is.1 ∙ with_entries-listed (was.0).body (without oldname (listed (was.0).body)) (next_cookie (was.0).body) (ap (λ (r : Record). is_directory r.body) same ∙ w.directory) in
+      ap (entry_named newname) lists ∙ without-none oldname newname (listed (was.0).body) (ap (λ (r : Record). entry_named newname (listed r.body)) same ∙ w.new))
+      (λ is. ap (λ (r : Record). entry_named newname (listed r.body)) (is.1 ∙ same) ∙ w.new)
+      was.2
+
+  abbrev entry : Entry
+  entry = record { cookie = next_cookie (m.0).body; name = newname; ino = ino }
+
+  lists_more : listed (joins m.0).body ≡ listed (m.0).body ++ entry ∷ []
+  lists_more = with_entries-listed (m.0).body (listed (m.0).body ++ entry ∷ []) (next_cookie (m.0).body + 1) m_directory
+
+  more_names : (q : ℕ) → names_in q (joins m.0) ≡ names_in q m.0 + cond {A = ℕ} (ino == q) 1 0
+  more_names q = ap (count_names q) lists_more ∙ count_names-push q (listed (m.0).body) entry
+
+  joins_kin : (r : Record) → IsAt parted newdir r → Kin newdir r (joins r)
+  joins_kin r at = subst (λ (r : Record). Kin newdir r (joins r)) (same_some m.0 r (sym m.1 ∙ at)) (record {
+    directory = with_entries-is_directory (m.0).body _ _;
+    links = refl;
+    shows = λ n linked. sym (shows_links (m.0).body _ _ n n linked m_directory);
+    names = λ i ne. let more = more_names i in let none : cond {A = ℕ} (ino == i) 1 0 ≡ 0 = grind (arith, nat_tests) in omega arith;
+    entries = λ e c. ⊎_elim (λ c. inl c) (λ c. inr (by_last e c.0 c.1 c.2)) (Contains-append_cases (listed (m.0).body) (entry ∷ []) e (subst (λ es. Contains es e) lists_more c));
+    lists = λ no nn. absurd (nn refl);
+    place = λ ne es n up is. with_entries-above (m.0).body _ es _ n up is;
+    stays = λ ne es n up is. (listed (m.0).body ++ entry ∷ [], next_cookie (m.0).body + 1, other_entries (m.0).body es _ _ n up is);
+  }) where
+    by_last : (e : Entry) (k : ℕ) → k < length (entry ∷ []) → get_or (entry ∷ []) k e ≡ e → e.ino ≡ ino
+    by_last e zero low is = ap (λ (e : Entry). e.ino) (sym is)
+    by_last e (suc k) low is = absurd (omega arith)
+
+  joined_from : (q : ℕ) (x : Record) → IsAt joined q x → (r : Record) × IsAt parted q r × Kin q r x
+  joined_from = step_kin olddir newdir ino joins parted newdir joins_kin
+
+  stamps_from : (q : ℕ) (x : Record) → IsAt stamps q x → (r : Record) × IsAt joined q r × Kin q r x
+  stamps_from = step_kin olddir newdir ino (stamped t.moment) joined newdir (λ r at. same_kin olddir newdir ino newdir r _ refl refl)
+
+  settles_kin : (r : Record) → Kin ino r (settled t.moment newdir r)
+  settles_kin r = record {
+    directory = placed-is_directory newdir r.body;
+    links = refl;
+    shows = λ n linked. placed-shows newdir r.body n linked;
+    names = λ i ne. ap (count_names i) (placed-listed newdir r.body);
+    entries = λ e c. inl (subst (λ es. Contains es e) (placed-listed newdir r.body) c);
+    lists = λ no nn. placed-listed newdir r.body;
+    place = λ ne. absurd (ne refl);
+    stays = λ ne. absurd (ne refl);
+  }
+
+  from : (q : ℕ) (x : Record) → IsAt made q x → (r : Record) × IsAt rs q r × Kin q r x
+  from q x at =
+      let e = step_kin olddir newdir ino (settled t.moment newdir) stamps ino (λ r at. settles_kin r) q x at in
+      let s = stamps_from q e.0 e.1 in
+      let j = joined_from q s.0 s.1 in
+      let p = parted_from q j.0 j.1 in
+      (p.0, p.1, kin_trans olddir newdir ino q p.0 j.0 x p.2 (kin_trans olddir newdir ino q j.0 s.0 x j.2 (kin_trans olddir newdir ino q s.0 e.0 x s.2 e.2)))
+
+  to : (q : ℕ) (r : Record) → IsAt rs q r → (x : Record) × IsAt made q x × Kin q r x
+  to q r at =
+      let p = change_to parts rs olddir q r at in
+      let j = change_to joins parted newdir q p.0 p.1 in
+      let s = change_to (stamped t.moment) joined newdir q j.0 j.1 in
+      let e = change_to (settled t.moment newdir) stamps ino q s.0 s.1 in
+      let was = from q e.0 e.1 in
+      (e.0, e.1, subst (λ r. Kin q r e.0) (same_some was.0 r (sym was.1 ∙ at)) was.2)
+
+  -- ---- counts, and what is stored
+
+  counts : (q : ℕ) → name_count made q ≡ name_count rs q
+  counts q =
+      let p = change_counts parts rs olddir q d w.old.at in
+      let less = fewer q in
+      let j = change_counts joins parted newdir q m.0 m.1 in
+      let more = more_names q in
+      let s = same_counts (stamped t.moment) joined newdir q (λ r. refl) in
+      let e = same_counts (settled t.moment newdir) stamps ino q (λ r. ap (count_names q) (placed-listed newdir r.body)) in
+      let one = ap (λ i. cond {A = ℕ} (i == q) 1 0) w.old.names in
+      omega arith
+
+  same_linked : (q : ℕ) → is_linked made q ≡ is_linked rs q
+  same_linked q = ap (λ n. (q == top) || nat_lt 0 n) (counts q)
+
+  named : 0 < name_count rs ino
+  named =
+      let less = fewer ino in
+      let is = w.old.names in
+      let one : cond {A = ℕ} (w.old.e.ino == ino) 1 0 ≡ 1 = grind (arith, nat_tests) in
+      let among = names_in-le rs olddir ino d w.old.at in
+      omega arith
+
+  not_top : ino ≢ top
+  not_top is = let none = top_is_unnamed t g in let some = subst (λ i. 0 < name_count rs i) is named in omega arith
+
+  stored : (q : ℕ) → IsSome (get rs q) → IsSome (get made q)
+  stored q had = by_record (get rs q) refl had where
+    by_record : (o : Option Record) → get rs q ≡ o → IsSome o → IsSome (get made q)
+    by_record None at had = absurd (false≢true had)
+    by_record (Some r) at had = subst IsSome (sym (to q r at).1) refl
+
+  was_stored : (q : ℕ) → IsSome (get made q) → IsSome (get rs q)
+  was_stored q had = by_record (get made q) refl had where
+    by_record : (o : Option Record) → get made q ≡ o → IsSome o → IsSome (get rs q)
+    by_record None at had = absurd (false≢true had)
+    by_record (Some x) at had = subst IsSome (sym (from q x at).1) refl
+
+  -- ---- records
+
+  parted_good : (q : ℕ) (x : Record) → IsAt parted q x → IsGoodRecord x
+  parted_good = all_good parts rs olddir g.records (λ r at.
+      let good = g.records olddir d w.old.at in
+      subst (λ (r : Record). IsGoodRecord (parts r)) (same_some d r (sym w.old.at ∙ at))
+      (record { body = good_parted d.body oldname w.old.e w.old.directory good.body w.old.goes; mode = good.mode; links = good.links; atime = good.atime; mtime = g.moment; ctime = g.moment }))
+
+  joined_good : (q : ℕ) (x : Record) → IsAt joined q x → IsGoodRecord x
+  joined_good = all_good joins parted newdir parted_good (λ r at.
+      let good = parted_good newdir m.0 m.1 in
+      subst (λ (r : Record). IsGoodRecord (joins r)) (same_some m.0 r (sym m.1 ∙ at))
+      (record { body = good_joined (m.0).body newname ino m_directory good.body w.fine m_new; mode = good.mode; links = good.links; atime = good.atime; mtime = good.mtime; ctime = good.ctime }))
+
+  stamps_good : (q : ℕ) (x : Record) → IsAt stamps q x → IsGoodRecord x
+  stamps_good = all_good (stamped t.moment) joined newdir joined_good (λ r at.
+      let good = joined_good newdir r at in
+      record { body = good.body; mode = good.mode; links = good.links; atime = good.atime; mtime = g.moment; ctime = g.moment })
+
+  made_records : (q : ℕ) (x : Record) → IsAt made q x → IsGoodRecord x
+  made_records = all_good (settled t.moment newdir) stamps ino stamps_good (λ r at.
+      let good = stamps_good ino r at in
+      record { body = placed-good newdir r.body good.body; mode = good.mode; links = good.links; atime = good.atime; mtime = good.mtime; ctime = g.moment })
+
+  -- ---- above
+
+  -- what moves stands below the new directory
+  settled_above : (x : Record) → IsAt made ino x → (es : List Entry) (n up : ℕ) → x.body ≡ Directory es n up → up ≡ newdir
+  settled_above x at es n up is =
+      let was = change_from (settled t.moment newdir) stamps ino ino x at in
+      ⊎_elim (λ h. placed-above newdir (was.0).body es n up (ap (λ (r : Record). r.body) (sym h.1) ∙ is)) (λ h. absurd (h.0 refl)) was.2
+
+  if_there : (P : Record → Type 0) (i : ℕ) → ((y : Record) → IsAt made i y → P y) → IfSome (get made i) P
+  if_there P i all = by_record (get made i) refl where
+    by_record : (o : Option Record) → get made i ≡ o → IfSome o P
+    by_record None at = tt
+    by_record (Some y) at = all y at
+
+  lists_it : (y : Record) → IsAt made newdir y → 1 ≤ names_in ino y
+  lists_it y at =
+      let e = change_from (settled t.moment newdir) stamps ino newdir y at in
+      let at_e : names_in ino y ≡ names_in ino e.0 = ⊎_elim (λ h. ap (names_in ino) h.1 ∙ ap (count_names ino) (placed-listed newdir (e.0).body)) (λ h. ap (names_in ino) h.1) e.2 in
+      let s = change_from (stamped t.moment) joined newdir newdir e.0 e.1 in
+      let at_s : names_in ino e.0 ≡ names_in ino s.0 = ⊎_elim (λ h. ap (names_in ino) h.1) (λ h. ap (names_in ino) h.1) s.2 in
+      let j : joins m.0 ≡ s.0 = same_some (joins m.0) s.0 (sym (change_at joins parted newdir ∙ ap (option_map joins) m.1) ∙ s.1) in
+      let at_j = ap (names_in ino) j in
+      let more = more_names ino in
+      let one : cond {A = ℕ} (ino == ino) 1 0 ≡ 1 = grind (arith, nat_tests) in
+      omega arith
+
+  still_above : (q up : ℕ) → q ≢ ino → IfSome (get rs up) (λ d. 1 ≤ names_in q d) → IfSome (get made up) (λ d. 1 ≤ names_in q d)
+  still_above q up ne had = if_there (λ d. 1 ≤ names_in q d) up (λ y at.
+      let was = from up y at in
+      let same = was.2.names q ne in
+      let some : 1 ≤ names_in q was.0 = subst (λ o. IfSome o (λ d. 1 ≤ names_in q d)) was.1 had in
+      omega arith)
+
+  -- ---- climbs
+
+  above_is : (i : ℕ) (r : Record) (es : List Entry) (n up : ℕ) → IsAt rs i r → r.body ≡ Directory es n up → above_at rs i ≡ up
+  above_is i r es n up at is = ap (λ o. unwrap_or (option_map above (option_map (λ (r : Record). r.body) o)) 0) at ∙ ap above is
+
+  -- a climb that passes the inode is as it was
+  climbs_away : (k n i : ℕ) → Climbs rs n i → climbs_past rs ino k i ≡ true → Climbs made n i
+  climbs_away k zero i c past = c
+  climbs_away zero (suc n) i c past = absurd (false≢true past)
+  climbs_away (suc k) (suc n) i c past = ⊎_elim (λ is. inl is) (λ s. by_tests s (i == ino) (i == top) refl refl past (λ low. climbs_away k n s.3 s.6 low)) c where
+    by_tests : (s : (r : Record) × (es : List Entry) × (m : ℕ) × (above : ℕ) × IsAt rs i r × (r.body ≡ Directory es m above) × Climbs rs n above) (b h : Bool) → (i == ino) ≡ b → (i == top) ≡ h
+        → cond b false (cond h true (climbs_past rs ino k (above_at rs i))) ≡ true → (climbs_past rs ino k s.3 ≡ true → Climbs made n s.3) → Climbs made (suc n) i
+    by_tests s true h here high past later = absurd (false≢true past)
+    by_tests s false true here high past later = inl (grind (arith, nat_tests))
+    by_tests s false false here high past later =
+        let ne : i ≢ ino = λ is. false≢true (sym here ∙ (let same : (i == ino) ≡ true = grind (arith, nat_tests) in same)) in
+        let x = to i s.0 s.4 in
+        let stands = x.2.stays ne s.1 s.2 s.3 s.5 in
+        inr (x.0, stands.0, stands.1, s.3, x.1, stands.2, later (subst (λ up. climbs_past rs ino k up ≡ true) (above_is i s.0 s.1 s.2 s.3 s.4 s.5) past))
+
+  is_made : (b : Body) → is_directory b ≡ true → (es : List Entry) × (n : ℕ) × (up : ℕ) × (b ≡ Directory es n up)
+  is_made (File bytes) is = absurd (false≢true is)
+  is_made (Directory es n up) is = (es, n, up, refl)
+  is_made (Link target) is = absurd (false≢true is)
+
+  -- a climb goes on from the new directory where it comes to what moves
+  climbs_over : (n i : ℕ) → Climbs rs n i → (is_directory_at (body_at rs ino) ≡ true → (k : ℕ) × Climbs made k newdir) → (k : ℕ) × Climbs made k i
+  climbs_over zero i c up = (zero, c)
+  climbs_over (suc n) i c up = ⊎_elim
+      (λ is. (zero, is))
+      (λ s. ⊎_elim
+      (λ eq.
+      let moves : is_directory_at (body_at rs ino) ≡ true = ap (λ o. is_directory_at (option_map (λ (r : Record). r.body) o)) (sym (ap (get rs) eq) ∙ s.4) ∙ ap is_directory s.5 in
+      let high = up moves in
+      let x = to i s.0 s.4 in
+      let b = is_made (x.0).body (x.2.directory ∙ ap is_directory s.5) in
+      let low = settled_above x.0 (sym (ap (get made) eq) ∙ x.1) b.0 b.1 b.2 b.3 in
+      (suc high.0, inr (x.0, b.0, b.1, b.2, x.1, b.3, subst (Climbs made high.0) (sym low) high.1)))
+      (λ ne.
+      let rest = climbs_over n s.3 s.6 up in
+      let x = to i s.0 s.4 in
+      let stands = x.2.stays ne s.1 s.2 s.3 s.5 in
+      (suc rest.0, inr (x.0, stands.0, stands.1, s.3, x.1, stands.2, rest.1)))
+      (cases_eq i ino))
+      c
+
+  still_climbs : (q : ℕ) → ∥ ((n : ℕ) × Climbs rs n q) ∥₁ → ∥ ((n : ℕ) × Climbs made n q) ∥₁
+  still_climbs q c = by_kind (is_directory_at (body_at rs ino)) refl where
+    by_kind : (b : Bool) → is_directory_at (body_at rs ino) ≡ b → ∥ ((n : ℕ) × Climbs made n q) ∥₁
+    by_kind true is = ∥∥₁_elim (g.climbs newdir w.n w.there w.directory w.live) (hlevel props) (λ up.
+        ∥∥₁_map c (λ c. climbs_over c.0 q c.1 (λ moves. (up.0, climbs_away w.steps up.0 newdir up.1 (w.past moves)))))
+    by_kind false is = ∥∥₁_map c (λ c. climbs_over c.0 q c.1 (λ moves. absurd (false≢true (sym is ∙ moves))))
+
+  -- ---- the tree
+
+  pub moved_good : IsGoodTree (with_moved t olddir oldname newdir newname ino)
+  moved_good = record {
+    limits = g.limits;
+    moment = g.moment;
+    top_is_directory = top_stays (get rs top) refl g.top_is_directory;
+    numbers = λ q x at. g.numbers q (from q x at).0 (from q x at).1;
+    records = made_records;
+    entries = λ q x e at c. let was = from q x at in ⊎_elim
+        (λ c. let had = g.entries q was.0 e was.1 c in (stored e.ino had.0, had.1))
+        (λ is. (subst (λ i. IsSome (get made i)) (sym is) (stored ino (named_is_stored t g ino named)), λ high. not_top (sym is ∙ high)))
+        (was.2.entries e c);
+    links = λ q x at. let was = from q x at in
+        was.2.links ∙ g.links q was.0 was.1 ∙ ap (λ n. links_of (was.0).body n (is_linked rs q)) (sym (counts q)) ∙ ap (links_of (was.0).body (name_count made q)) (sym (same_linked q))
+        ∙ sym (was.2.shows (name_count made q) (is_linked made q));
+    once = λ q x at is. let was = from q x at in let le = g.once q was.0 was.1 (sym was.2.directory ∙ is) in let same = counts q in omega arith;
+    above = λ q x es n up at is live ne. ⊎_elim
+        (λ eq.
+        let low = settled_above x (sym (ap (get made) eq) ∙ at) es n up is in
+        subst (λ up. IfSome (get made up) (λ d. 1 ≤ names_in q d)) (sym low) (subst (λ q. IfSome (get made newdir) (λ d. 1 ≤ names_in q d)) (sym eq) (if_there (λ d. 1 ≤ names_in ino d) newdir lists_it)))
+        (λ nq.
+        let was = from q x at in
+        let b = was.2.place nq es n up is in
+        still_above q up nq (g.above q was.0 b.0 b.1 up was.1 b.2 (sym (same_linked q) ∙ live) ne))
+        (cases_eq q ino);
+    climbs = λ q x at is live. let was = from q x at in still_climbs q (g.climbs q was.0 was.1 (sym was.2.directory ∙ is) (sym (same_linked q) ∙ live));
+    emptied = λ q x at loose.
+        let was = from q x at in
+        let none = sym (same_linked q) ∙ loose in
+        was.2.lists
+        (λ is. some_listed (ap listed (ap (λ (r : Record). r.body) (same_some d was.0 (sym w.old.at ∙ sym (ap (get rs) is) ∙ was.1))) ∙ g.emptied q was.0 was.1 none))
+        (λ is. false≢true (sym none ∙ ap (is_linked rs) is ∙ w.live))
+        ∙ g.emptied q was.0 was.1 none;
+  } where
+    top_stays : (o : Option Record) → get rs top ≡ o → is_directory_at (option_map (λ (r : Record). r.body) o) ≡ true → IsTrue (is_directory_at (body_at made top))
+    top_stays None at is = absurd (false≢true is)
+    top_stays (Some r) at is =
+        let x = to top r at in
+        ap (λ o. is_directory_at (option_map (λ (r : Record). r.body) o)) x.1 ∙ x.2.directory ∙ is
+
+    some_listed : listed d.body ≡ [] → ⊥
+    some_listed none = let nothing : entry_named oldname (listed d.body) ≡ None = ap (entry_named oldname) none in let some = w.old.goes in cc
+
+  pub moved_kept : (held : ℕ → Bool) → IsKept rs held → IsKept made held
+  moved_kept held k q had = ap (λ b. b || held q) (same_linked q) ∙ k q (was_stored q had)
+
+  pub moved_kept_but : (held : ℕ → Bool) (i : ℕ) → IsKeptBut rs held i → IsKeptBut made held i
+  moved_kept_but held i k q ne had = ap (λ b. b || held q) (same_linked q) ∙ k q ne (was_stored q had)
+
+  pub moved_stored : (held : ℕ → Bool) → AreStored rs held → AreStored made held
+  moved_stored held s q h = stored q (s q h)
