@@ -1,12 +1,15 @@
 -- Paths with escapes at examples.
-use Rattle.std.proofs.Common.{◌≡◌, [], ◌∷◌, Some, Ok, Err, refl}
-use Rattle.std.specs.Prelude.{codes}
+use Rattle.std.proofs.Common.{◌≡◌, ℕ, lit<, ◌<◌, zero, suc, List, [], ◌∷◌, Bool, true, cond, not, Option, Some, None, Result, Ok, Err, refl, ap, if◌then◌else◌}
+use Rattle.std.specs.Prelude.{codes, is_some, slice_index}
+use Rattle.std.specs.Str.{is_utf8}
+use Rattle.std.proofs.lemmas.Str.{IsUtf8-from_ascii, is_utf8-from_IsUtf8}
+use Rattle.port_base.specs.Names.{name_fault}
 use Rattle.mount9_run.specs.Texts.{split_once}
 use Rattle.mount9_run.specs.Paths.{is_path}
-use Rattle.mount9_run.specs.Reading.{keyword_at, after_word, field_at}
+use Rattle.mount9_run.specs.Reading.{◌>>=◌, or_refused, keyword_at, after_word, field_at}
 use Rattle.mount9_run.specs.Numbers.{number_at, number_field, number_of, mode_field, mode_of}
 use Rattle.mount9_run.specs.HeaderEscapes.{unescaped}
-use Rattle.mount9_run.specs.HeaderLines.{present_at, file_at, bytes_of, bytes_field}
+use Rattle.mount9_run.specs.HeaderLines.{NamedFile, present_at, file_at, name_of, bytes_of, bytes_field}
 
 pub blank_example : present_at 6 [] (codes "present /a\\040b") ≡ Ok (Some (codes "/a b" ∷ []))
 unfolding present_at after_word split_once unescaped is_path
@@ -23,3 +26,29 @@ other_byte_example = refl
 pub raw_blank_example : file_at 7 (codes "file 0644 0 0 - /a b") ≡ Err 7
 unfolding file_at keyword_at after_word field_at split_once mode_field mode_of number_at number_field number_of bytes_field bytes_of unescaped
 raw_blank_example = refl
+
+-- ---- a file with a blank in its name
+
+-- `is_utf8` doesn't compute
+ascii_at : (i : ℕ) → slice_index (codes "a b") i < 128
+ascii_at zero = lit< tt
+ascii_at (suc zero) = lit< tt
+ascii_at (suc (suc zero)) = lit< tt
+ascii_at (suc (suc (suc i))) = lit< tt
+
+is_text : is_utf8 (codes "a b") ≡ true
+is_text = is_utf8-from_IsUtf8 _ (IsUtf8-from_ascii (codes "a b") ascii_at)
+
+no_fault : name_fault (codes "a b") ≡ None
+no_fault = ap (λ (b : Bool). cond {A = Option ℕ} (not b) (Some 22) None) is_text
+
+its_name : name_of (codes "/a b") ≡ Some (codes "a b")
+unfolding name_of
+its_name = ap (λ (o : Option ℕ). if not (is_some o) then Some (codes "a b") else None) no_fault
+
+abbrev named : List ℕ → Result NamedFile ℕ
+named name = Ok (record { name = name; file = record { mode = 420; uid = 0; gid = 0; bytes = [] } })
+
+pub file_example : file_at 7 (codes "file 0644 0 0 - /a\\040b") ≡ Ok (record { name = codes "a b"; file = record { mode = 420; uid = 0; gid = 0; bytes = [] } })
+unfolding file_at keyword_at after_word field_at split_once mode_field mode_of number_at number_field number_of bytes_field bytes_of unescaped
+file_example = ap (λ (o : Option (List ℕ)). or_refused 7 o >>= named) its_name

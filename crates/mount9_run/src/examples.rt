@@ -47,6 +47,12 @@ pub fn a_path_with_an_escaped_letter()
     ensures { present_at 6 [] (codes "present /\\141") ≡ Err 6 }
 {}
 
+/// A file with a blank in its name.
+#[tactic(auto, using(crate::proofs::HeaderExamples::file_example))]
+pub fn a_file_with_an_escaped_blank()
+    ensures { file_at 7 (codes "file 0644 0 0 - /a\\040b") ≡ Ok (record { name = codes "a b"; file = record { mode = 420; uid = 0; gid = 0; bytes = [] } }) }
+{}
+
 /// A blank in a file's path has to be escaped.
 #[tactic(auto, using(crate::proofs::HeaderExamples::raw_blank_example))]
 pub fn a_file_with_a_raw_blank()
