@@ -1,7 +1,7 @@
 //! What the words of the command line say.
 ghost use Rattle.std.specs.Prelude.{◌≡◌, drop, bytes_eq, codes, ◌&&◌, option_map, option_and_then, Option};
 ghost use Rattle.mount9_run.specs.Command.{is_top, once, text_in_form, number_in, with_word, with_words, no_words, finished, is_serve, command};
-ghost use Rattle.mount9_run.specs.CommandViews.{slot_view, draft_view, serve_view, GivesWords};
+ghost use Rattle.mount9_run.specs.CommandViews.{slot_view, draft_view, share_view, serve_view, GivesWords};
 ghost use Rattle.mount9_run.specs.Paths.{is_path};
 
 use crate::header::numbers::number_in;
@@ -38,6 +38,17 @@ pub struct ShareWords {
 #[derive(Debug, Drop)]
 pub enum Command {
     Serve(ShareWords),
+}
+
+impl Command {
+    /// What is to be served, and how.
+    pub fn share(&self) -> &ShareWords
+        ensures { share_view result.now ≡ serve_view self.now }
+    {
+        match self {
+            Command::Serve(share) => share,
+        }
+    }
 }
 
 /// Why words are refused.

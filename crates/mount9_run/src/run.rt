@@ -16,7 +16,7 @@ ghost use Rattle.mount9_run.specs.Command.{command};
 ghost use Rattle.mount9_run.specs.CommandViews.{share_view};
 ghost use Rattle.mount9_run.specs.declared.run.Status.TheVariants as status;
 
-use crate::command::{Command, ShareWords, WordsError, read_words};
+use crate::command::{ShareWords, WordsError, read_words};
 use crate::header::error::HeaderError;
 use crate::header::text::{TextError, take_text};
 use crate::header::{Header, read_text};
@@ -321,8 +321,8 @@ pub fn run<S: Source, K: Sink>(alloc: Global, words: &Words, input: &mut S, out:
     ensures unread { command words.now ≡ None → input.new ≡ input.old }
     ensures refused { command words.now ≡ None → Ran refused_words (Some []) (K.sent out.old) (K.sent out.new) (S.faults input.old) (S.faults input.new) (K.faults out.old) (K.faults out.new) result }
 {
-    let share = match read_words(alloc, words) {
-        Ok(Command::Serve(share)) => share,
+    let command = match read_words(alloc, words) {
+        Ok(command) => command,
         Err(WordsError::Words) => return tell(out, Status::Words, b"words\n"),
         Err(WordsError::NoMemory) => return Status::Memory,
     };
@@ -334,7 +334,7 @@ pub fn run<S: Source, K: Sink>(alloc: Global, words: &Words, input: &mut S, out:
         Err(TextError::NoMemory) => return Status::Memory,
     }
     match read_text(alloc, &text) {
-        Ok(header) => mount(alloc, &share, header, input, out),
+        Ok(header) => mount(alloc, command.share(), header, input, out),
         Err(HeaderError::Line(line)) => tell_line(alloc, out, line),
         Err(HeaderError::NoMemory) => Status::Memory,
     }
