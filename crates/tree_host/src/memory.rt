@@ -9,6 +9,8 @@ ghost use Rattle.std.specs.Prelude.{◌≡◌};
 mod adding;
 #[cfg(test)]
 mod call_tests;
+#[cfg(test)]
+mod fault_tests;
 mod changing;
 mod creating;
 mod readers;
