@@ -9,10 +9,10 @@ ghost use Rattle.std.specs.Prelude.{◌≡◌};
 mod adding;
 #[cfg(test)]
 mod call_tests;
-#[cfg(test)]
-mod fault_tests;
 mod changing;
 mod creating;
+#[cfg(test)]
+mod fault_tests;
 mod readers;
 mod renaming;
 #[cfg(test)]

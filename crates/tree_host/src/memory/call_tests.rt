@@ -33,13 +33,23 @@ fn served(rt: &HostRuntime) -> Result<TreeHost, Fail>
     Ok(host)
 }
 
-pub(super) fn create(rt: &impl Abort, host: &mut TreeHost, dir: u64, name: &[u8]) -> Result<u64, HostError> {
+pub(super) fn create(
+    rt: &impl Abort,
+    host: &mut TreeHost,
+    dir: u64,
+    name: &[u8],
+) -> Result<u64, HostError> {
     assert!(rt; name_fault(name).is_none());
     assert!(rt; is_held(&host.holds, dir));
     host.create(dir, name, 0o100644)
 }
 
-pub(super) fn mkdir(rt: &impl Abort, host: &mut TreeHost, dir: u64, name: &[u8]) -> Result<u64, HostError> {
+pub(super) fn mkdir(
+    rt: &impl Abort,
+    host: &mut TreeHost,
+    dir: u64,
+    name: &[u8],
+) -> Result<u64, HostError> {
     assert!(rt; name_fault(name).is_none());
     assert!(rt; is_held(&host.holds, dir));
     Ok(host.mkdir(dir, name, 0o40755)?.ino)
@@ -58,13 +68,23 @@ pub(super) fn link(
     host.link(ino, dir, name)
 }
 
-pub(super) fn unlink(rt: &impl Abort, host: &mut TreeHost, dir: u64, name: &[u8]) -> Result<(), HostError> {
+pub(super) fn unlink(
+    rt: &impl Abort,
+    host: &mut TreeHost,
+    dir: u64,
+    name: &[u8],
+) -> Result<(), HostError> {
     assert!(rt; name_fault(name).is_none());
     assert!(rt; is_held(&host.holds, dir));
     host.unlink(dir, name)
 }
 
-pub(super) fn rmdir(rt: &impl Abort, host: &mut TreeHost, dir: u64, name: &[u8]) -> Result<(), HostError> {
+pub(super) fn rmdir(
+    rt: &impl Abort,
+    host: &mut TreeHost,
+    dir: u64,
+    name: &[u8],
+) -> Result<(), HostError> {
     assert!(rt; name_fault(name).is_none());
     assert!(rt; is_held(&host.holds, dir));
     host.rmdir(dir, name)
@@ -97,7 +117,11 @@ fn target<'a>(rt: &impl Abort, host: &'a TreeHost, ino: u64) -> &'a [u8] {
     host.peek_target(ino)
 }
 
-pub(super) fn readlink(rt: &impl Abort, host: &mut TreeHost, ino: u64) -> Result<Vec<u8>, HostError> {
+pub(super) fn readlink(
+    rt: &impl Abort,
+    host: &mut TreeHost,
+    ino: u64,
+) -> Result<Vec<u8>, HostError> {
     assert!(rt; is_held(&host.holds, ino));
     host.readlink(ino)
 }

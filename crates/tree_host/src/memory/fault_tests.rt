@@ -115,10 +115,7 @@ fn run(rt: &impl Abort, host: &mut TreeHost, call: Call) -> Result<(), HostError
 }
 
 // A host whose listed calls fault, and the answer of its first call.
-fn started(
-    rt: &HostRuntime,
-    fails: &[u64],
-) -> Result<(TreeHost, Result<u64, HostError>), Fail> {
+fn started(rt: &HostRuntime, fails: &[u64]) -> Result<(TreeHost, Result<u64, HostError>), Fail> {
     let mut host = TreeHost::new(rt.alloc(), LIMITS, MOMENT, BORN, 0o755, 1, 2)?;
     host.fail_at(fails)?;
     let root = host.attach_path(b"/");
@@ -140,20 +137,20 @@ fn a_failing_call_changes_nothing(rt: HostRuntime) -> Result<(), Fail> {
     for number in 0..31u64 {
         let (mut host, first) = started(&rt, &[number])?;
         let (mut other, root) = started(&rt, &[])?;
-        if number == 0 {
+        let Some(failing) = number.checked_sub(1) else {
             assert_eq!(rt; first, Err(HostError::Fault));
+            assert!(rt; !is_held(&host.holds, 1));
+            assert_eq!(rt; host.next_ino(), other.next_ino());
             continue;
-        }
+        };
         assert_eq!(rt; root, Ok(1));
-        let mut at = 1;
-        for call in &SCRIPT {
+        for (index, call) in SCRIPT.iter().enumerate() {
             let told = run(&rt, &mut host, *call);
-            if at == number {
+            if index as u64 == failing {
                 assert_eq!(rt; told, Err(HostError::Fault));
                 break;
             }
             assert_eq!(rt; told, run(&rt, &mut other, *call));
-            at += 1;
         }
         assert_same(&rt, &host, &other);
     }
