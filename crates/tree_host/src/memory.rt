@@ -11,6 +11,8 @@ mod adding;
 mod call_tests;
 mod changing;
 mod creating;
+#[cfg(test)]
+mod fault_tests;
 mod readers;
 mod renaming;
 #[cfg(test)]

@@ -18,6 +18,7 @@ pub mod Unlinking
 pub mod Leaving
 pub mod Creating
 pub mod Moving
+pub mod Climbing
 pub mod Renaming
 pub mod Reading
 pub mod Sampling

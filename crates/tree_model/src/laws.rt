@@ -1,5 +1,5 @@
 //! Laws over trees. Each function makes no call: its contract is the law.
-ghost use Rattle.std.specs.Prelude.{◌≡◌, ℕ, ◌+◌, ◌<◌, List, Bool, Option, Ok, Some, None};
+ghost use Rattle.std.specs.Prelude.{◌≡◌, ℕ, ◌+◌, ◌<◌, List, Bool, true, Option, Ok, Some, None};
 ghost use Rattle.std.specs.FinMap as map;
 ghost use Rattle.port_base.specs.Names.{name_fault};
 ghost use Rattle.tree_model.specs.Tree.{Tree, Records, Record, name_count, names_in, weight, linked, keep};
@@ -10,7 +10,7 @@ ghost use Rattle.tree_model.specs.Placing.{add_directory_of, add_link_of, add_ha
 ghost use Rattle.tree_model.specs.Attributes.{stat_of};
 ghost use Rattle.tree_model.specs.Attributing.{set_mode_of, set_owner_of, touch_ctime_of, set_times_of, set_len_of, write_of};
 ghost use Rattle.tree_model.specs.Unlinking.{unlink_of, rmdir_of};
-ghost use Rattle.tree_model.specs.Renaming.{rename_of};
+ghost use Rattle.tree_model.specs.Renaming.{climbs_past, rename_of};
 ghost use Rattle.tree_model.specs.Creating.{create_of, mkdir_of, link_of};
 ghost use Rattle.tree_model.specs.Reading.{record_after_of};
 ghost use Rattle.tree_model.specs.declared.attributes.Attr.{Attr};
@@ -133,6 +133,11 @@ pub fn trees_with_one_more_link_are_good()
 pub fn trees_with_another_name_are_good()
     ensures { (held : ℕ → Bool) (t u : Tree) (olddir newdir : ℕ) (oldname newname : List ℕ) →
         IsGoodTree t → name_fault newname ≡ None → rename_of held t olddir oldname newdir newname ≡ Ok (tt, u) → IsGoodTree u }
+{}
+
+/// In a good tree a climb that comes to the top has fewer steps than there are numbers.
+pub fn climbs_are_short()
+    ensures { (t : Tree) (ino steps dir : ℕ) → IsGoodTree t → climbs_past t.records ino steps dir ≡ true → climbs_past t.records ino t.next dir ≡ true }
 {}
 
 /// The record that is told next is stored under its number, which is above the one asked for.

@@ -14,11 +14,11 @@ use std::process::Abort;
 use std::test::Fail;
 use tree_model::{HostError, Kind, Limits, Stamp, Statfs};
 
-const BORN: Stamp = Stamp { sec: 7, nsec: 3 };
+pub(super) const BORN: Stamp = Stamp { sec: 7, nsec: 3 };
 
-const MOMENT: Stamp = Stamp { sec: 9, nsec: 0 };
+pub(super) const MOMENT: Stamp = Stamp { sec: 9, nsec: 0 };
 
-const LIMITS: Limits = Limits {
+pub(super) const LIMITS: Limits = Limits {
     file: 8,
     entries: 4,
     links: 2,
@@ -33,19 +33,29 @@ fn served(rt: &HostRuntime) -> Result<TreeHost, Fail>
     Ok(host)
 }
 
-fn create(rt: &impl Abort, host: &mut TreeHost, dir: u64, name: &[u8]) -> Result<u64, HostError> {
+pub(super) fn create(
+    rt: &impl Abort,
+    host: &mut TreeHost,
+    dir: u64,
+    name: &[u8],
+) -> Result<u64, HostError> {
     assert!(rt; name_fault(name).is_none());
     assert!(rt; is_held(&host.holds, dir));
     host.create(dir, name, 0o100644)
 }
 
-fn mkdir(rt: &impl Abort, host: &mut TreeHost, dir: u64, name: &[u8]) -> Result<u64, HostError> {
+pub(super) fn mkdir(
+    rt: &impl Abort,
+    host: &mut TreeHost,
+    dir: u64,
+    name: &[u8],
+) -> Result<u64, HostError> {
     assert!(rt; name_fault(name).is_none());
     assert!(rt; is_held(&host.holds, dir));
     Ok(host.mkdir(dir, name, 0o40755)?.ino)
 }
 
-fn link(
+pub(super) fn link(
     rt: &impl Abort,
     host: &mut TreeHost,
     ino: u64,
@@ -58,19 +68,29 @@ fn link(
     host.link(ino, dir, name)
 }
 
-fn unlink(rt: &impl Abort, host: &mut TreeHost, dir: u64, name: &[u8]) -> Result<(), HostError> {
+pub(super) fn unlink(
+    rt: &impl Abort,
+    host: &mut TreeHost,
+    dir: u64,
+    name: &[u8],
+) -> Result<(), HostError> {
     assert!(rt; name_fault(name).is_none());
     assert!(rt; is_held(&host.holds, dir));
     host.unlink(dir, name)
 }
 
-fn rmdir(rt: &impl Abort, host: &mut TreeHost, dir: u64, name: &[u8]) -> Result<(), HostError> {
+pub(super) fn rmdir(
+    rt: &impl Abort,
+    host: &mut TreeHost,
+    dir: u64,
+    name: &[u8],
+) -> Result<(), HostError> {
     assert!(rt; name_fault(name).is_none());
     assert!(rt; is_held(&host.holds, dir));
     host.rmdir(dir, name)
 }
 
-fn rename(
+pub(super) fn rename(
     rt: &impl Abort,
     host: &mut TreeHost,
     (olddir, oldname): (u64, &[u8]),
@@ -97,7 +117,11 @@ fn target<'a>(rt: &impl Abort, host: &'a TreeHost, ino: u64) -> &'a [u8] {
     host.peek_target(ino)
 }
 
-fn readlink(rt: &impl Abort, host: &mut TreeHost, ino: u64) -> Result<Vec<u8>, HostError> {
+pub(super) fn readlink(
+    rt: &impl Abort,
+    host: &mut TreeHost,
+    ino: u64,
+) -> Result<Vec<u8>, HostError> {
     assert!(rt; is_held(&host.holds, ino));
     host.readlink(ino)
 }
