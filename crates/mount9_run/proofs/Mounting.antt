@@ -1,5 +1,5 @@
 -- A run on a header that was read, and the ways to end before.
-use Rattle.std.proofs.Common.{◌≡◌, ℕ, List, [], ◌++◌, IfSome, Some, None, Result, Ok, Err, refl, sym, ap, ◌∙◌, subst}
+use Rattle.std.proofs.Common.{◌≡◌, ℕ, List, [], ◌++◌, IfSome, Some, None, Result, Ok, Err, refl, sym, ap, ◌∙◌}
 use Rattle.std.specs.Prelude.{codes}
 use Rattle.std.specs.declared.option.Option.{Option}
 use Rattle.std.specs.Io.KnownBytes.{Consumes}
@@ -10,7 +10,7 @@ use Rattle.mount9_run.specs.Header.{HeaderRead, header, header_by, header_of, wi
 use Rattle.mount9_run.specs.Reading.{lines_of}
 use Rattle.mount9_run.specs.ReportLines.{number_line}
 use Rattle.mount9_run.specs.Report.{report}
-use Rattle.mount9_run.specs.Outcome.{Outcome, refusal, mount_table, mounted, served, run_of, refused_words, outcome, outcome_by}
+use Rattle.mount9_run.specs.Outcome.{refusal, mount_table, mounted, served, run_of, refused_words, outcome, outcome_by}
 use Rattle.mount9_run.specs.Running.{Ran, Tells}
 use Rattle.mount9_run.specs.declared.report.verdict.Cause.{Cause}
 use Rattle.mount9_run.specs.declared.report.verdict.Verdict.TheVariants as verdict

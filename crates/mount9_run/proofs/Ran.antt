@@ -1,5 +1,5 @@
 -- What a run does, from what its last step does.
-use Rattle.std.proofs.Common.{◌≡◌, ℕ, List, [], ◌++◌, IfSome, Some, None, Result, Ok, Err, refl, sym, ap, ◌∙◌, subst}
+use Rattle.std.proofs.Common.{◌≡◌, ℕ, List, ◌++◌, IfSome, Some, None, Result, Ok, Err, refl, sym, ap, ◌∙◌, subst}
 use Rattle.std.specs.declared.option.Option.{Option}
 use Rattle.std.specs.Io.KnownBytes.{Appends, Consumes}
 use Rattle.std.proofs.KnownBytes.{Appends-nil}
@@ -7,7 +7,7 @@ use Rattle.port_base.specs.Faults.{Faulted}
 use Rattle.port_base.specs.Streams.{SentFront}
 use Rattle.port_base.specs.declared.sink.SinkFault.{SinkFault}
 use Rattle.port_base.specs.declared.sink.SinkFault.TheVariants.{Failed, NoMemory}
-use Rattle.mount9_run.specs.Wrote.{Wrote, WroteBy}
+use Rattle.mount9_run.specs.Wrote.{WroteBy}
 use Rattle.mount9_run.specs.Outcome.{Outcome}
 use Rattle.mount9_run.specs.Running.{Whole, Front, RanBy, Ran, IsTold, after_text, Tells}
 use Rattle.mount9_run.specs.declared.run.Status.{Status}

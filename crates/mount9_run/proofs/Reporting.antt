@@ -1,9 +1,9 @@
 -- What a share tells and leaves, from what the run over its server does.
-use Rattle.std.proofs.Common.{◌≡◌, ◌≢◌, ◌⊎◌, ⊎_elim, ℕ, ◌+◌, ◌-◌, ◌^◌, ◌<◌, ◌≤◌, min, List, [], ◌++◌, length, Bool, true, false, cond, ◌||◌, IsSome, IsTrue, IfSome, Option, Some, None, Result, Ok, Err, refl, sym, ap, ◌∙◌, subst, arith, if◌then◌else◌, nat_le}
+use Rattle.std.proofs.Common.{◌≡◌, ⊎_elim, ℕ, ◌-◌, ◌^◌, ◌<◌, ◌≤◌, min, List, [], ◌++◌, Bool, true, false, cond, ◌||◌, IsSome, IfSome, Option, Some, None, Result, Ok, Err, refl, sym, ap, ◌∙◌, subst, arith, if◌then◌else◌, nat_le}
 use Rattle.std.proofs.lemmas.Bool.{false≢true}
 use Rattle.std.proofs.lemmas.Bool.Decides.{nat_tests}
 use Rattle.std.proofs.lemmas.Option.{same_Some}
-use Rattle.std.specs.FinMap.{get, retain_keys, empty}
+use Rattle.std.specs.FinMap.{get, empty}
 use Rattle.tree_model.specs.Tree.{Tree, Record, Records, linked, is_linked}
 use Rattle.tree_model.specs.Finding.{root_of}
 use Rattle.tree_model.specs.Settings.{Settings}
@@ -13,29 +13,26 @@ use Rattle.tree_host.specs.Host.{IsHeldIn}
 use Rattle.tree_host.proofs.Held.{hold_count-empty}
 use Rattle.std.specs.Prelude.{nat_lt}
 use Rattle.port_base.specs.Faults.{Faulted, Rose}
-use Rattle.port_base.specs.declared.errno.TheConstants.{EIO, ENFILE}
+use Rattle.port_base.specs.declared.errno.TheConstants.{ENFILE}
 use Rattle.fuse_wire.specs.Cuts.{Cut, cut, End}
 use Rattle.fuse_wire.specs.Cuts.End.{done, turns_spent, torn, bad_length}
 use Rattle.tree_machine.specs.State.{MachineState, begun}
 use Rattle.tree_machine.specs.Play.{play, play_from}
 use Rattle.tree_machine.specs.Messages.{total, messages_from}
-use Rattle.frame_pump.specs.Sessions.{Session, Answered}
+use Rattle.frame_pump.specs.Sessions.{Session}
 use Rattle.frame_pump.specs.Turns.{Streams, StopsBy, Ended}
 use Rattle.frame_pump.proofs.Answering.{Answered-exact}
 use Rattle.frame_pump.specs.declared.outcome.Pumped.{Pumped}
 use Rattle.frame_pump.specs.declared.outcome.Stopped.{Stopped}
 use Rattle.frame_pump.specs.declared.outcome.PumpError.{PumpError}
 use Rattle.frame_pump.specs.declared.outcome.PumpError.TheVariants as error
-use Rattle.fid_model.specs.Fids.{ServerState}
-use Rattle.fuse_gate.specs.Attaching.{root_told}
-use Rattle.fuse_gate.specs.Pump.{Served, Opens, Closes, Pumps, PumpsBy, AttachRefused}
-use Rattle.fuse_gate.specs.Standing.{piece_of}
+use Rattle.fuse_gate.specs.Pump.{Served, Opens, Closes, PumpsBy, AttachRefused}
 use Rattle.fuse_gate.specs.declared.gate.TheConstants.{GREATEST_MSIZE}
 use Rattle.fid_model.specs.declared.sizes.TheConstants.{READ_HEAD}
 use Rattle.mount9_run.specs.Command.{Serve}
 use Rattle.mount9_run.specs.Report.{report}
-use Rattle.mount9_run.specs.Outcome.{Outcome, served, attached, root_given, told, share_settings, piece, status_of, verdict_of, mount_table}
-use Rattle.mount9_run.specs.Serving.{LeadsTo, StoppedBy, SharesBy, Shares}
+use Rattle.mount9_run.specs.Outcome.{served, attached, root_given, share_settings, piece, status_of, verdict_of, mount_table}
+use Rattle.mount9_run.specs.Serving.{StoppedBy, SharesBy, Shares}
 use Rattle.mount9_run.specs.declared.run.Status.TheVariants as status
 use Rattle.mount9_run.specs.declared.report.verdict.Cause.TheVariants.{Attach}
 use Rattle.mount9_run.specs.declared.report.verdict.Verdict.TheVariants as verdict

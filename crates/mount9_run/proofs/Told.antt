@@ -1,7 +1,6 @@
 -- What a share tells makes a run: a report and its answer, or an answer alone.
 use Rattle.std.proofs.Common.{◌≡◌, ℕ, ◌-◌, ◌^◌, ◌<◌, min, List, IfSome, Some, None, Result, Ok, Err, sym, subst, arith}
 use Rattle.std.specs.declared.option.Option.{Option}
-use Rattle.port_base.specs.Faults.{Faulted}
 use Rattle.tree_model.specs.Tree.{Tree, linked}
 use Rattle.fuse_wire.specs.Cuts.{cut}
 use Rattle.frame_pump.specs.declared.outcome.Pumped.{Pumped}

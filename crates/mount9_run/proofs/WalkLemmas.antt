@@ -1,13 +1,13 @@
 -- The steps of a walk over a good tree: what is left to be written, and what a record's lines are.
-use Rattle.std.proofs.Common.{◌≡◌, ◌≢◌, ℕ, suc, ◌+◌, ◌<◌, Bool, true, false, cond, not, List, [], ◌∷◌, ◌++◌, length, refl, sym, ap, ◌∙◌, subst, Option, Some, None, Ok, arith, nat_lt, lit<, ◌==◌, eqb-true}
-use Rattle.std.specs.Prelude.{filter, option_map, option_and_then, unwrap_or, IsTrue, IsSome}
+use Rattle.std.proofs.Common.{◌≡◌, ℕ, suc, ◌+◌, ◌<◌, Bool, true, false, cond, not, List, [], ◌∷◌, ◌++◌, length, refl, sym, ap, ◌∙◌, subst, Option, Some, None, Ok, arith, lit<, ◌==◌, eqb-true}
+use Rattle.std.specs.Prelude.{filter, option_map, option_and_then, unwrap_or, IsTrue}
 use Rattle.std.specs.List.{flat_map}
 use Rattle.std.specs.FinMap as map
 use Rattle.std.proofs.lemmas.Bool.{false≢true}
 use Rattle.port_base.specs.Tables.{next_after}
 use Rattle.tree_model.specs.declared.attributes.Attr.{Attr}
 use Rattle.tree_model.specs.declared.attributes.Kind.TheVariants as kind
-use Rattle.tree_model.specs.Tree.{Tree, Record, Body, Entry, body_at, is_directory, is_directory_at, is_linked, linked, top}
+use Rattle.tree_model.specs.Tree.{Tree, Record, Body, Entry, body_at, is_directory, is_directory_at, is_linked, linked}
 use Rattle.tree_model.specs.Tree.Body.{File, Directory, Link}
 use Rattle.tree_model.specs.Good.{IsGoodTree, IsGoodBody, CookiesRise}
 use Rattle.tree_model.specs.Finding.{entries_of, entries_at}

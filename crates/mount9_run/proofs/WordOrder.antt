@@ -1,6 +1,6 @@
 -- The order of the words after the first doesn't matter.
 use Rattle.std.proofs.Common.{◌≡◌, ℕ, Bool, true, false, List, [], ◌∷◌, ◌++◌, Some, None, refl, sym, ap, ◌∙◌, bytes_eq, cond}
-use Rattle.std.specs.Prelude.{codes, option_map, option_and_then, is_some}
+use Rattle.std.specs.Prelude.{codes, option_map, option_and_then}
 use Rattle.std.specs.declared.option.Option.{Option}
 use Rattle.mount9_run.specs.Texts.{split_once}
 use Rattle.mount9_run.specs.Paths.{is_path}

@@ -1,11 +1,10 @@
 -- What the steps of a walk over a tree write.
-use Rattle.std.specs.Prelude.{◌≡◌, ◌≢◌, ℕ, List, [], ◌++◌, Some, Ok, option_map, unwrap_or, if◌then◌else◌}
+use Rattle.std.specs.Prelude.{◌≡◌, ℕ, List, [], ◌++◌, Ok, option_map, unwrap_or, if◌then◌else◌}
 use Rattle.std.specs.FinMap as map
 use Rattle.tree_model.specs.declared.attributes.Attr.{Attr}
-use Rattle.tree_model.specs.declared.attributes.Kind.TheVariants as kind
-use Rattle.tree_model.specs.Tree.{Tree, Record, Entry, is_linked}
+use Rattle.tree_model.specs.Tree.{Tree, Entry, is_linked}
 use Rattle.tree_model.specs.Finding.{entries_at}
-use Rattle.tree_model.specs.Attributes.{kind_of, stat_of}
+use Rattle.tree_model.specs.Attributes.{stat_of}
 use Rattle.tree_model.specs.Reading.{above_of, next_cookie_of}
 use Rattle.mount9_run.specs.ReportLines.{directory_line}
 use Rattle.mount9_run.specs.Report.{entries_text, record_text}

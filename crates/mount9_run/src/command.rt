@@ -95,12 +95,7 @@ fn take_text(
 }
 
 // Takes the number of a key that comes for the first time, if it is from `low` to `high`.
-fn take_number(
-    slot: &mut Option<u32>,
-    low: u32,
-    high: u32,
-    value: &[u8],
-) -> Result<(), WordsError>
+fn take_number(slot: &mut Option<u32>, low: u32, high: u32, value: &[u8]) -> Result<(), WordsError>
     ensures { GivesWords (λ _. slot.new) result (option_map Some (once slot.old (number_in low high value.now))) }
 {
     if slot.is_some() {
@@ -250,7 +245,10 @@ mod tests {
             ("serve target=/. root=/", false),
             ("serve target= root=/", false),
             ("serve ids=0 msize=256 target=/mnt turns=1 root=/", true),
-            ("serve target=/mnt root=/ msize=65560 turns=8192 ids=1000000", true),
+            (
+                "serve target=/mnt root=/ msize=65560 turns=8192 ids=1000000",
+                true,
+            ),
             ("serve target=/mnt root=/ msize=255", false),
             ("serve target=/mnt root=/ msize=65561", false),
             ("serve target=/mnt root=/ msize=04352", false),

@@ -43,13 +43,7 @@ pub fn number_in(low: u64, high: u64, text: &[u8]) -> Option<u64>
     ensures range { IfSome result (λ n. (low ≤ n) × (n ≤ high)) }
 {
     match value(text) {
-        Some(n) => {
-            if n >= low && n <= high {
-                Some(n)
-            } else {
-                None
-            }
-        }
+        Some(n) => { if n >= low && n <= high { Some(n) } else { None } }
         None => None,
     }
 }

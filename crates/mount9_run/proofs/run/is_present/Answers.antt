@@ -1,5 +1,5 @@
 -- A path that is the target is found, or none is.
-use Rattle.std.proofs.Common.{◌≡◌, ℕ, List, sym, ◌∙◌}
+use Rattle.std.proofs.Common.{sym, ◌∙◌}
 use Rattle.std.specs.Prelude.{codes}
 use Rattle.port_base.specs.Paths.{same_path}
 use Rattle.mount9_run.proofs.Presence.{any-more, present-found}

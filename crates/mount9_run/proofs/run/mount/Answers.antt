@@ -1,5 +1,5 @@
 -- The mount is refused, or the tree is served.
-use Rattle.std.proofs.Common.{◌≡◌, refl, sym}
+use Rattle.std.proofs.Common.{refl, sym}
 use Rattle.mount9_run.specs.CommandViews.{share_view}
 use Rattle.mount9_run.specs.HeaderViews.{header_view}
 use Rattle.mount9_run.proofs.Mounting.{Ran-unmounted, Ran-mounted}

@@ -1,5 +1,5 @@
 -- The words, the header, and what follows them.
-use Rattle.std.proofs.Common.{◌≡◌, ℕ, List, Err, sym, ap, ◌∙◌, subst}
+use Rattle.std.proofs.Common.{ℕ, List, Err, sym, ap, ◌∙◌, subst}
 use Rattle.mount9_run.specs.Command.{Serve}
 use Rattle.mount9_run.specs.CommandViews.{serve_view}
 use Rattle.mount9_run.specs.Outcome.{run_of}

@@ -1,5 +1,5 @@
 -- The server begins with the tree and no fault, and never fails.
-use Rattle.std.proofs.Common.{◌≡◌, refl, sym, ap, ◌∙◌, subst}
+use Rattle.std.proofs.Common.{ap, ◌∙◌, subst}
 use Rattle.tree_host.specs.declared.memory.TreeHost.{TreeHost}
 use Rattle.tree_host.specs.TreeHosts.{tree, holds}
 use Rattle.fid_model.specs.Fids.{ServerState}
