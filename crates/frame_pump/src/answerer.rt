@@ -1,7 +1,7 @@
 //! What answers frames.
-ghost use Rattle.std.specs.Prelude.{◌≡◌, ℕ, OnOk, OnErr};
+ghost use Rattle.std.specs.Prelude.{◌≡◌, OnOk, OnErr};
 ghost use Rattle.fuse_wire.specs.Cuts.{IsFrame};
-ghost use Rattle.frame_pump.specs.Sessions.{Session, Stays, AppendsAnswer, LeavesPart};
+ghost use Rattle.frame_pump.specs.Sessions.{Session, AppendsAnswer, LeavesPart};
 
 use port_base::sink::NoMemory;
 

@@ -1,6 +1,6 @@
 //! The loop over the frames of a source.
 ghost use Rattle.std.specs.Prelude.{◌≡◌};
-ghost use Rattle.frame_pump.specs.Turns.{Streams, Sends, Turn, Loops, Runs};
+ghost use Rattle.frame_pump.specs.Turns.{Sends, Turn, Loops, Runs};
 
 use crate::answerer::Answerer;
 use crate::outcome::{Cause, Halt, Pumped, Stopped};

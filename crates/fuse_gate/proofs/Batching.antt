@@ -1,6 +1,5 @@
 -- BATCH_FORGET, pair by pair.
-use Rattle.std.proofs.Common.{◌≡◌, ℕ, zero, suc, ◌+◌, ◌-◌, ◌<◌, ◌≤◌, ◌⊎◌, List, [], ◌∷◌, ◌++◌, length, take, drop, refl, sym, ap, ◌∙◌, subst, arith, ⊎_elim}
-use Rattle.std.specs.FinMap.{len}
+use Rattle.std.proofs.Common.{◌≡◌, ℕ, zero, suc, ◌+◌, ◌<◌, ◌≤◌, ◌⊎◌, List, [], ◌∷◌, ◌++◌, length, take, drop, refl, sym, ap, ◌∙◌, subst, arith, ⊎_elim}
 use Rattle.tree_model.specs.Tree.{Tree}
 use Rattle.tree_model.specs.Good.{IsGoodTree}
 use Rattle.tree_machine.specs.State.{MachineState, settled}
@@ -10,7 +9,6 @@ use Rattle.tree_machine.proofs.Forgetting.{forgotten_fewer, all_fewer}
 use Rattle.tree_machine.proofs.Batches.{all_rest, settled_between, gone_between}
 use Rattle.tree_machine.proofs.Pairs.{no_pair, one_pair}
 use Rattle.fid_model.specs.Fids.{ServerState, IsGoodServer}
-use Rattle.frame_pump.specs.Sessions.{Counted}
 use Rattle.fuse_gate.specs.Standing.{IsInStep, machine_of}
 use Rattle.fuse_gate.specs.Steps.{LetsGo}
 use Rattle.fuse_gate.specs.declared.gate.Gate.{Gate}

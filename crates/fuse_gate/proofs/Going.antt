@@ -1,17 +1,16 @@
 -- A fid goes, with the node or the handle that is its own: gate and server stay in step.
-use Rattle.std.proofs.Common.{◌≡◌, ◌≢◌, ℕ, ◌+◌, ◌-◌, ◌≤◌, Bool, true, false, cond, ◌||◌, refl, sym, ap, ◌∙◌, subst, Option, Some, None, arith, is_some, ⊎_elim}
+use Rattle.std.proofs.Common.{◌≡◌, ◌≢◌, ℕ, ◌+◌, ◌≤◌, Bool, true, false, cond, ◌||◌, refl, sym, ap, ◌∙◌, subst, Option, Some, None, arith, ⊎_elim}
 use Rattle.std.proofs.lemmas.Bool.{cases_eq}
 use Rattle.std.specs.Ordering.{nat_cmp}
-use Rattle.std.specs.FinMap.{FinMap, get, insert, remove, len}
+use Rattle.std.specs.FinMap.{FinMap, get, remove, len}
 use Rattle.tree_model.specs.Tree.{Tree, Record, is_linked, keep}
 use Rattle.tree_model.specs.Attributes.{kind_of, qid_type}
-use Rattle.tree_model.specs.Settings.{Settings}
-use Rattle.tree_model.proofs.Maps.{retained, inserted, insert_keeps, removed, remove_keeps}
+use Rattle.tree_model.proofs.Maps.{retained, removed, remove_keeps}
 use Rattle.tree_model.proofs.Counting.{put_back}
 use Rattle.tree_machine.specs.State.{MachineState, settled, is_named}
 use Rattle.tree_machine.specs.Good.{IsGoodMachine}
 use Rattle.tree_machine.proofs.Settling.{settles}
-use Rattle.fid_model.specs.Fids.{ServerState, Fid, is_held, closed}
+use Rattle.fid_model.specs.Fids.{ServerState, is_held, closed}
 use Rattle.fid_model.specs.Asked.{clunked}
 use Rattle.fid_model.proofs.Keeping.{keep_alike}
 use Rattle.fuse_gate.specs.Mapped.{mapped}
@@ -21,8 +20,7 @@ use Rattle.fuse_gate.specs.declared.gate.TheConstants.{LEAST_MSIZE}
 use Rattle.fuse_gate.specs.declared.gate.Node.{Node}
 use Rattle.fuse_gate.specs.declared.gate.Handle.{Handle}
 use Rattle.fuse_gate.specs.declared.gate.Gate.{Gate}
-use Rattle.fuse_gate.proofs.MappedLemmas.{mapped_at, mapped_none, mapped-remove}
-use Rattle.fuse_gate.proofs.Standings.{AreApart, named_held, apart_at, handle_fid, node_fid}
+use Rattle.fuse_gate.proofs.Standings.{named_held, apart_at, handle_fid, node_fid}
 use Rattle.fuse_gate.proofs.Changing.{len_new}
 
 -- what is kept was there before
@@ -84,7 +82,7 @@ module _ {g : Gate} {s : ServerState} (st : IsInStep g s) where
     handle_less = record {
       fids = λ q. remove_cases s.fids id q (λ o. o ≡ fid_at (get g.nodes q) (get (remove g.handles id) q))
           (λ e. subst (λ k. None ≡ fid_at (get g.nodes k) (get (remove g.handles id) k)) (sym e)
-              (sym (ap (λ n. fid_at n (get (remove g.handles id) id)) (no_node_at (get g.nodes id) refl) ∙ ap (fid_at None) (removed g.handles id))))
+          (sym (ap (λ n. fid_at n (get (remove g.handles id) id)) (no_node_at (get g.nodes id) refl) ∙ ap (fid_at None) (removed g.handles id))))
           (λ ne. st.paired.fids q ∙ ap (fid_at (get g.nodes q)) (sym (remove_keeps g.handles id q ne)));
       used = (let a = st.paired.used in let b = len_less s.fids id (opened h) (handle_fid st id h at) in omega arith);
       counted = (let a = st.paired.counted in let b = len_less g.handles id h at in omega arith);
@@ -106,7 +104,7 @@ module _ {g : Gate} {s : ServerState} (st : IsInStep g s) where
     node_less = record {
       fids = λ q. remove_cases s.fids id q (λ o. o ≡ fid_at (get (remove g.nodes id) q) (get g.handles q))
           (λ e. subst (λ k. None ≡ fid_at (get (remove g.nodes id) k) (get g.handles k)) (sym e)
-              (sym (ap (λ m. fid_at m (get g.handles id)) (removed g.nodes id) ∙ ap (fid_at None) (apart_at st id n at))))
+          (sym (ap (λ m. fid_at m (get g.handles id)) (removed g.nodes id) ∙ ap (fid_at None) (apart_at st id n at))))
           (λ ne. st.paired.fids q ∙ ap (λ m. fid_at m (get g.handles q)) (sym (remove_keeps g.nodes id q ne)));
       used = (let a = st.paired.used in let b = len_less s.fids id (closed n.ino) (node_fid st id n at) in omega arith);
       counted = (let a = st.paired.counted in let b = len_less g.nodes id n at in omega arith);

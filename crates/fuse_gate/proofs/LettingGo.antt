@@ -2,9 +2,8 @@
 use Rattle.std.proofs.Common.{◌≡◌, ◌≢◌, ℕ, ◌+◌, ◌-◌, ◌<◌, ◌≤◌, ◌^◌, ◌⊎◌, Bool, true, false, cond, refl, sym, ap, ◌∙◌, subst, min, Option, Some, None, arith, inl, inr, ⊎_elim, eq-eqb, nat_le}
 use Rattle.std.specs.Prelude.{◌==◌, option_map}
 use Rattle.std.proofs.lemmas.Bool.Decides.{nat_tests}
-use Rattle.std.specs.FinMap.{FinMap, get, insert, remove, len}
+use Rattle.std.specs.FinMap.{FinMap, get, remove}
 use Rattle.port_base.specs.declared.errno.TheConstants.{EBADF}
-use Rattle.tree_model.specs.Tree.{Tree}
 use Rattle.tree_machine.specs.State.{MachineState, Node as MachineNode, settled, ROOT_NODE}
 use Rattle.tree_machine.specs.Core.{Reply as MachineReply, flush_core, release_core}
 use Rattle.tree_machine.specs.Core.Reply.{Done}
@@ -26,7 +25,7 @@ use Rattle.fuse_gate.specs.declared.gate.Handle.{Handle}
 use Rattle.fuse_gate.specs.declared.gate.Gate.{Gate}
 use Rattle.fuse_gate.specs.Laying.{LaidOut as given}
 use Rattle.fuse_gate.proofs.MappedLemmas.{get-mapped, mapped-insert, mapped-remove, mapped_at}
-use Rattle.fuse_gate.proofs.Standings.{stands_settled, settled_same, sent_stands, unmoved, node_good}
+use Rattle.fuse_gate.proofs.Standings.{stands_settled, settled_same, unmoved}
 use Rattle.fuse_gate.proofs.Changing.{changed_paired}
 use Rattle.fuse_gate.proofs.Going.{gone_state, gone_stands, node_less, handle_less}
 

@@ -1,9 +1,8 @@
 -- OPEN.
 use Rattle.std.proofs.Common.{◌≡◌, ◌≢◌, ℕ, ◌+◌, ◌-◌, ◌<◌, ◌≤◌, ◌^◌, ◌⊎◌, Bool, true, false, cond, ◌||◌, refl, sym, ap, ◌∙◌, subst, min, Option, Some, None, Result, Ok, Err, arith, IsSome, ⊎_elim, nat_le}
 use Rattle.std.specs.Prelude.{◌==◌, option_map}
-use Rattle.std.proofs.lemmas.Bool.{cases_eq}
 use Rattle.std.proofs.lemmas.Bool.Decides.{nat_tests}
-use Rattle.std.specs.FinMap.{FinMap, get, insert, remove, len}
+use Rattle.std.specs.FinMap.{FinMap, get, insert, len}
 use Rattle.port_base.specs.Faults.{Rose}
 use Rattle.port_base.specs.declared.errno.TheConstants.{EIO, EISDIR, ENFILE, ENOSYS, ESTALE}
 use Rattle.tree_model.specs.Tree.{Tree, Record, Body, body_at, is_directory_at}
@@ -18,14 +17,13 @@ use Rattle.tree_machine.specs.Messages.{open_messages, open_node_messages, opene
 use Rattle.tree_machine.specs.Good.{IsGoodMachine}
 use Rattle.tree_machine.proofs.Opening.{opened_good, reads}
 use Rattle.fid_model.specs.Fids.{ServerState, Fid, Fids, IsGoodServer, closed, settled as server_settled}
-use Rattle.fid_model.specs.Fids.OpenState.{Opened}
 use Rattle.fid_model.specs.Answers.{opened as fid_opened, qid_at}
 use Rattle.fid_model.specs.Asked.{Asks, clunked}
 use Rattle.fid_model.proofs.Keeping.{settled_same}
 use Rattle.p9_client.specs.Views.{IsRoomy}
 use Rattle.p9_client.specs.Opening.{copied_told, opened_told, opened_by}
 use Rattle.fuse_gate.specs.Mapped.{mapped}
-use Rattle.fuse_gate.specs.Standing.{IsInStep, ArePaired, machine_of, node_of, handle_of, fid_at, opened}
+use Rattle.fuse_gate.specs.Standing.{IsInStep, ArePaired, machine_of, node_of, handle_of, fid_at}
 use Rattle.fuse_gate.specs.Steps.{IsServed}
 use Rattle.fuse_gate.specs.Laying.{LaidOut}
 use Rattle.fuse_gate.specs.Replies.{laid_out}
@@ -37,7 +35,7 @@ use Rattle.fuse_gate.specs.Laying.{LaidOut as given}
 use Rattle.fuse_gate.proofs.MappedLemmas.{get-mapped, len-mapped, mapped-insert}
 use Rattle.fuse_gate.proofs.Standings.{unmoved, kept, hurt, made, fid_free, node_fid, next_free, next_no_handle}
 use Rattle.fuse_gate.proofs.Changing.{len_new, len_known, insert_cases}
-use Rattle.fuse_gate.proofs.Showing.{first_of_pair, second_of_pair, some_value}
+use Rattle.fuse_gate.proofs.Showing.{some_value}
 
 rose_back : (f0 f1 f2 : ℕ) → f0 ≤ f1 → Rose f1 f2 → Rose f0 f2
 rose_back f0 f1 f2 le h = omega arith
@@ -271,7 +269,7 @@ module _ {g : Gate} {s : ServerState} {id : ℕ} {n : Node} {flags : ℕ} (h : M
       record {
         fids = λ q. insert_cases copied.fids g.next (fid_opened (closed n.ino) flags) q (λ o. o ≡ fid_at (get g.nodes q) (get (insert g.handles g.next new_handle) q))
             (λ e. subst (λ k. Some (fid_opened (closed n.ino) flags) ≡ fid_at (get g.nodes k) (get (insert g.handles g.next new_handle) k)) (sym e)
-                (sym (ap (λ o. fid_at o (get (insert g.handles g.next new_handle) g.next)) (next_free h.stands) ∙ ap (fid_at None) (inserted g.handles g.next new_handle))))
+            (sym (ap (λ o. fid_at o (get (insert g.handles g.next new_handle) g.next)) (next_free h.stands) ∙ ap (fid_at None) (inserted g.handles g.next new_handle))))
             (λ ne. insert_keeps s.fids g.next (closed n.ino) q ne ∙ p.fids q ∙ ap (fid_at (get g.nodes q)) (sym (insert_keeps g.handles g.next new_handle q ne)));
         used = (let a = p.used in let b = len_new s.fids g.next (closed n.ino) (fid_free h.stands) in let c = len_known copied.fids g.next (closed n.ino) (fid_opened (closed n.ino) flags) copy_there in omega arith);
         counted = (let a = p.counted in let b = len_new g.handles g.next new_handle (next_no_handle h.stands) in omega arith);

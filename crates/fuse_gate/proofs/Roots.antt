@@ -1,5 +1,5 @@
 -- A path from the top meets linked records alone, so what it leads to is the same in the linked tree.
-use Rattle.std.proofs.Common.{◌≡◌, ℕ, Bool, true, false, cond, List, [], ◌∷◌, refl, ap, ◌∙◌, Option, None, Result, Ok, Err}
+use Rattle.std.proofs.Common.{◌≡◌, ℕ, true, false, cond, List, [], ◌∷◌, refl, ap, ◌∙◌, None, Result, Ok, Err}
 use Rattle.std.specs.Prelude.{option_map, option_and_then}
 use Rattle.std.specs.FinMap.{get}
 use Rattle.tree_model.specs.Tree.{Tree, Record, body_at, is_linked, linked, top}

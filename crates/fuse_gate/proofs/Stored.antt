@@ -9,7 +9,7 @@ use Rattle.tree_model.specs.Good.{IsGoodTree}
 use Rattle.tree_model.proofs.Naming.{named_is_stored}
 use Rattle.tree_machine.specs.State.{is_named}
 use Rattle.tree_machine.proofs.Begun.{stored_by}
-use Rattle.fid_model.specs.Fids.{ServerState, IsGoodServer, is_held}
+use Rattle.fid_model.specs.Fids.{ServerState, IsGoodServer}
 use Rattle.fuse_gate.specs.Standing.{IsInStep, machine_of}
 use Rattle.fuse_gate.specs.declared.gate.Gate.{Gate}
 use Rattle.fuse_gate.proofs.Held.{same_bool}

@@ -1,5 +1,5 @@
 -- The number of messages that a run tells is what the server was handed.
-use Rattle.std.proofs.Common.{◌≡◌, ℕ, ◌+◌, ◌-◌, ◌^◌, min, Result, Ok, Err, ⊎_elim, sym, subst, arith}
+use Rattle.std.proofs.Common.{◌≡◌, ℕ, ◌+◌, Result, Ok, Err, ⊎_elim, sym, subst, arith}
 use Rattle.frame_pump.specs.Sessions.{Session, Counted}
 use Rattle.frame_pump.specs.Turns.{Streams, StopsBy}
 use Rattle.frame_pump.specs.declared.outcome.Pumped.{Pumped}

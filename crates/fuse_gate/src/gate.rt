@@ -1,5 +1,5 @@
 //! A session's node ids and handles, each a fid of the server under its own number.
-ghost use Rattle.std.specs.Prelude.{◌≡◌, ◌+◌, ◌-◌, ◌<◌, ◌≤◌, ◌^◌, ◌||◌, ℕ, min, nat_le, IsSome, OnOk};
+ghost use Rattle.std.specs.Prelude.{◌≡◌, ◌+◌, ◌-◌, ◌<◌, ◌≤◌, ◌^◌, ◌||◌, nat_le, IsSome, OnOk};
 ghost use Rattle.std.specs.FinMap as map;
 ghost use Rattle.tree_machine.specs.State.{NUMBER_LIMIT};
 ghost use Rattle.fuse_gate.specs.Changes.{one_sent, counted_up, counted_down, with_node, without_node, with_handle, without_handle};

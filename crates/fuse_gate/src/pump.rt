@@ -2,9 +2,8 @@
 ghost use Rattle.std.specs.Prelude.{◌≡◌, ◌≤◌, ℕ};
 ghost use Rattle.std.specs.FinMap as map;
 ghost use Rattle.fuse_gate.specs.Standing.{IsInStep, machine_of, piece_of};
-ghost use Rattle.fuse_gate.specs.Pump.{Served, Pumps, TellsMessages};
+ghost use Rattle.fuse_gate.specs.Pump.{Pumps, TellsMessages};
 ghost use Rattle.fuse_gate.specs.Playing.{PlaysWhole};
-ghost use Rattle.frame_pump.specs.Turns.{Streams};
 
 use crate::gate::{AttachError, Gate, LEAST_MSIZE};
 use fid_model::Nine;

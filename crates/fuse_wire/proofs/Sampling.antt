@@ -1,6 +1,5 @@
 -- Worked examples: requests, replies and cuts, byte for byte.
-use Rattle.std.proofs.Common.{◌≡◌, ℕ, ◌+◌, List, [], ◌∷◌, ◌++◌, length, replicate, Some, None, Ok, Err, codes, refl}
-use Rattle.fuse_wire.specs.declared.attr.FileAttr.{FileAttr}
+use Rattle.std.proofs.Common.{◌≡◌, [], ◌∷◌, ◌++◌, replicate, Some, None, Ok, Err, codes, refl}
 use Rattle.fuse_wire.specs.Fields.{u32_at, u64_at}
 use Rattle.fuse_wire.specs.Request.{request_of, request_in, name_at, only_name, init_of, lookup_of, getattr_of, open_of, read_of, handle_of, forget_of, batch_forget_of}
 use Rattle.fuse_wire.specs.Request.Request.{init, lookup, getattr, open_file, read, flush, release, forget, batch_forget}

@@ -1,6 +1,6 @@
 //! Numbers at places of a frame, the least byte first.
 ghost use Rattle.std.specs.Prelude.{◌≡◌, ◌+◌, ◌≤◌, length};
-ghost use Rattle.fuse_wire.specs.Fields.{u32_at, u64_at, has_flag, given};
+ghost use Rattle.fuse_wire.specs.Fields.{u32_at, u64_at, given};
 
 /// The number in the 4 bytes from `at` on.
 #[tactic(auto, unfolding(crate::specs::Fields::u32_at))]

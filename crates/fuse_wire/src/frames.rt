@@ -1,6 +1,5 @@
 //! Frames of a source.
 ghost use Rattle.std.specs.Prelude.{◌≡◌, ◌<◌, ◌≤◌, ◌↔◌, IsTrue, OnOk, OnErr, Err};
-ghost use Rattle.port_base.specs.Streams.{TookFewer};
 ghost use Rattle.fuse_wire.specs.Cuts.{is_allowed};
 ghost use Rattle.fuse_wire.specs.Taking.{Takes, Fills, TakesPiece};
 

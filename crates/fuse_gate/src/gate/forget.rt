@@ -49,11 +49,7 @@ impl Gate {
     }
 
     // The same, pair by pair.
-    pub(super) fn forget_all<N: Nine>(
-        &mut self,
-        nine: &mut N,
-        pairs: &[u8],
-    ) -> Result<(), NoMemory>
+    pub(super) fn forget_all<N: Nine>(&mut self, nine: &mut N, pairs: &[u8]) -> Result<(), NoMemory>
         requires { IsInStep self.old (N.state nine.old) }
         ensures gone { OnOk result (let m = machine_of self.old (N.state nine.old) in
             LetsGo (all_forgotten m (pairs_of pairs.now)) (gone m (all_forgotten m (pairs_of pairs.now))) self.old self.new (N.state nine.old) (N.state nine.new) (N.asked nine.old) (N.asked nine.new)) }

@@ -1,5 +1,5 @@
 // FLUSH and RELEASE.
-ghost use Rattle.std.specs.Prelude.{◌≡◌, ◌≤◌, ◌⊎◌, ℕ, IfOk, OnErr};
+ghost use Rattle.std.specs.Prelude.{◌≡◌, ◌≤◌, ℕ, IfOk, OnErr};
 ghost use Rattle.std.specs.FinMap as map;
 ghost use Rattle.tree_machine.specs.Core.{flush_core, release_core};
 ghost use Rattle.tree_machine.specs.Messages.{one_where};
@@ -31,11 +31,7 @@ impl Gate {
     }
 
     // Ends a handle.
-    pub(super) fn release<N: Nine>(
-        &mut self,
-        nine: &mut N,
-        handle: u64,
-    ) -> Result<Reply, NoMemory>
+    pub(super) fn release<N: Nine>(&mut self, nine: &mut N, handle: u64) -> Result<Reply, NoMemory>
         requires { IsInStep self.old (N.state nine.old) }
         ensures served { IfOk result (λ reply. let m = machine_of self.old (N.state nine.old) in
             IsServed (release_core m handle (map.get m.handles handle)) (one_where (map.get m.handles handle)) self.old self.new (N.state nine.old) (N.state nine.new) (N.faults nine.old) (N.faults nine.new) (N.asked nine.old) (N.asked nine.new) (plain reply)) }

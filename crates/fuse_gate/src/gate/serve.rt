@@ -57,7 +57,10 @@ impl Gate {
             Body::GetAttr { handle: None } => self.getattr_node(nine, node),
             Body::OpenFile { flags } => self.open(nine, node, flags),
             Body::Read {
-                fh, offset, size, ..
+                fh,
+                offset,
+                size,
+                ..
             } => self.read(nine, fh, offset, size),
             Body::Flush { fh } => Ok(self.flush(fh)),
             Body::Release { fh } => self.release(nine, fh),

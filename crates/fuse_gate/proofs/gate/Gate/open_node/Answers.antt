@@ -1,11 +1,10 @@
 -- A copy of the node's fid is opened under the next number; where that is refused, the copy goes again.
-use Rattle.std.proofs.Common.{◌≡◌, ◌<◌, sym, ap, ◌∙◌, Ok, Err, arith}
+use Rattle.std.proofs.Common.{ap, ◌∙◌}
 use Rattle.fid_model.specs.Fids.{ServerState}
 use Rattle.p9_wire.specs.Qids.{qid_of}
 use Rattle.p9_client.specs.Views.{qid_answer}
 use Rattle.fuse_gate.specs.Changes.{with_handle}
 use Rattle.fuse_gate.specs.declared.gate.Handle.{Handle}
-use Rattle.fuse_gate.specs.declared.gate.Gate.{Gate}
 use Rattle.fuse_gate.proofs.Standings.{fid_free}
 use Rattle.fuse_gate.proofs.LookingUp.{on_err}
 use Rattle.fuse_gate.proofs.Opening.{below_limit, copy_refused, copy_made, copy_stays, open_stays, open_tree, open_refused, open_made, open_clunk_tree}
