@@ -18,13 +18,16 @@ file 0644 0 0 {} /f
 end
 """
 
+
 def frame(opcode, unique, node, body):
     """A FUSE request frame."""
     return struct.pack("<IIQQIIII", 40 + len(body), opcode, unique, node, 0, 0, 0, 0) + body
 
+
 def reading(unique):
     """READ of the first 128 KiB by handle 3."""
     return frame(15, unique, 0, struct.pack("<QQIIQII", 3, 0, SIZE, 0, 0, 0, 0))
+
 
 def session(reads):
     """INIT, LOOKUP, OPEN and so many READs."""
@@ -32,9 +35,11 @@ def session(reads):
     frames = [frame(26, 1, 0, init), frame(1, 2, 1, b"f\0"), frame(14, 3, 2, struct.pack("<II", 0, 0))]
     return b"".join(frames + [reading(4 + i) for i in range(reads)])
 
+
 def processor_seconds():
     usage = resource.getrusage(resource.RUSAGE_CHILDREN)
     return usage.ru_utime + usage.ru_stime
+
 
 def run(program, msize, reads, text):
     """The processor's seconds of one run, which must handle all frames."""
@@ -46,6 +51,7 @@ def run(program, msize, reads, text):
     assert served in done.stdout[-2 * SIZE - 4096:], "not all frames were handled"
     return took
 
+
 def main():
     program = sys.argv[1]
     text = HEADER.format("5a" * SIZE).encode()
@@ -55,6 +61,7 @@ def main():
         few = run(program, msize, 0, text)
         many = run(program, msize, READS, text)
         print(f"| {msize} | {READS} | {many:.2f} | {(many - few) / READS * 1e6:.0f} |")
+
 
 if __name__ == "__main__":
     main()
