@@ -1,4 +1,5 @@
 use crate::run::{Status, run};
+use port_base::failing::{FailSink, FailSource};
 use port_base::memory::{MemSink, SliceSource};
 use port_base::words::Words;
 use std::alloc::Global;
@@ -167,6 +168,20 @@ fn runs_that_stop(rt: HostRuntime) -> Result<(), Fail> {
         let want = format!(in alloc; "replies\n{ended}{TREE}nine {nine}\n")?;
         assert_eq!(rt; out.as_bytes(), want.as_bytes(), "{line}");
     }
+    Ok(())
+}
+
+#[test]
+fn a_stream_that_fails_at_once(rt: HostRuntime) -> Result<(), Fail> {
+    let alloc = rt.alloc();
+    let words = words_of(alloc, "serve target=/mnt root=/")?;
+    let mut input = FailSource::new(alloc, HEADER, &[0])?;
+    let mut out = MemSink::new(alloc);
+    assert_eq!(rt; run(alloc, &words, &mut input, &mut out), Status::Input);
+    let mut input = SliceSource::new(HEADER);
+    let mut out = FailSink::new(alloc, &[0])?;
+    assert_eq!(rt; run(alloc, &words, &mut input, &mut out), Status::Output);
+    assert!(rt; out.as_bytes().is_empty());
     Ok(())
 }
 
