@@ -1,5 +1,5 @@
 -- Entries of a directory, as Rreaddir has them one after another.
-use Rattle.std.specs.Prelude.{◌≡◌, ℕ, List, ◌++◌}
+use Rattle.std.specs.Prelude.{ℕ, List, ◌++◌}
 use Rattle.p9_wire.specs.Reading.{Reads, Always, Lawful}
 use Rattle.p9_wire.specs.Fields.{pair_reading}
 use Rattle.p9_wire.specs.Numbers.{law8, law64}

@@ -1,8 +1,7 @@
 -- Frames with the messages that a server answers.
 use Rattle.std.specs.Prelude.{ℕ, ◌-◌, ◌^◌, List}
 use Rattle.p9_wire.specs.Reading.{Reads}
-use Rattle.p9_wire.specs.Frames.{frame, framed_reading, sound_reading, FrameSpells, frame_spelling}
-use Rattle.p9_wire.specs.declared.error.WireError.{WireError}
+use Rattle.p9_wire.specs.Frames.{frame, sound_reading, FrameSpells, frame_spelling}
 use Rattle.p9_rmsg.specs.declared.frame.Rframe.{Rframe}
 use Rattle.p9_rmsg.specs.Replies.{Reply, reply_of, reply_kind, reply_spelling, ReplySpells, IsReadableReply, reply_reading}
 

@@ -1,5 +1,5 @@
 -- The messages that a server answers, without where they lie in memory, and how they are spelled and read.
-use Rattle.std.specs.Prelude.{◌≡◌, ℕ, List, [], ◌++◌, ◌==◌, if◌then◌else◌, map}
+use Rattle.std.specs.Prelude.{ℕ, List, [], ◌++◌, ◌==◌, if◌then◌else◌, map}
 use Rattle.p9_wire.specs.declared.error.WireError.TheVariants.{InvalidData}
 use Rattle.p9_wire.specs.Reading.{Reads, give, refuse}
 use Rattle.p9_wire.specs.Fields.{pair_reading}

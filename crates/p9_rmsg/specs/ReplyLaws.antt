@@ -1,13 +1,13 @@
 -- Replies are spelled and read one way, each by the law of its fields.
-use Rattle.std.proofs.Common.{◌≡◌, ℕ, List, ◌++◌, Result, Ok, refl, subst}
-use Rattle.p9_wire.specs.Reading.{Reads, give, refuse, IsBytes, Always, Lawful}
-use Rattle.p9_wire.specs.Numbers.{law8, law16, law32, law64}
+use Rattle.std.proofs.Common.{◌≡◌, ℕ, List, ◌++◌, Ok, refl, subst}
+use Rattle.p9_wire.specs.Reading.{Reads, give, Always, Lawful}
+use Rattle.p9_wire.specs.Numbers.{law8, law32, law64}
 use Rattle.p9_wire.specs.Fields.{pair_reading}
-use Rattle.p9_wire.specs.Values.{qid_at, qids_at, text_at, u32_at, u64_at, u8_at, then_law, qid_law, qids_law, text_law, DataSpells, data_spelling, data_at, IsReadableData, data_law, any_data_at, any_data_law}
+use Rattle.p9_wire.specs.Values.{qid_at, qids_at, text_at, u32_at, u64_at, u8_at, then_law, qid_law, qids_law, text_law, DataSpells, data_spelling, data_at, data_law, any_data_at, any_data_law}
 use Rattle.p9_wire.specs.Frames.{LawfulMessages}
 use Rattle.p9_wire.specs.Kinds.{as_message, again_as, Takes, takes_as, takes_give, takes_none, takes_if, unique_by}
 use Rattle.p9_wire.specs.declared.error.WireError.TheVariants.{InvalidData}
-use Rattle.p9_rmsg.specs.Replies.{Attributes, attributes_spelling, AttributesSpell, attributes_at, Reply, reply_kind, reply_spelling, ReplySpells, IsReadableReply, reply_by, reply_reading}
+use Rattle.p9_rmsg.specs.Replies.{attributes_spelling, AttributesSpell, attributes_at, Reply, reply_kind, reply_spelling, ReplySpells, IsReadableReply, reply_by, reply_reading}
 use Rattle.p9_rmsg.specs.Replies.Reply.{lerror, statfs, lopen, lcreate, symlink, mknod, rename, readlink, getattr, setattr, xattrwalk, xattrcreate, readdir, fsync, lock, getlock, link, mkdir, renameat, unlinkat, version, auth, attach, flush, walk, read, write, clunk, remove}
 
 attributes_law : Lawful AttributesSpell attributes_spelling Always Always attributes_at

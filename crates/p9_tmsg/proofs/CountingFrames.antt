@@ -1,5 +1,5 @@
 -- A loop that reads frames until one is refused counts them.
-use Rattle.std.proofs.Common.{◌≡◌, ◌≢◌, ℕ, zero, suc, ◌+◌, ◌<◌, ◌≤◌, ◌-◌, ◌^◌, List, [], ◌∷◌, ◌++◌, length, Result, Ok, Err, Some, refl, subst, arith}
+use Rattle.std.proofs.Common.{◌≡◌, ◌≢◌, ℕ, suc, ◌+◌, ◌<◌, ◌≤◌, ◌-◌, ◌^◌, List, [], ◌∷◌, ◌++◌, length, Result, Ok, Err, Some, refl, subst, arith}
 use Rattle.std.specs.declared.option.Option.{Option}
 use Rattle.p9_wire.specs.declared.error.WireError.{WireError}
 use Rattle.p9_wire.specs.declared.error.WireError.TheVariants.{InvalidInput, InvalidData, UnexpectedEof, Read, Write, NoMemory}

@@ -1,9 +1,9 @@
 -- Messages are spelled and read one way, each by the law of its fields.
-use Rattle.std.proofs.Common.{◌≡◌, ℕ, List, ◌++◌, Result, Ok, refl, subst}
-use Rattle.p9_wire.specs.Reading.{Reads, refuse, IsBytes, Always, Lawful}
+use Rattle.std.proofs.Common.{◌≡◌, ℕ, List, ◌++◌, Ok, refl, subst}
+use Rattle.p9_wire.specs.Reading.{Reads, Always, Lawful}
 use Rattle.p9_wire.specs.Numbers.{law8, law16, law32, law64}
 use Rattle.p9_wire.specs.Fields.{pair_reading}
-use Rattle.p9_wire.specs.Values.{text_at, texts_at, u16_at, u32_at, u64_at, u8_at, then_law, text_law, texts_law, DataSpells, data_spelling, data_at, IsReadableData, data_law, any_data_at, any_data_law}
+use Rattle.p9_wire.specs.Values.{text_at, texts_at, u16_at, u32_at, u64_at, u8_at, then_law, text_law, texts_law, DataSpells, data_spelling, data_at, data_law, any_data_at, any_data_law}
 use Rattle.p9_wire.specs.Frames.{LawfulMessages}
 use Rattle.p9_wire.specs.Kinds.{as_message, again_as, Takes, takes_as, takes_none, takes_if, unique_by}
 use Rattle.p9_wire.specs.declared.error.WireError.TheVariants.{InvalidData}

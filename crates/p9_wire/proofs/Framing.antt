@@ -1,5 +1,5 @@
 -- A frame is read as its size, and then the bytes behind it.
-use Rattle.std.proofs.Common.{◌≡◌, ℕ, ◌-◌, ◌+◌, ◌≤◌, Bool, true, ◌&&◌, List, Result, Ok, Err, refl, sym, ap, subst, ◌∙◌, arith}
+use Rattle.std.proofs.Common.{◌≡◌, ℕ, ◌-◌, ◌≤◌, true, ◌&&◌, List, Result, Ok, Err, refl, subst, ◌∙◌}
 use Rattle.std.specs.Prelude.{nat_le, MatchResult}
 use Rattle.std.specs.declared.option.Option.{Option}
 use Rattle.std.specs.Int.{w32, from_le_bytes}

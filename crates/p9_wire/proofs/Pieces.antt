@@ -1,5 +1,5 @@
 -- Bytes that come in pieces are the bytes that were asked for.
-use Rattle.std.proofs.Common.{◌≡◌, ℕ, ◌+◌, ◌<◌, ◌≤◌, Bool, true, false, cond, ltb, List, [], ◌++◌, length, take, drop, append_assoc, Result, Ok, Err, None, Some, refl, sym, ap, subst, ◌∙◌, arith}
+use Rattle.std.proofs.Common.{◌≡◌, ℕ, ◌+◌, ◌<◌, ◌≤◌, Bool, true, false, cond, ltb, List, [], ◌++◌, length, take, drop, append_assoc, Result, Ok, Err, None, Some, refl, ap, subst, ◌∙◌, arith}
 use Rattle.std.proofs.lemmas.Bool.{ltb-true}
 use Rattle.std.proofs.lemmas.List.{length-append, length-take, take_at}
 use Rattle.std.proofs.Math.Seq.{take-append-add, drop-append_seam}
@@ -8,7 +8,7 @@ use Rattle.std.specs.Io.KnownBytes.{Consumes}
 use Rattle.std.proofs.KnownBytes.{Consumes-nil, Consumes-trans}
 use Rattle.p9_wire.specs.declared.error.WireError.{WireError}
 use Rattle.p9_wire.specs.declared.error.WireError.TheVariants.{InvalidInput, InvalidData, UnexpectedEof, Read, Write, NoMemory}
-use Rattle.p9_wire.specs.Reading.{Reads, bytes_at, Took, Found, Refused, Answers, Decodes}
+use Rattle.p9_wire.specs.Reading.{bytes_at, Found, Refused, Answers, Decodes}
 use Rattle.p9_wire.specs.Numbers.{bytes_take, bytes_short, Found-filled}
 use Rattle.p9_wire.specs.Steps.{Took-trans}
 

@@ -1,8 +1,7 @@
 -- Two fields, one after the other.
-use Rattle.std.proofs.Common.{◌≡◌, ℕ, List, ◌++◌, Result, Ok, Err, refl, sym, ap, subst, ◌∙◌, append_assoc}
+use Rattle.std.proofs.Common.{◌≡◌, ℕ, List, ◌++◌, Ok, refl, sym, ap, subst, ◌∙◌, append_assoc}
 use Rattle.std.proofs.lemmas.List.{append_cancel_left}
-use Rattle.p9_wire.specs.declared.error.WireError.{WireError}
-use Rattle.p9_wire.specs.Reading.{Reads, ◌>>=◌, then_read, give, IsBytes, Lawful}
+use Rattle.p9_wire.specs.Reading.{Reads, then_read, give, IsBytes, Lawful}
 use Rattle.p9_wire.specs.Numbers.{bind_ok, found_same, IsBytes-after}
 
 abbrev pub pair_view : {V W P Q : Type 0} → (V → P) → (W → Q) → V × W → P × Q

@@ -1,11 +1,10 @@
 -- Messages of many types: a reading that chooses by the type, and its law from the laws of the fields.
-use Rattle.std.proofs.Common.{◌≡◌, ℕ, Bool, true, false, cond, List, [], ◌++◌, Result, Ok, Err, refl, sym, ap, subst, ◌∙◌}
+use Rattle.std.proofs.Common.{◌≡◌, ℕ, Bool, true, false, cond, List, [], ◌++◌, Result, Ok, refl, sym, ap, subst, ◌∙◌}
 use Rattle.std.specs.Prelude.{◌==◌, if◌then◌else◌}
 use Rattle.std.proofs.lemmas.Bool.{eqb-true}
 use Rattle.p9_wire.specs.declared.error.WireError.{WireError}
 use Rattle.p9_wire.specs.Reading.{Reads, ◌>>=◌, then_read, give, refuse, IsBytes, Always, Lawful}
 use Rattle.p9_wire.specs.Numbers.{bind_ok, found_same}
-use Rattle.p9_wire.specs.Frames.{LawfulMessages}
 
 -- fields, as the message that has them
 abbrev pub as_message : {A M : Type 0} → Reads A → (A → M) → Reads M

@@ -1,8 +1,7 @@
 -- Reading values from the front of bytes, and what a decoder says of it.
-use Rattle.std.specs.Prelude.{◌≡◌, ℕ, ◌+◌, ◌<◌, ◌^◌, List, [], ◌∷◌, ◌++◌, length, take, drop, Result, Ok, Err, nat_lt, if◌then◌else◌, ⊤, None, Some, slice_index}
+use Rattle.std.specs.Prelude.{◌≡◌, ℕ, ◌<◌, List, ◌++◌, length, take, drop, Result, Ok, Err, nat_lt, if◌then◌else◌, ⊤, None, Some, slice_index}
 use Rattle.std.specs.declared.option.Option.{Option}
 use Rattle.std.specs.Io.KnownBytes.{Consumes}
-use Rattle.std.specs.Int.{Width, byte_len, from_le_bytes}
 use Rattle.port_base.specs.Faults.{Faulted}
 use Rattle.p9_wire.specs.declared.error.WireError.{WireError}
 use Rattle.p9_wire.specs.declared.error.WireError.TheVariants.{InvalidInput, InvalidData, UnexpectedEof, Read, Write, NoMemory}

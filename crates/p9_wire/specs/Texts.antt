@@ -1,18 +1,17 @@
 -- Bytes behind their count: texts and data.
-use Rattle.std.proofs.Common.{◌≡◌, ℕ, ◌+◌, ◌^◌, ◌<◌, ◌≤◌, Bool, true, false, cond, not, ◌&&◌, List, ◌++◌, length, Result, Ok, Err, refl, sym, ap, subst, ◌∙◌, append_assoc, arith}
-use Rattle.std.specs.Prelude.{nat_lt, nat_le, ◌==◌}
+use Rattle.std.proofs.Common.{◌≡◌, ℕ, ◌<◌, Bool, true, false, cond, not, ◌&&◌, List, ◌++◌, length, Result, Ok, Err, refl, sym, ap, subst, ◌∙◌, append_assoc, arith}
+use Rattle.std.specs.Prelude.{nat_le, ◌==◌}
 use Rattle.std.specs.List.{list_any}
 use Rattle.std.specs.Str.{is_utf8}
 use Rattle.std.proofs.lemmas.List.{append_cancel_left, take_at}
 use Rattle.std.proofs.Common.{take}
-use Rattle.std.specs.Int.{w16, w32, from_le_bytes, to_le_bytes}
 use Rattle.p9_wire.specs.declared.error.WireError.{WireError}
 use Rattle.p9_wire.specs.declared.error.WireError.TheVariants.{InvalidInput, InvalidData}
 use Rattle.p9_wire.specs.Reading.{Reads, ◌>>=◌, then_read, give, refuse, bytes_at, fixed_at, IsBytes, Always, Lawful, Refused, Decodes}
 use Rattle.std.specs.declared.option.Option.{Option}
 use Rattle.std.proofs.Common.{Some, None}
 use Rattle.p9_wire.specs.Steps.{Took-nil, Decodes-give}
-use Rattle.p9_wire.specs.Numbers.{bind_ok, found_same, IsBytes-after, IsCode, fixed_lawful, bytes_take, bytes_again, code16, code32}
+use Rattle.p9_wire.specs.Numbers.{bind_ok, found_same, IsCode, fixed_lawful, bytes_take, bytes_again}
 
 -- UTF-8 without a zero byte
 unfoldable pub is_text : List ℕ → Bool

@@ -1,12 +1,12 @@
 -- The values that messages are made of, how they are spelled and how they are read.
-use Rattle.std.proofs.Common.{◌≡◌, ℕ, ◌+◌, ◌^◌, ◌<◌, ◌≤◌, true, List, [], ◌∷◌, ◌++◌, length, Result, Ok, Err, refl}
+use Rattle.std.proofs.Common.{◌≡◌, ℕ, ◌^◌, ◌<◌, ◌≤◌, true, List, [], ◌∷◌, ◌++◌, length, refl}
 use Rattle.std.specs.Prelude.{nat_le}
 use Rattle.std.specs.List.{AllByRecursion}
 use Rattle.std.proofs.lemmas.Bool.{le-leb, leb-true}
 use Rattle.std.specs.Int.{w16, w32, w64, from_le_bytes, to_le_bytes}
 use Rattle.p9_wire.specs.declared.error.WireError.TheVariants.{InvalidInput, InvalidData}
 use Rattle.p9_wire.specs.Reading.{Reads, then_read, give, bytes_at, fixed_at, Always, Lawful}
-use Rattle.p9_wire.specs.Numbers.{byte_from, byte_to, code16, code32, law8, law16, law32, law64}
+use Rattle.p9_wire.specs.Numbers.{byte_from, byte_to, code16, code32, law8, law32, law64}
 use Rattle.p9_wire.specs.Texts.{is_text, read_if, any_len, any_bytes, data_len, counted_lawful}
 use Rattle.p9_wire.specs.Fields.{PairSpells, pair_spelling, pair_reading, both}
 use Rattle.p9_wire.specs.Items.{ItemsSpell, items_spelling, items_reading, items_lawful}

@@ -17,6 +17,7 @@ pub mod Parting
 pub mod Unlinking
 pub mod Leaving
 pub mod Creating
+pub mod Kin
 pub mod Moving
 pub mod Climbing
 pub mod Renaming

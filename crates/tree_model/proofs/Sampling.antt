@@ -10,7 +10,7 @@ use Rattle.tree_model.specs.declared.attributes.TimeSet.{TimeSet}
 use Rattle.tree_model.specs.Tree.{Tree, Record, Records, Body, body_at, is_directory_at, linked, keep, is_linked}
 use Rattle.tree_model.specs.Tree.Body.{File}
 use Rattle.tree_model.specs.Finding.{lookup_of, path_names, ino_among, entries_of, find}
-use Rattle.tree_model.specs.Attributes.{stat_of, attr_or_missing, kind_of}
+use Rattle.tree_model.specs.Attributes.{attr_of, stat_of, attr_or_missing, kind_of}
 use Rattle.tree_model.specs.Making.{top_record, file_record, joined_by, changed, new_name_refused, add_refused, add_file_of, add_file_unless}
 use Rattle.tree_model.specs.Samples.{born, limits, alone, hello, world, sample}
 use Rattle.tree_model.specs.Opening.{asked, unless, open_refused, open_check_of, read_body, read_of, readlink_body, readlink_of, if_told, walk_to, found_at}
@@ -19,7 +19,7 @@ use Rattle.tree_model.specs.Attributing.{changing, rewritten_at, resized, refuse
 use Rattle.tree_model.specs.Unlinking.{unless_directory, is_empty_at, if_empty, removed_at, without_entry, unlink_of, rmdir_of}
 use Rattle.tree_model.specs.Creating.{made_unless, with_name, link_of}
 use Rattle.tree_model.specs.Renaming.{climbs_past, is_at_or_below, room_refused, first_of, moved_unless, move_to, with_moved, renamed_at, rename_of}
-use Rattle.tree_model.specs.Reading.{peek_entry_of, entry_above, part}
+use Rattle.tree_model.specs.Reading.{ShownEntry, peek_entry_of, entry_above, entry_after_among, entry_after_of, part}
 use Rattle.tree_model.proofs.Maps.{inserted, insert_keeps, retained, same_gets, rewritten}
 use Rattle.tree_model.proofs.Naming.{entry_is_counted}
 use Rattle.tree_model.proofs.Keeping.{named_is_linked}
@@ -77,6 +77,22 @@ listed_first = ap (λ o. option_and_then (entry_above 0) (option_and_then entrie
 
 listed_last : peek_entry_of sample 1 1 ≡ None
 listed_last = ap (λ o. option_and_then (entry_above 1) (option_and_then entries_of (option_map (λ (r : Record). r.body) o))) top_at
+
+abbrev entry_of : ℕ → Option Record → Result (Option ShownEntry) ℕ
+entry_of cookie o = entry_after_among sample.records cookie (option_and_then entries_of (option_map (λ (r : Record). r.body) o))
+
+-- what an entry that names the file shows, by the record of the file
+abbrev shown : Option Record → Result (Option ShownEntry) ℕ
+shown o = Ok (option_map (λ (r : Record). record { cookie = 1; name = hello; attr = attr_of 2 r }) o)
+
+pub after_none : entry_after_of sample 1 0 ≡ Ok (Some (record { cookie = 1; name = hello; attr = attr_of 2 (file_record born world) }))
+after_none = ap (entry_of 0) top_at ∙ ap shown file_at
+
+pub after_first : entry_after_of sample 1 1 ≡ Ok None
+after_first = ap (entry_of 1) top_at
+
+pub in_no_directory : entry_after_of sample 2 0 ≡ Err ENOTDIR
+in_no_directory = ap (entry_of 0) file_at
 
 a_part : part (codes "world") 1 3 ≡ codes "orl"
 a_part = refl

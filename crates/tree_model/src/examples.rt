@@ -5,13 +5,14 @@ ghost use Rattle.tree_model.specs.declared.attributes.Kind.TheVariants as kind;
 ghost use Rattle.tree_model.specs.Samples.{born, alone, sample, hello};
 ghost use Rattle.tree_model.specs.Tree.{keep};
 ghost use Rattle.tree_model.specs.Tree.Body.{File, Directory, Link};
-ghost use Rattle.tree_model.specs.Making.{top_record};
+ghost use Rattle.tree_model.specs.Making.{top_record, joined_by};
+ghost use Rattle.tree_model.specs.Reading.{entry_after_of};
 ghost use Rattle.tree_model.specs.Placing.{add_directory_of, add_link_of, add_hard_of, with_record, with_link, directory_record, link_record};
 ghost use Rattle.tree_model.specs.Attributing.{resized, written, fitting, set_len_of, write_of, set_times_of, refused_for_link, with_changed, retimed, rewritten_at};
 ghost use Rattle.tree_model.specs.Opening.{open_check_of, open_refused, read_of, readlink_of, readlink_body, found_at};
 ghost use Rattle.tree_model.specs.Attributes.{statfs_of};
 ghost use Rattle.tree_model.specs.Creating.{stamped, with_new, with_name, empty_file, empty_directory, create_of, mkdir_of, link_of};
-ghost use Rattle.tree_model.specs.Unlinking.{without, links_left, without_entry, unless_directory, if_empty, unlink_of, rmdir_of};
+ghost use Rattle.tree_model.specs.Unlinking.{without, parted_by, links_left, without_entry, unless_directory, if_empty, unlink_of, rmdir_of};
 ghost use Rattle.tree_model.specs.Renaming.{climbs_past, is_at_or_below, place_refused, has_no_room, placed_below, with_moved, rename_of};
 ghost use Rattle.tree_model.specs.declared.attributes.TimeSet.TheVariants.{Keep, Now, At};
 
@@ -36,6 +37,9 @@ pub fn reading()
     ensures directory { read_of sample 1 0 8 ≡ Err EISDIR }
     ensures no_link { readlink_of sample 2 ≡ Err EINVAL }
     ensures link { readlink_body (Link hello) ≡ Ok hello }
+    ensures first { entry_after_of sample 1 0 ≡ Ok (Some (record { cookie = 1; name = hello; attr = record { ino = 2; kind = kind.File; mode = 420; uid = 5; gid = 6; links = 1; size = 5; atime = born; mtime = born; ctime = born } })) }
+    ensures none_after { entry_after_of sample 1 1 ≡ Ok None }
+    ensures no_entries { entry_after_of sample 2 0 ≡ Err ENOTDIR }
     ensures bounds { statfs_of sample ≡ record { blocks = 1; files = 2 } }
 {}
 
@@ -112,6 +116,7 @@ pub fn removing()
 /// Names that move, whatever is held, and what is refused.
 pub fn renaming()
     ensures file { (held : ℕ → Bool) → rename_of held sample 1 hello 1 (codes "b") ≡ Ok (tt, keep held (with_moved sample 1 hello 1 (codes "b") 2)) }
+    ensures new_cookie { (joined_by (codes "b") 2 (parted_by hello born (joined_by hello 2 (top_record born 493 1 2)))).body ≡ Directory (record { cookie = 2; name = codes "b"; ino = 2 } ∷ []) 3 1 }
     ensures same { (held : ℕ → Bool) → rename_of held sample 1 hello 1 hello ≡ Ok (tt, sample) }
     ensures missing { (held : ℕ → Bool) → rename_of held sample 1 (codes "b") 1 hello ≡ Err ENOENT }
     ensures from_file { (held : ℕ → Bool) → rename_of held sample 2 hello 1 hello ≡ Err ENOTDIR }

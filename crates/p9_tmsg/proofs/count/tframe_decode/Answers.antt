@@ -1,5 +1,5 @@
 -- Each frame that is read is one more, and the first that is refused ends the count.
-use Rattle.std.proofs.Common.{◌≡◌, subst, sym}
+use Rattle.std.proofs.Common.{subst, sym}
 use Rattle.p9_tmsg.proofs.CountingFrames.{Counted, Counted-nothing, Counted-more}
 use Rattle.p9_tmsg.proofs.count.tframe_decode.Goals as goal
 

@@ -1,5 +1,5 @@
 -- A frame that is read is its size, and then the bytes behind it.
-use Rattle.std.proofs.Common.{◌≡◌, ◌∙◌, ap, sym, subst, Err, Ok, arith}
+use Rattle.std.proofs.Common.{◌≡◌, subst, arith}
 use Rattle.std.specs.Prelude.{MatchResult}
 use Rattle.std.proofs.lemmas.Result.{err_from_is_err_and}
 use Rattle.p9_wire.specs.declared.error.WireError.TheVariants.{NoMemory}

@@ -1,8 +1,7 @@
-use Rattle.std.proofs.Common.{◌≡◌, ◌-◌, ◌+◌, suc, ◌∙◌, ap, sym, subst, map, arith, Err, ◌++◌, ◌∷◌, []}
+use Rattle.std.proofs.Common.{◌≡◌, ◌-◌, ◌+◌, suc, ◌∙◌, ap, sym, map, arith, ◌++◌, ◌∷◌, []}
 use Rattle.std.proofs.lemmas.Result.{err_from_is_err_and}
 use Rattle.std.proofs.lemmas.List.{map_push}
-use Rattle.p9_wire.specs.Reading.{Decodes}
-use Rattle.p9_wire.specs.Items.{Along, Along-more, Along-stops, Along-memory, Along-done, times}
+use Rattle.p9_wire.specs.Items.{Along-more, Along-stops, Along-memory, Along-done}
 use Rattle.p9_wire.proofs.items.decode_items.Goals as goal
 
 pub returns-in_err-item-clause-decodes : goal.returns-in_err-item-clause-decodes

@@ -1,7 +1,7 @@
-use Rattle.std.proofs.Common.{◌≡◌, ◌∙◌, ap, sym, subst, Err, Ok, arith, rules, true, false, ℕ, refl}
+use Rattle.std.proofs.Common.{◌≡◌, Err, Ok, arith, true, ℕ}
 use Rattle.std.proofs.lemmas.Result.{err_from_is_err_and}
 use Rattle.std.specs.Int.{w32, from_le_bytes}
-use Rattle.p9_wire.specs.declared.error.WireError.TheVariants.{InvalidInput, InvalidData}
+use Rattle.p9_wire.specs.declared.error.WireError.TheVariants.{InvalidData}
 use Rattle.p9_wire.specs.Reading.{then_read, give, bytes_at, fixed_at}
 use Rattle.std.proofs.lemmas.Bool.{le-leb}
 use Rattle.p9_wire.specs.declared.data.Data.{Data}

@@ -1,9 +1,9 @@
-use Rattle.std.proofs.Common.{◌≡◌, ◌∙◌, ap, sym, subst, Err, Ok, arith, rules, true, false, ◌^◌, ◌<◌, length, ℕ}
+use Rattle.std.proofs.Common.{◌≡◌, Err, Ok, arith, true, false, ℕ}
 use Rattle.std.proofs.lemmas.Result.{err_from_is_err_and}
 use Rattle.std.specs.Int.{w16, from_le_bytes}
-use Rattle.p9_wire.specs.declared.error.WireError.TheVariants.{InvalidInput, InvalidData}
+use Rattle.p9_wire.specs.declared.error.WireError.TheVariants.{InvalidInput}
 use Rattle.p9_wire.specs.Reading.{then_read, give, bytes_at, fixed_at}
-use Rattle.p9_wire.specs.Texts.{is_text, read_if, any_len, Decodes-refused, Decodes-accepted}
+use Rattle.p9_wire.specs.Texts.{is_text, read_if, Decodes-refused, Decodes-accepted}
 use Rattle.p9_wire.specs.Steps.{Decodes-stops, Decodes-after}
 use Rattle.p9_wire.proofs.text.P9StringWireFormat.decode.Goals as goal
 
