@@ -1,6 +1,6 @@
 -- What handling one message promises, whatever the host's faults.
-use Rattle.std.specs.Prelude.{◌≡◌, ◌⊎◌, ℕ, ◌<◌, ◌≤◌, List, length, Bool, IsTrue, Result, Ok, Err}
-use Rattle.std.specs.declared.option.Option.{Option}
+use Rattle.std.specs.Prelude.{◌≡◌, ◌⊎◌, ℕ, ◌<◌, ◌≤◌, List, length, take, Bool, IsTrue, Option, Some, Result, Ok, Err}
+use Rattle.std.specs.FinMap as map
 use Rattle.std.specs.Io.KnownBytes.{Appends, Keeps}
 use Rattle.port_base.specs.Faults.{Faulted, Rose}
 use Rattle.port_base.specs.Streams.{SentFront}
@@ -14,26 +14,32 @@ use Rattle.p9_tmsg.specs.Frames.{frame_within}
 use Rattle.p9_rmsg.specs.Replies.{Reply, ReplySpells}
 use Rattle.p9_rmsg.specs.Frames.{reply_frame}
 use Rattle.p9_rmsg.specs.Replies.Reply.{lerror as r_lerror, walk as r_walk}
-use Rattle.fid_model.specs.Fids.{ServerState}
-use Rattle.fid_model.specs.Answers.{answer}
+use Rattle.tree_model.specs.Tree.{Tree}
+use Rattle.tree_model.specs.Attributes.{Qid}
+use Rattle.fid_model.specs.Fids.{Fid, ServerState}
+use Rattle.fid_model.specs.Answers.{answer, walk_names}
 
--- the qids of a part of a walk of so many names: at least one and not all
-abbrev pub IsPartOfWalk : ℕ → Reply → Type 0
-IsPartOfWalk names (r_walk qids) = (1 ≤ length qids) × (length qids < names)
-IsPartOfWalk names _ = ⊥
+-- these are the qids of the first names of a walk, each of which was found
+abbrev pub IsFrontOfWalk : Bool → Tree → List (List ℕ) → ℕ → List Qid → Type 0
+IsFrontOfWalk casefold t names start qids = (at : ℕ) × (walk_names casefold t (take (length qids) names) start ≡ (qids, Ok at))
+
+-- the qids of a walk so far: at least one, and not all
+abbrev pub IsPartOfWalk : ServerState → ℕ → List (List ℕ) → Reply → Type 0
+IsPartOfWalk s fid names (r_walk qids) = (1 ≤ length qids) × (length qids < length names) × ((f : Fid) × (map.get s.fids fid ≡ Some f) × IsFrontOfWalk s.settings.casefold s.tree names f.ino qids)
+IsPartOfWalk s fid names _ = ⊥
 
 -- what a fault of the host may answer; a message that asks the host nothing meets none
-abbrev pub IsHurtReply : Message → Reply → Type 0
-IsHurtReply (t_attach fid afid uname aname n_uname) reply = reply ≡ r_lerror EIO
-IsHurtReply (t_walk fid newfid wnames) reply = (reply ≡ r_lerror EIO) ⊎ IsPartOfWalk (length wnames) reply
-IsHurtReply (t_getattr fid request_mask) reply = reply ≡ r_lerror EIO
-IsHurtReply (t_lopen fid flags) reply = reply ≡ r_lerror EIO
-IsHurtReply (t_read fid offset count) reply = reply ≡ r_lerror EIO
-IsHurtReply _ reply = ⊥
+abbrev pub IsHurtReply : ServerState → Message → Reply → Type 0
+IsHurtReply s (t_attach fid afid uname aname n_uname) reply = reply ≡ r_lerror EIO
+IsHurtReply s (t_walk fid newfid wnames) reply = (reply ≡ r_lerror EIO) ⊎ IsPartOfWalk s fid wnames reply
+IsHurtReply s (t_getattr fid request_mask) reply = reply ≡ r_lerror EIO
+IsHurtReply s (t_lopen fid flags) reply = reply ≡ r_lerror EIO
+IsHurtReply s (t_read fid offset count) reply = reply ≡ r_lerror EIO
+IsHurtReply s _ reply = ⊥
 
 -- the machine's answer and state; or, only where the count of faults rose, what a fault may answer, and the same state
 abbrev pub Outcome : ServerState → Message → Reply → ServerState → ℕ → ℕ → Type 0
-Outcome s m reply s1 f0 f1 = ((reply, s1) ≡ answer s m) ⊎ (Rose f0 f1 × IsHurtReply m reply × (s1 ≡ s))
+Outcome s m reply s1 f0 f1 = ((reply, s1) ≡ answer s m) ⊎ (Rose f0 f1 × IsHurtReply s m reply × (s1 ≡ s))
 
 abbrev pub BodyOutcome : ServerState → Result Message WireError → Reply → ServerState → ℕ → ℕ → Type 0
 BodyOutcome s (Ok m) reply s1 f0 f1 = Outcome s m reply s1 f0 f1

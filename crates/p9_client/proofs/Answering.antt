@@ -58,13 +58,13 @@ walk_served (Ok q, s) s0 s1 f0 f1 r e = subst (WalkAsked (Ok q, s) s0 s1 f0 f1) 
 walk_served (Err d, s) s0 s1 f0 f1 r e = subst (WalkAsked (Err d, s) s0 s1 f0 f1) (sym (fst (pair r s1) (pair (r_lerror d) s) e)) (inl (λ i. (Err d, snd (pair r s1) (pair (r_lerror d) s) e i)))
 
 -- a walk by one name has no part
-no_part : (r : Reply) → IsPartOfWalk 1 r → ⊥
-no_part (r_walk qids) h = omega (arith, h.0, h.1)
-no_part _ h = h
+no_part : (s : ServerState) (fid : ℕ) (name : List ℕ) (r : Reply) → IsPartOfWalk s fid (name ∷ []) r → ⊥
+no_part s fid name (r_walk qids) h = omega (arith, h.0, h.1)
+no_part s fid name _ h = h
 
-walk_hurt : (told : Result Qid ℕ × ServerState) (s0 s1 : ServerState) (f0 f1 : ℕ) (r : Reply) → Rose f0 f1 → (r ≡ r_lerror EIO) ⊎ IsPartOfWalk 1 r → s1 ≡ s0 → WalkAsked told s0 s1 f0 f1 r
-walk_hurt told s0 s1 f0 f1 r rose h same =
-    ⊎_elim (λ is. subst (WalkAsked told s0 s1 f0 f1) (sym is) (inr (rose, refl, same))) (λ part. absurd (no_part r part)) h
+walk_hurt : (told : Result Qid ℕ × ServerState) (s0 s1 : ServerState) (f0 f1 fid : ℕ) (name : List ℕ) (r : Reply) → Rose f0 f1 → (r ≡ r_lerror EIO) ⊎ IsPartOfWalk s0 fid (name ∷ []) r → s1 ≡ s0 → WalkAsked told s0 s1 f0 f1 r
+walk_hurt told s0 s1 f0 f1 fid name r rose h same =
+    ⊎_elim (λ is. subst (WalkAsked told s0 s1 f0 f1) (sym is) (inr (rose, refl, same))) (λ part. absurd (no_part s0 fid name r part)) h
 
 -- what the machine answers to it
 settles : (s : ServerState) → IsGoodServer s → (newfid : ℕ) → map.get s.fids newfid ≡ None → (r : Result ℕ ℕ)
@@ -94,7 +94,7 @@ module _ (s : ServerState) (g : IsGoodServer s) (fid newfid : ℕ) (name : List 
 
   walk_asked : (r : Reply) (s1 : ServerState) (f0 f1 : ℕ) → Outcome s (t_walk fid newfid (name ∷ [])) r s1 f0 f1 → WalkAsked (walk_one_told s f.ino newfid name) s s1 f0 f1 r
   walk_asked r s1 f0 f1 o =
-      ⊎_elim (λ e. walk_served (walk_one_told s f.ino newfid name) s s1 f0 f1 r (e ∙ walk_answer)) (λ h. walk_hurt (walk_one_told s f.ino newfid name) s s1 f0 f1 r h.0 h.1 h.2) o
+      ⊎_elim (λ e. walk_served (walk_one_told s f.ino newfid name) s s1 f0 f1 r (e ∙ walk_answer)) (λ h. walk_hurt (walk_one_told s f.ino newfid name) s s1 f0 f1 fid name r h.0 h.1 h.2) o
 
   pub walk_read : (m : Message) (x : Rmessage) (r : Reply) (s1 : ServerState) (f0 f1 : ℕ) → m ≡ t_walk fid newfid (name ∷ []) → reply_of x ≡ r → Outcome s m (reply_of x) s1 f0 f1 → WalkAsked (walk_one_told s f.ino newfid name) s s1 f0 f1 r
   walk_read m x r s1 f0 f1 is rd o = walk_asked r s1 f0 f1 (subst (λ r. Outcome s (t_walk fid newfid (name ∷ [])) r s1 f0 f1) rd (subst (λ m. Outcome s m (reply_of x) s1 f0 f1) is o))

@@ -51,7 +51,7 @@ module _ {A : Type 0} (make : A → Reply) (P : Reply → Type 0) (s0 s1 : Serve
 
   -- the machine's answer, or EIO where the count rose
   asked_by : (told : Result A ℕ × ServerState) → ((a : A) → Asks told (Ok a) s0 s1 f0 f1 → P (make a)) → ((e : ℕ) → Asks told (Err e) s0 s1 f0 f1 → P (r_lerror e))
-      → (m : Message) → answer s0 m ≡ pair (reply_to make told.0) told.1 → (r : Reply) → (IsHurtReply m r → r ≡ r_lerror EIO) → Outcome s0 m r s1 f0 f1 → P r
+      → (m : Message) → answer s0 m ≡ pair (reply_to make told.0) told.1 → (r : Reply) → (IsHurtReply s0 m r → r ≡ r_lerror EIO) → Outcome s0 m r s1 f0 f1 → P r
   asked_by told own refused m is r hurt o =
       ⊎_elim (λ e. served told own refused r (e ∙ is)) (λ h. subst P (sym (hurt h.1)) (refused EIO (inr (h.0, refl, h.2)))) o
 
@@ -71,9 +71,9 @@ CopyAsked told s0 s1 f0 f1 (r_walk qids) = Asks told (Ok tt) s0 s1 f0 f1
 CopyAsked told s0 s1 f0 f1 (r_lerror e) = Asks told (Err e) s0 s1 f0 f1
 CopyAsked told s0 s1 f0 f1 _ = ⊥
 
-no_part : (r : Reply) → IsPartOfWalk 0 r → ⊥
-no_part (r_walk qids) h = omega (arith, h.0, h.1)
-no_part _ h = h
+no_part : (s : ServerState) (fid : ℕ) (r : Reply) → IsPartOfWalk s fid [] r → ⊥
+no_part s fid (r_walk qids) h = omega (arith, h.0, h.1)
+no_part s fid _ h = h
 
 no_and : (b : Bool) → (b && false) ≡ false
 no_and true = refl
@@ -97,7 +97,7 @@ module _ (s : ServerState) (g : IsGoodServer s) (fid newfid : ℕ) (f : Fid) (kn
   pub copy_asked : (m : Message) (r : Reply) (s1 : ServerState) (f0 f1 : ℕ) → m ≡ t_walk fid newfid [] → Outcome s m r s1 f0 f1 → CopyAsked (copied_told s f.ino newfid) s s1 f0 f1 r
   copy_asked m r s1 f0 f1 is o =
       asked_by {A = Unit {0}} (λ u. r_walk []) (CopyAsked (copied_told s f.ino newfid) s s1 f0 f1) s s1 f0 f1 (copied_told s f.ino newfid) (λ u h. h) (λ e h. h) (t_walk fid newfid []) copied_answer r
-      (λ h. ⊎_elim (λ same. same) (λ part. absurd (no_part r part)) h) (subst (λ m. Outcome s m r s1 f0 f1) is o)
+      (λ h. ⊎_elim (λ same. same) (λ part. absurd (no_part s fid r part)) h) (subst (λ m. Outcome s m r s1 f0 f1) is o)
 
   pub copy_read : (m : Message) (x : Rmessage) (r : Reply) (s1 : ServerState) (f0 f1 : ℕ) → m ≡ t_walk fid newfid [] → reply_of x ≡ r → Outcome s m (reply_of x) s1 f0 f1 → CopyAsked (copied_told s f.ino newfid) s s1 f0 f1 r
   copy_read m x r s1 f0 f1 is rd o = copy_asked m r s1 f0 f1 is (subst (λ r. Outcome s m r s1 f0 f1) rd o)

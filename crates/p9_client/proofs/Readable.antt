@@ -94,21 +94,21 @@ core_readable s (t_getattr fid request_mask) b = getattr_readable s (map.get s.f
 core_readable s (t_clunk fid) b = clunk_readable s fid (map.get s.fids fid)
 core_readable s _ b = tt
 
-part_readable : (names : ℕ) (r : Reply) → IsPartOfWalk names r → IsReadableReply r
-part_readable names (r_walk qids) h = tt
-part_readable names _ h = absurd h
+part_readable : (s : ServerState) (fid : ℕ) (names : List (List ℕ)) (r : Reply) → IsPartOfWalk s fid names r → IsReadableReply r
+part_readable s fid names (r_walk qids) h = tt
+part_readable s fid names _ h = absurd h
 
 refused_readable : (r : Reply) → r ≡ r_lerror EIO → IsReadableReply r
 refused_readable r is = subst IsReadableReply (sym is) tt
 
-hurt_readable : (m : Message) (r : Reply) → IsHurtReply m r → IsReadableReply r
-hurt_readable (t_attach fid afid uname aname n_uname) r h = refused_readable r h
-hurt_readable (t_walk fid newfid wnames) r h = ⊎_elim (λ is. refused_readable r is) (λ part. part_readable (length wnames) r part) h
-hurt_readable (t_getattr fid request_mask) r h = refused_readable r h
-hurt_readable (t_lopen fid flags) r h = refused_readable r h
-hurt_readable (t_read fid offset count) r h = refused_readable r h
-hurt_readable _ r h = absurd h
+hurt_readable : (s : ServerState) (m : Message) (r : Reply) → IsHurtReply s m r → IsReadableReply r
+hurt_readable s (t_attach fid afid uname aname n_uname) r h = refused_readable r h
+hurt_readable s (t_walk fid newfid wnames) r h = ⊎_elim (λ is. refused_readable r is) (λ part. part_readable s fid wnames r part) h
+hurt_readable s (t_getattr fid request_mask) r h = refused_readable r h
+hurt_readable s (t_lopen fid flags) r h = refused_readable r h
+hurt_readable s (t_read fid offset count) r h = refused_readable r h
+hurt_readable s _ r h = absurd h
 
 pub outcome_readable : (s : ServerState) (m : Message) (r : Reply) (s1 : ServerState) (f0 f1 : ℕ) → IsBounded m → Outcome s m r s1 f0 f1 → IsReadableReply r
 outcome_readable s m r s1 f0 f1 b o =
-    ⊎_elim (λ is. subst IsReadableReply (sym (ap (λ (x : Reply × ServerState). x.0) is)) (core_readable s m b)) (λ h. hurt_readable m r h.1) o
+    ⊎_elim (λ is. subst IsReadableReply (sym (ap (λ (x : Reply × ServerState). x.0) is)) (core_readable s m b)) (λ h. hurt_readable s m r h.1) o

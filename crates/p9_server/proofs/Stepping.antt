@@ -33,7 +33,7 @@ module _ {A : Type 0} (m : Message) (reply : A → Reply) (s0 s1 : ServerState) 
   step_refused e told kept same count =
       step_errno e ((λ j. pair (lerror e) (same j)) ∙ (λ j. pair (lerror e) (sym (settled_kept s0 kept) j)) ∙ sym (ap (λ (x : Reply × ServerState). pair x.0 (settled x.1)) told)) count
 
-  pub step_fault : IsHurtReply m (lerror EIO) → s1 ≡ s0 → Faulted f0 f1 → steady ≡ false → Steps m reply s0 s1 steady f0 f1 (Err Fault)
+  pub step_fault : IsHurtReply s0 m (lerror EIO) → s1 ≡ s0 → Faulted f0 f1 → steady ≡ false → Steps m reply s0 s1 steady f0 f1 (Err Fault)
   step_fault hurt same fault loose = record { answer = inr (fault.1, hurt, same); rises = fault.0; steadily = not_steady steady f0 f1 loose }
 
   pub step_no_memory : s1 ≡ s0 → f1 ≡ f0 → Steps m reply s0 s1 steady f0 f1 (Err NoMemory)

@@ -19,6 +19,7 @@ use Rattle.p9_tmsg.specs.Messages.Message.{walk}
 use Rattle.p9_rmsg.specs.Replies.{Reply}
 use Rattle.p9_rmsg.specs.Replies.Reply.{walk as walked, lerror}
 use Rattle.fid_model.specs.Fids.{Fids, Fid, ServerState, closed, settled, is_held as is_named}
+use Rattle.fid_model.specs.Handling.{IsFrontOfWalk}
 use Rattle.fid_model.specs.Answers.{WALK_LIMIT, walk_core, walk_from, walk_told, walk_names}
 use Rattle.fid_model.proofs.FidCounts.{fid_count-named}
 use Rattle.fid_model.proofs.Keeping.{settled_kept}
@@ -159,7 +160,12 @@ module _ {V : Type 0} (items : V → List QidStruct) (t : Tree) (fids : Fids) (m
           ((λ j. pair (walks items v) (after_same j)) ∙ (λ j. pair (walks items v) (sym (settled_kept state kept) j)) ∙ sym (ap (λ (x : Reply × ServerState). pair x.0 (settled x.1)) told)) c.counted
       walk_some some Fault no_memory w c =
           let many : 1 ≤ length (map qid_plain (items v)) = let l = length-map (items v) qid_plain in omega arith in
-          record { answer = inr (c.counted.0.1, inr (many, w.exactly many), after_same); rises = c.counted.0.0; steadily = not_steady steady f0 f1 c.counted.1 }
+          let front = w.exactly many in
+          let s = starts fids settings.limit fid newfid (length names) start begins in
+          let from : IsFrontOfWalk settings.casefold t names s.fid_state.ino (map qid_plain (items v)) =
+          subst (λ (b : Bool). IsFrontOfWalk b t names s.fid_state.ino (map qid_plain (items v))) (sym plain)
+          (subst (λ (i : ℕ). IsFrontOfWalk false t names i (map qid_plain (items v))) (sym s.ino) front.1) in
+          record { answer = inr (c.counted.0.1, inr (many, front.0, (s.fid_state, s.known, from)), after_same); rises = c.counted.0.0; steadily = not_steady steady f0 f1 c.counted.1 }
       walk_some some NoMemory no_memory w c = absurd (no_memory refl)
 
       -- one that stops before, why it does

@@ -12,6 +12,7 @@ use Rattle.tree_model.specs.declared.attributes.HostError.{HostError}
 use Rattle.tree_model.specs.declared.attributes.HostError.TheVariants.{Errno, Fault, NoMemory}
 use Rattle.tree_host.specs.Holds.{Holds, hold_count, is_held, held_less}
 use Rattle.p9_wire.specs.declared.qid.Qid.{Qid as QidStruct}
+use Rattle.fid_model.specs.Handling.{IsFrontOfWalk}
 use Rattle.fid_model.specs.Answers.{Walked, walk_names, walked_on, step_to, qid_at, qid_told}
 use Rattle.p9_server.specs.Holding.{IsMore, IsSame}
 use Rattle.p9_server.specs.Walking.{Finds, Walks, own_hold}
@@ -163,9 +164,16 @@ module _ {t0 t : Tree} {h0 h : Holds} {names : List (List ℕ)} {start at k : �
         ∙ ap (λ (r : Result ℕ ℕ). ((walk_names false t0 (take k names) start).0 ++ (walked_on t0 (walk_names false t0 (drop (suc k) names)) r).0, (walked_on t0 (walk_names false t0 (drop (suc k) names)) r).1))
         (ap (λ (u : Tree). step_to false u at name) (sym w.tree) ∙ told)
 
+    -- the qids so far are those of the names so far
+    front : IsFrontOfWalk false t0 names start (map qid_plain qids)
+    front = (
+      at,
+      ap (λ (n : ℕ). walk_names false t0 (take n names) start) (length-map qids qid_plain ∙ w.count) ∙ (λ j. (sym w.found j, w.stands j)),
+    )
+
     pub stopped_walks : (e : HostError) → Finds t (step_to false t at name) (Err e) → Walks t0 names start (map qid_plain qids) (Err e)
     stopped_walks (Errno e) f = record { exactly = (w.found ∙ sym (append-nil _) ∙ sym (ap (λ (x : Walked). x.0) (refused_names e f.exactly)), ap (λ (x : Walked). x.1) (refused_names e f.exactly)) }
-    stopped_walks Fault f = record { exactly = λ some. let count = length-map qids qid_plain in let had = w.count in omega arith }
+    stopped_walks Fault f = record { exactly = λ some. (let count = length-map qids qid_plain in let had = w.count in omega arith, front) }
     stopped_walks NoMemory f = record { exactly = tt }
 
   -- all names were walked

@@ -6,6 +6,7 @@ use Rattle.tree_model.specs.declared.attributes.Attr.{Attr}
 use Rattle.tree_model.specs.declared.attributes.HostError.{HostError}
 use Rattle.tree_model.specs.declared.attributes.HostError.TheVariants.{Errno, Fault, NoMemory}
 use Rattle.fid_model.specs.Answers.{walk_names}
+use Rattle.fid_model.specs.Handling.{IsFrontOfWalk}
 
 abbrev pub FindsBy : Tree → Result ℕ ℕ → Result Attr HostError → Type 0
 FindsBy t told (Ok a) = (told ≡ Ok a.ino) × (stat_of t a.ino ≡ Ok a)
@@ -25,7 +26,7 @@ own_hold (suc n) at i = cond (at == i) 1 0
 abbrev pub WalksBy : Tree → List (List ℕ) → ℕ → List Qid → Result ℕ HostError → Type 0
 WalksBy t names start qids (Ok at) = (qids ≡ (walk_names false t names start).0) × ((walk_names false t names start).1 ≡ Ok at)
 WalksBy t names start qids (Err (Errno e)) = (qids ≡ (walk_names false t names start).0) × ((walk_names false t names start).1 ≡ Err e)
-WalksBy t names start qids (Err Fault) = 1 ≤ length qids → length qids < length names
+WalksBy t names start qids (Err Fault) = 1 ≤ length qids → (length qids < length names) × IsFrontOfWalk false t names start qids
 WalksBy t names start qids (Err NoMemory) = ⊤
 
 -- the whole walk, or a front of it up to its first refusal or a fault
