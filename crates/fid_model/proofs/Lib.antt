@@ -1,3 +1,4 @@
 pub mod Keeping
 pub mod FidCounts
 pub mod Replies
+pub mod Sampling

@@ -1,6 +1,7 @@
 //! The 9P server as a machine on fids, and the trait of what serves a tree by it.
 #![tactic(auto)]
 
+pub mod examples;
 pub mod laws;
 mod nine;
 pub mod sizes;
