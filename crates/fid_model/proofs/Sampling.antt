@@ -1,18 +1,17 @@
 -- The fid machine on a small server: its answers follow by computation from what its maps have.
 use Rattle.std.proofs.Common.{◌≡◌, ℕ, ◌+◌, Bool, true, false, cond, List, [], ◌∷◌, ap, ◌∙◌, Option, Some, None, Result, Ok, Err, arith}
-use Rattle.std.specs.Prelude.{codes, is_some, nat_le, option_map, option_and_then}
+use Rattle.std.specs.Prelude.{codes, is_some, nat_le}
 use Rattle.std.specs.Ordering.{nat_cmp}
 use Rattle.std.specs.Cmp.{nat_cmp_total}
 use Rattle.std.specs.FinMap.{get, insert, remove, empty, len, len-insert, len-empty, get-empty}
 use Rattle.port_base.specs.declared.errno.TheConstants.{EBADF, EINVAL, EISDIR, ENFILE, ENOENT, ENOTDIR}
 use Rattle.port_base.proofs.ByComputing.{name_word, name_three_dots}
-use Rattle.tree_model.specs.Tree.{Record, Records}
-use Rattle.tree_model.specs.Finding.{find, ino_among, entries_of, root_of, directory_or_not}
+use Rattle.tree_model.specs.Finding.{find, root_of}
 use Rattle.tree_model.specs.Attributes.{attr_or_missing}
-use Rattle.tree_model.specs.Making.{top_record, file_record, joined_by, changed}
-use Rattle.tree_model.specs.Samples.{born, alone, hello, world, sample}
+use Rattle.tree_model.specs.Samples.{hello, sample}
 use Rattle.tree_model.proofs.Maps.{inserted, insert_keeps}
-use Rattle.tree_model.proofs.Sampling.{open_top, read_file}
+use Rattle.tree_model.proofs.Sampling.{looked_up, top_at, file_at, found, open_top, read_file}
+use Rattle.tree_model.proofs.Telling.{root_top}
 use Rattle.p9_tmsg.specs.Messages.Message.{attach as t_attach, clunk as t_clunk, getattr as t_getattr, lopen as t_lopen, read as t_read, walk as t_walk}
 use Rattle.p9_rmsg.specs.Replies.{Reply}
 use Rattle.p9_rmsg.specs.Replies.Reply.{attach as r_attach, clunk as r_clunk, lerror as r_lerror, lopen as r_lopen, read as r_read, walk as r_walk}
@@ -23,35 +22,11 @@ use Rattle.fid_model.specs.Samples.{server, with_open, top_qid, file_qid}
 
 -- ---- the tree
 
-abbrev directory : Record
-directory = joined_by hello 2 (top_record born 493 1 2)
-
-abbrev with_file : Records
-with_file = insert alone.records 2 (file_record born world)
-
-records_are : sample.records ≡ insert with_file 1 directory
-records_are = ap (λ o. changed (joined_by hello 2) o with_file 1) (insert_keeps alone.records 2 (file_record born world) 1 (omega arith) ∙ inserted empty 1 (top_record born 493 1 2))
-
-top_at : get sample.records 1 ≡ Some directory
-top_at = ap (λ rs. get rs 1) records_are ∙ inserted with_file 1 directory
-
-file_at : get sample.records 2 ≡ Some (file_record born world)
-file_at = ap (λ rs. get rs 2) records_are ∙ insert_keeps with_file 1 directory 2 (omega arith) ∙ inserted alone.records 2 (file_record born world)
-
-abbrev looked_up : List ℕ → Option Record → Result ℕ ℕ
-looked_up name o = ino_among false name (option_and_then entries_of (option_map (λ (r : Record). r.body) o))
-
-found : find false sample 1 hello ≡ Ok 2
-found = ap (looked_up hello) top_at
-
 not_found : find false sample 1 (codes "...") ≡ Err ENOENT
-not_found = ap (looked_up (codes "...")) top_at
+not_found = ap (looked_up false (codes "...")) top_at
 
 in_file : find false sample 2 hello ≡ Err ENOTDIR
-in_file = ap (looked_up hello) file_at
-
-top_is_root : root_of sample [] ≡ Ok 1
-top_is_root = ap (λ o. directory_or_not (option_map (λ (r : Record). r.body) o) 1) top_at
+in_file = ap (looked_up false hello) file_at
 
 qid_of_top : qid_at sample 1 ≡ top_qid
 qid_of_top = ap (λ o. qid_told (attr_or_missing 1 o)) top_at
@@ -109,7 +84,7 @@ attach_from s fid o full = cond (is_some o) (r_lerror EBADF, s) (cond full (r_le
 pub attach_new : core server (t_attach 8 4294967295 [] [] 0) ≡ (r_attach top_qid, record server { fids = insert server.fids 8 (closed 1) })
 attach_new =
     ap (λ o. attach_from server 8 o (nat_le 2 (len server.fids))) eight ∙ ap (attach_from server 8 None) room
-    ∙ ap (attached server 8) top_is_root ∙ ap (λ q. (r_attach q, record server { fids = insert server.fids 8 (closed 1) })) qid_of_top
+    ∙ ap (attached server 8) root_top ∙ ap (λ q. (r_attach q, record server { fids = insert server.fids 8 (closed 1) })) qid_of_top
 
 pub attach_used : core server (t_attach 7 4294967295 [] [] 0) ≡ (r_lerror EBADF, server)
 attach_used = ap (λ o. attach_from server 7 o (nat_le 2 (len server.fids))) seven

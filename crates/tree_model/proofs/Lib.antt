@@ -23,3 +23,4 @@ pub mod Climbing
 pub mod Renaming
 pub mod Reading
 pub mod Sampling
+pub mod Telling

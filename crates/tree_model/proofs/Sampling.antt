@@ -29,7 +29,7 @@ use Rattle.tree_model.proofs.Keeping.{named_is_linked}
 first_at : get alone.records 1 ≡ Some (top_record born 493 1 2)
 first_at = inserted empty 1 (top_record born 493 1 2)
 
-abbrev directory : Record
+abbrev pub directory : Record
 directory = joined_by hello 2 (top_record born 493 1 2)
 
 abbrev records : Records
@@ -38,26 +38,26 @@ records = insert (insert alone.records 2 (file_record born world)) 1 directory
 records_are : sample.records ≡ records
 records_are = ap (λ o. changed (joined_by hello 2) o (insert alone.records 2 (file_record born world)) 1) (insert_keeps alone.records 2 (file_record born world) 1 (omega arith) ∙ first_at)
 
-top_at : get sample.records 1 ≡ Some directory
+pub top_at : get sample.records 1 ≡ Some directory
 top_at = ap (λ rs. get rs 1) records_are ∙ inserted (insert alone.records 2 (file_record born world)) 1 directory
 
-file_at : get sample.records 2 ≡ Some (file_record born world)
+pub file_at : get sample.records 2 ≡ Some (file_record born world)
 file_at = ap (λ rs. get rs 2) records_are ∙ insert_keeps (insert alone.records 2 (file_record born world)) 1 directory 2 (omega arith) ∙ inserted alone.records 2 (file_record born world)
 
-nothing_else : (q : ℕ) → q ≢ 1 → q ≢ 2 → get sample.records q ≡ None
+pub nothing_else : (q : ℕ) → q ≢ 1 → q ≢ 2 → get sample.records q ≡ None
 nothing_else q n1 n2 =
     ap (λ rs. get rs q) records_are ∙ insert_keeps (insert alone.records 2 (file_record born world)) 1 directory q n1
     ∙ insert_keeps alone.records 2 (file_record born world) q n2 ∙ insert_keeps empty 1 (top_record born 493 1 2) q n1 ∙ get-empty nat_cmp q
 
 -- ---- what is told
 
-abbrev looked_up : Bool → List ℕ → Option Record → Result ℕ ℕ
+abbrev pub looked_up : Bool → List ℕ → Option Record → Result ℕ ℕ
 looked_up casefold name o = ino_among casefold name (option_and_then entries_of (option_map (λ (r : Record). r.body) o))
 
-found : lookup_of sample 1 hello ≡ Ok 2
+pub found : lookup_of sample 1 hello ≡ Ok 2
 found = ap (looked_up false hello) top_at
 
-not_found : lookup_of sample 1 (codes "Hello") ≡ Err ENOENT
+pub not_found : lookup_of sample 1 (codes "Hello") ≡ Err ENOENT
 not_found = ap (looked_up false (codes "Hello")) top_at
 
 folded : find true sample 1 (codes "HELLO") ≡ Ok 2
@@ -69,7 +69,7 @@ in_file = ap (looked_up false hello) file_at
 names_of_path : path_names (codes "//a/b/") ≡ codes "a" ∷ codes "b" ∷ []
 names_of_path = refl
 
-told : stat_of sample 2 ≡ Ok (record { ino = 2; kind = kind.File; mode = 420; uid = 5; gid = 6; links = 1; size = 5; atime = born; mtime = born; ctime = born })
+pub told : stat_of sample 2 ≡ Ok (record { ino = 2; kind = kind.File; mode = 420; uid = 5; gid = 6; links = 1; size = 5; atime = born; mtime = born; ctime = born })
 told = ap (attr_or_missing 2) file_at
 
 listed_first : peek_entry_of sample 1 0 ≡ Some (record { cookie = 1; name = hello; ino = 2 })
@@ -122,10 +122,10 @@ all_linked = ap (λ (rs : Records). let left : Tree = record sample { records = 
 
 -- ---- opening, reading and finding
 
-body_of_top : body_at sample.records 1 ≡ Some directory.body
+pub body_of_top : body_at sample.records 1 ≡ Some directory.body
 body_of_top = ap (option_map (λ (r : Record). r.body)) top_at
 
-body_of_file : body_at sample.records 2 ≡ Some (File (codes "world"))
+pub body_of_file : body_at sample.records 2 ≡ Some (File (codes "world"))
 body_of_file = ap (option_map (λ (r : Record). r.body)) file_at
 
 abbrev opened : ℕ → Option Body → Result (Unit {0}) ℕ
@@ -206,7 +206,7 @@ gone held dir name r = removed_at held sample dir name (unless_directory sample.
 pub file_gone : (held : ℕ → Bool) → unlink_of held sample 1 hello ≡ Ok (tt, keep held (without_entry sample 1 hello 2))
 file_gone held = ap (gone held 1 hello) found ∙ ap (λ o. removed_at held sample 1 hello (cond (is_directory_at o) (Err EISDIR) (Ok 2))) body_of_file
 
-b_missing : lookup_of sample 1 (codes "b") ≡ Err ENOENT
+pub b_missing : lookup_of sample 1 (codes "b") ≡ Err ENOENT
 b_missing = ap (looked_up false (codes "b")) top_at
 
 pub none_gone : (held : ℕ → Bool) → unlink_of held sample 1 (codes "b") ≡ Err ENOENT

@@ -1,16 +1,19 @@
 //! Definitions computed on a small tree: a top directory with the file `hello`, inode 2, of five bytes.
 ghost use Rattle.std.specs.Prelude.{◌≡◌, ℕ, Bool, true, false, Ok, Err, Some, None, [], ◌∷◌, codes};
+ghost use Rattle.std.specs.FinMap.{insert, empty};
 ghost use Rattle.port_base.specs.declared.errno.TheConstants.{EPERM, ENOENT, EEXIST, ENOTDIR, EISDIR, EINVAL, EFBIG, ENOTEMPTY, ELOOP, EOPNOTSUPP};
 ghost use Rattle.tree_model.specs.declared.attributes.Kind.TheVariants as kind;
 ghost use Rattle.tree_model.specs.Samples.{born, alone, sample, hello};
 ghost use Rattle.tree_model.specs.Tree.{keep};
 ghost use Rattle.tree_model.specs.Tree.Body.{File, Directory, Link};
 ghost use Rattle.tree_model.specs.Making.{top_record, joined_by};
-ghost use Rattle.tree_model.specs.Reading.{entry_after_of};
+ghost use Rattle.tree_model.specs.Finding.{find, lookup_of, root_of};
+ghost use Rattle.tree_model.specs.Reading.{above_of, entry_after_of, next_cookie_of};
+ghost use Rattle.tree_model.specs.Settings.{mapped};
 ghost use Rattle.tree_model.specs.Placing.{add_directory_of, add_link_of, add_hard_of, with_record, with_link, directory_record, link_record};
-ghost use Rattle.tree_model.specs.Attributing.{resized, written, fitting, set_len_of, write_of, set_times_of, refused_for_link, with_changed, retimed, rewritten_at};
+ghost use Rattle.tree_model.specs.Attributing.{resized, written, fitting, set_len_of, write_of, set_times_of, refused_for_link, with_changed, retimed, rewritten_at, set_mode_of, remoded, set_owner_of, owned_by, touch_ctime_of, restamped};
 ghost use Rattle.tree_model.specs.Opening.{open_check_of, open_refused, read_of, readlink_of, readlink_body, found_at};
-ghost use Rattle.tree_model.specs.Attributes.{statfs_of};
+ghost use Rattle.tree_model.specs.Attributes.{statfs_of, stat_of, qid_of};
 ghost use Rattle.tree_model.specs.Creating.{stamped, with_new, with_name, empty_file, empty_directory, create_of, mkdir_of, link_of};
 ghost use Rattle.tree_model.specs.Unlinking.{without, parted_by, links_left, without_entry, unless_directory, if_empty, unlink_of, rmdir_of};
 ghost use Rattle.tree_model.specs.Renaming.{climbs_past, is_at_or_below, place_refused, has_no_room, placed_below, with_moved, rename_of};
@@ -49,6 +52,43 @@ pub fn finding()
     ensures top { found_at sample [] ≡ Some 1 }
     ensures missing { found_at sample (codes "Hello" ∷ []) ≡ None }
     ensures below { found_at sample (hello ∷ hello ∷ []) ≡ None }
+{}
+
+/// Names with and without regard to case, the root of a share, and what a directory knows of itself.
+#[tactic(auto, using(crate::proofs::Telling::exact, crate::proofs::Telling::other_case, crate::proofs::Telling::folded_case, crate::proofs::Telling::root_top, crate::proofs::Telling::root_file, crate::proofs::Telling::root_missing, crate::proofs::Telling::above_top, crate::proofs::Telling::next_in_top, crate::proofs::Telling::next_in_file))]
+pub fn looking_up()
+    ensures exact { lookup_of sample 1 hello ≡ Ok 2 }
+    ensures other_case { lookup_of sample 1 (codes "Hello") ≡ Err ENOENT }
+    ensures folded { find true sample 1 (codes "Hello") ≡ Ok 2 }
+    ensures root { root_of sample [] ≡ Ok 1 }
+    ensures root_file { root_of sample (hello ∷ []) ≡ Err ENOTDIR }
+    ensures root_missing { root_of sample (codes "b" ∷ []) ≡ Err ENOENT }
+    ensures above { above_of sample 1 ≡ 1 }
+    ensures next_cookie { next_cookie_of sample 1 ≡ 2 }
+    ensures no_cookie { next_cookie_of sample 2 ≡ 0 }
+{}
+
+/// What is told of the file: by `stat`, as a qid, and with the owner that a map gives.
+#[tactic(auto, using(crate::proofs::Telling::told_of_file, crate::proofs::Telling::owner_mapped, crate::proofs::Telling::owner_stays))]
+pub fn telling()
+    ensures told { stat_of sample 2 ≡ Ok (record { ino = 2; kind = kind.File; mode = 420; uid = 5; gid = 6; links = 1; size = 5; atime = born; mtime = born; ctime = born }) }
+    ensures qid { qid_of (record { ino = 2; kind = kind.Directory; mode = 420; uid = 5; gid = 6; links = 1; size = 5; atime = born; mtime = record { sec = 4294967303; nsec = 1 }; ctime = born }) ≡ (128, (7, 2)) }
+    ensures mapped { mapped (insert empty 5 50) 5 ≡ 50 }
+    ensures unmapped { mapped empty 5 ≡ 5 }
+{}
+
+/// Modes, owners and ctimes that are set, and what isn't there.
+#[tactic(auto, using(crate::proofs::Telling::mode_set, crate::proofs::Telling::mode_missing, crate::proofs::Telling::owner_set, crate::proofs::Telling::owner_missing, crate::proofs::Telling::ctime_set, crate::proofs::Telling::ctime_missing))]
+pub fn stamping()
+    ensures mode { remoded 33206 (record { sec = 9; nsec = 0 }) (top_record born 493 1 2) ≡ record (top_record born 493 1 2) { mode = 438; ctime = record { sec = 9; nsec = 0 } } }
+    ensures file_mode { set_mode_of sample 2 384 ≡ Ok (tt, with_changed (remoded 384 born) 2 sample) }
+    ensures missing_mode { set_mode_of sample 3 384 ≡ Err ENOENT }
+    ensures owner { owned_by (Some 8) None (record { sec = 9; nsec = 0 }) (top_record born 493 1 2) ≡ record (top_record born 493 1 2) { uid = 8; ctime = record { sec = 9; nsec = 0 } } }
+    ensures file_owner { set_owner_of sample 2 None (Some 8) ≡ Ok (tt, with_changed (owned_by None (Some 8) born) 2 sample) }
+    ensures missing_owner { set_owner_of sample 3 None None ≡ Err ENOENT }
+    ensures ctime { restamped (record { sec = 9; nsec = 0 }) (top_record born 493 1 2) ≡ record (top_record born 493 1 2) { ctime = record { sec = 9; nsec = 0 } } }
+    ensures file_ctime { touch_ctime_of sample 2 ≡ Ok (tt, with_changed (restamped born) 2 sample) }
+    ensures missing_ctime { touch_ctime_of sample 3 ≡ Err ENOENT }
 {}
 
 /// Records and names that are added beside the file, and what is refused.
