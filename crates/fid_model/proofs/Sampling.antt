@@ -28,33 +28,33 @@ not_found = ap (looked_up false (codes "...")) top_at
 in_file : find false sample 2 hello ≡ Err ENOTDIR
 in_file = ap (looked_up false hello) file_at
 
-qid_of_top : qid_at sample 1 ≡ top_qid
+pub qid_of_top : qid_at sample 1 ≡ top_qid
 qid_of_top = ap (λ o. qid_told (attr_or_missing 1 o)) top_at
 
-qid_of_file : qid_at sample 2 ≡ file_qid
+pub qid_of_file : qid_at sample 2 ≡ file_qid
 qid_of_file = ap (λ o. qid_told (attr_or_missing 2 o)) file_at
 
 -- ---- the fids
 
-seven : get server.fids 7 ≡ Some (closed 1)
+pub seven : get server.fids 7 ≡ Some (closed 1)
 seven = inserted empty 7 (closed 1)
 
 none_of : (k : ℕ) → (k ≡ 7 → ⊥) → get server.fids k ≡ None
 none_of k other = insert_keeps empty 7 (closed 1) k other ∙ get-empty {X = Fid} nat_cmp k
 
-eight : get server.fids 8 ≡ None
+pub eight : get server.fids 8 ≡ None
 eight = none_of 8 (λ h. absurd (omega (arith, h)))
 
-nine : get server.fids 9 ≡ None
+pub nine : get server.fids 9 ≡ None
 nine = none_of 9 (λ h. absurd (omega (arith, h)))
 
-abbrev opened_file : Fid
+abbrev pub opened_file : Fid
 opened_file = record { ino = 2; open_state = Opened 0 false }
 
-eight_open : get with_open.fids 8 ≡ Some opened_file
+pub eight_open : get with_open.fids 8 ≡ Some opened_file
 eight_open = inserted server.fids 8 opened_file
 
-nine_with_open : get with_open.fids 9 ≡ None
+pub nine_with_open : get with_open.fids 9 ≡ None
 nine_with_open = insert_keeps server.fids 8 opened_file 9 (λ h. absurd (omega (arith, h))) ∙ nine
 
 one_fid : len server.fids ≡ 1
@@ -67,10 +67,10 @@ two_fids =
     len-insert nat_cmp_total server.fids 8 opened_file
     ∙ ap (λ (o : Option Fid). cond (is_some o) (len server.fids) (len server.fids + 1)) eight ∙ ap (λ k. k + 1) one_fid
 
-room : nat_le 2 (len server.fids) ≡ false
+pub room : nat_le 2 (len server.fids) ≡ false
 room = ap (nat_le 2) one_fid
 
-no_room : nat_le 2 (len with_open.fids) ≡ true
+pub no_room : nat_le 2 (len with_open.fids) ≡ true
 no_room = ap (nat_le 2) two_fids
 
 abbrev Answer : Type 0

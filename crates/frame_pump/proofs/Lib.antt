@@ -1,3 +1,4 @@
 pub mod Answering
 pub mod Pumping
 pub mod Telling
+pub mod Sampling

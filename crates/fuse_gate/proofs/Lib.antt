@@ -21,3 +21,4 @@ mod Telling
 mod Stored
 pub mod Replying
 pub mod Reading
+pub mod Sampling

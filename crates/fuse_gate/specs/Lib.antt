@@ -8,3 +8,4 @@ pub mod Changes
 pub mod Pump
 pub mod Playing
 pub mod Files
+pub mod Samples

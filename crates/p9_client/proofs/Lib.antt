@@ -7,3 +7,4 @@ mod Attaching
 pub mod Only
 mod Opening
 mod Sizes
+pub mod Sampling

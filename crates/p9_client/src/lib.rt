@@ -2,5 +2,6 @@
 #![tactic(auto)]
 
 pub mod calls;
+pub mod examples;
 mod exchange;
 pub mod files;

@@ -17,3 +17,4 @@ pub mod Emptying
 pub mod Unserved
 pub mod Opening
 pub mod Reading
+pub mod Sampling

@@ -2,6 +2,7 @@
 #![tactic(auto)]
 
 mod config;
+pub mod examples;
 mod fid_state;
 mod naming;
 mod qids;

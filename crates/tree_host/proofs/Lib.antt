@@ -6,3 +6,4 @@ pub mod Writing
 pub mod Making
 pub mod Leaving
 pub mod Moving
+pub mod Sampling

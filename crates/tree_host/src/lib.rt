@@ -3,6 +3,7 @@
 
 mod change;
 pub mod entry;
+pub mod examples;
 mod holds;
 pub mod host;
 pub mod laws;

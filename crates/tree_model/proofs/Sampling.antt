@@ -63,7 +63,7 @@ not_found = ap (looked_up false (codes "Hello")) top_at
 folded : find true sample 1 (codes "HELLO") ≡ Ok 2
 folded = ap (looked_up true (codes "HELLO")) top_at
 
-in_file : lookup_of sample 2 hello ≡ Err ENOTDIR
+pub in_file : lookup_of sample 2 hello ≡ Err ENOTDIR
 in_file = ap (looked_up false hello) file_at
 
 names_of_path : path_names (codes "//a/b/") ≡ codes "a" ∷ codes "b" ∷ []
@@ -107,7 +107,7 @@ added = ap (λ o. add_file_unless (add_refused (new_name_refused true limits.ent
 file_is_linked : is_linked sample.records 2 ≡ true
 file_is_linked = named_is_linked sample.records 2 (entry_is_counted sample.records 1 directory (record { cookie = 1; name = hello; ino = 2 }) top_at (0, omega arith, refl))
 
-all_linked : linked sample ≡ sample
+pub all_linked : linked sample ≡ sample
 all_linked = ap (λ (rs : Records). let left : Tree = record sample { records = rs } in left) (same_gets (retain_keys sample.records (is_linked sample.records)) sample.records (λ q.
     retained sample.records (is_linked sample.records) q ∙ ⊎_elim
     (λ one. ap (λ q. cond (is_linked sample.records q) (get sample.records q) None) one ∙ sym (ap (get sample.records) one))

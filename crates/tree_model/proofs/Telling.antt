@@ -4,25 +4,17 @@ use Rattle.std.specs.Prelude.{codes, option_map, unwrap_or}
 use Rattle.std.specs.Ordering.{nat_cmp}
 use Rattle.std.specs.FinMap.{insert, empty, get-empty}
 use Rattle.port_base.specs.declared.errno.TheConstants.{ENOENT, ENOTDIR}
-use Rattle.tree_model.specs.declared.attributes.Kind.TheVariants as kind
 use Rattle.tree_model.specs.Tree.{Tree, Record, Body, body_at}
-use Rattle.tree_model.specs.Finding.{find, lookup_of, root_of, directory_or_not, walk_end}
+use Rattle.tree_model.specs.Finding.{find, root_of, directory_or_not, walk_end}
 use Rattle.tree_model.specs.Reading.{above, above_of, next_cookie_of}
 use Rattle.tree_model.specs.Making.{next_cookie}
-use Rattle.tree_model.specs.Attributes.{stat_of}
 use Rattle.tree_model.specs.Settings.{mapped}
 use Rattle.tree_model.specs.Attributing.{changing, refused_at, refused_for_link, never, with_changed, set_mode_of, remoded, set_owner_of, owned_by, touch_ctime_of, restamped}
 use Rattle.tree_model.specs.Samples.{born, hello, sample}
 use Rattle.tree_model.proofs.Maps.{inserted}
-use Rattle.tree_model.proofs.Sampling.{looked_up, top_at, nothing_else, found, not_found, told, body_of_top, body_of_file, b_missing}
+use Rattle.tree_model.proofs.Sampling.{looked_up, top_at, nothing_else, found, body_of_top, body_of_file, b_missing}
 
 -- ---- names
-
-pub exact : lookup_of sample 1 hello ≡ Ok 2
-exact = found
-
-pub other_case : lookup_of sample 1 (codes "Hello") ≡ Err ENOENT
-other_case = not_found
 
 pub folded_case : find true sample 1 (codes "Hello") ≡ Ok 2
 folded_case = ap (looked_up true (codes "Hello")) top_at
@@ -46,9 +38,6 @@ pub next_in_file : next_cookie_of sample 2 ≡ 0
 next_in_file = ap (λ (b : Option Body). unwrap_or (option_map next_cookie b) 0) body_of_file
 
 -- ---- attributes
-
-pub told_of_file : stat_of sample 2 ≡ Ok (record { ino = 2; kind = kind.File; mode = 420; uid = 5; gid = 6; links = 1; size = 5; atime = born; mtime = born; ctime = born })
-told_of_file = told
 
 pub owner_mapped : mapped (insert empty 5 50) 5 ≡ 50
 owner_mapped = ap (λ (o : Option ℕ). unwrap_or o 5) (inserted empty 5 50)

@@ -55,7 +55,7 @@ pub fn finding()
 {}
 
 /// Names with and without regard to case, the root of a share, and what a directory knows of itself.
-#[tactic(auto, using(crate::proofs::Telling::exact, crate::proofs::Telling::other_case, crate::proofs::Telling::folded_case, crate::proofs::Telling::root_top, crate::proofs::Telling::root_file, crate::proofs::Telling::root_missing, crate::proofs::Telling::above_top, crate::proofs::Telling::next_in_top, crate::proofs::Telling::next_in_file))]
+#[tactic(auto, using(crate::proofs::Sampling::found, crate::proofs::Sampling::not_found, crate::proofs::Telling::folded_case, crate::proofs::Telling::root_top, crate::proofs::Telling::root_file, crate::proofs::Telling::root_missing, crate::proofs::Telling::above_top, crate::proofs::Telling::next_in_top, crate::proofs::Telling::next_in_file))]
 pub fn looking_up()
     ensures exact { lookup_of sample 1 hello ≡ Ok 2 }
     ensures other_case { lookup_of sample 1 (codes "Hello") ≡ Err ENOENT }
@@ -69,7 +69,7 @@ pub fn looking_up()
 {}
 
 /// What is told of the file: by `stat`, as a qid, and with the owner that a map gives.
-#[tactic(auto, using(crate::proofs::Telling::told_of_file, crate::proofs::Telling::owner_mapped, crate::proofs::Telling::owner_stays))]
+#[tactic(auto, using(crate::proofs::Sampling::told, crate::proofs::Telling::owner_mapped, crate::proofs::Telling::owner_stays))]
 pub fn telling()
     ensures told { stat_of sample 2 ≡ Ok (record { ino = 2; kind = kind.File; mode = 420; uid = 5; gid = 6; links = 1; size = 5; atime = born; mtime = born; ctime = born }) }
     ensures qid { qid_of (record { ino = 2; kind = kind.Directory; mode = 420; uid = 5; gid = 6; links = 1; size = 5; atime = born; mtime = record { sec = 4294967303; nsec = 1 }; ctime = born }) ≡ (128, (7, 2)) }

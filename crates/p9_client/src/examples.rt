@@ -1,0 +1,27 @@
+//! Opens and reads as those that ask are told them, computed on a small server: fid 7 names the top directory, and
+//! fid 8 the file `hello`, which is open to be read.
+ghost use Rattle.std.specs.Prelude.{◌≡◌, true, false, Ok, Err, Some, None, codes};
+ghost use Rattle.std.specs.FinMap.{insert};
+ghost use Rattle.port_base.specs.declared.errno.TheConstants.{EISDIR};
+ghost use Rattle.fid_model.specs.Fids.{closed};
+ghost use Rattle.fid_model.specs.Fids.OpenState.{Opened};
+ghost use Rattle.fid_model.specs.Samples.{server, with_open, top_qid};
+ghost use Rattle.p9_client.specs.Opening.{opened_told, is_readable_at, read_told};
+
+/// The directory, opened to be read; to be written it isn't.
+#[tactic(auto, using(crate::proofs::Sampling::open_read, crate::proofs::Sampling::open_written))]
+pub fn opening()
+    ensures to_read { opened_told server 7 (closed 1) 0 ≡ (Ok top_qid, record server { fids = insert server.fids 7 (record { ino = 1; open_state = Opened 0 false }) }) }
+    ensures to_write { opened_told server 7 (closed 1) 1 ≡ (Err EISDIR, server) }
+    ensures readable { is_readable_at (Some (record { ino = 2; open_state = Opened 0 false })) ≡ true }
+    ensures writable { is_readable_at (Some (record { ino = 2; open_state = Opened 1 false })) ≡ false }
+    ensures unknown { is_readable_at None ≡ false }
+{}
+
+/// Bytes of the file, as many as are asked for, are there and fit a message; a directory has none.
+#[tactic(auto, using(crate::proofs::Sampling::read_part, crate::proofs::Sampling::read_small, crate::proofs::Sampling::read_directory))]
+pub fn reading()
+    ensures part { read_told with_open 2 1 3 ≡ (Ok (codes "orl"), with_open) }
+    ensures small { (read_told (record with_open { msize = 13 }) 2 0 8).0 ≡ Ok (codes "wo") }
+    ensures directory { read_told server 1 0 8 ≡ (Err EISDIR, server) }
+{}

@@ -1,0 +1,58 @@
+//! What a server refuses, computed: roots and message sizes, new fids, walks and fids that aren't open. On the small
+//! server fid 7 names the top directory; with the open file, fid 8 names `hello`, and there is room for no third.
+ghost use Rattle.std.specs.Prelude.{◌≡◌, true, false, Ok, Err, Some, None, codes};
+ghost use Rattle.port_base.specs.declared.errno.TheConstants.{EBADF, EINVAL, EIO, ENFILE, ENOENT};
+ghost use Rattle.tree_model.specs.declared.attributes.HostError.TheVariants as host;
+ghost use Rattle.p9_wire.specs.declared.error.WireError.TheVariants as wire;
+ghost use Rattle.p9_rmsg.specs.Replies.Reply.{lerror};
+ghost use Rattle.fid_model.specs.Fids.{closed};
+ghost use Rattle.fid_model.specs.Fids.OpenState.{Opened};
+ghost use Rattle.fid_model.specs.Samples.{server, with_open};
+ghost use Rattle.p9_server.specs.Answering.{reply_told};
+ghost use Rattle.p9_server.specs.Configs.{config_refused, is_good_root};
+ghost use Rattle.p9_server.specs.Steps.{attach_refused, walk_start, ino_told, readable_told};
+ghost use Rattle.p9_server.specs.declared.config.ConfigError.TheVariants.{MsizeTooSmall, BadRoot};
+
+/// Roots are absolute paths of names without fault; the message size is looked at first.
+#[tactic(auto, using(crate::proofs::Sampling::named_root))]
+pub fn setting_up()
+    ensures top { is_good_root (codes "/") ≡ true }
+    ensures named { is_good_root (codes "//hello/") ≡ true }
+    ensures relative { is_good_root (codes "hello") ≡ false }
+    ensures above { is_good_root (codes "/..") ≡ false }
+    ensures small { config_refused 255 (codes "hello") ≡ Some MsizeTooSmall }
+    ensures bad { config_refused 256 (codes "hello") ≡ Some BadRoot }
+    ensures good { config_refused 256 (codes "/") ≡ None }
+{}
+
+/// A new fid isn't one that is there, and there must be room for it.
+#[tactic(auto, using(crate::proofs::Sampling::fid_free, crate::proofs::Sampling::fid_used, crate::proofs::Sampling::fids_full))]
+pub fn taking_fids()
+    ensures free { attach_refused server.fids 2 8 ≡ None }
+    ensures used { attach_refused server.fids 2 7 ≡ Some EBADF }
+    ensures full { attach_refused with_open.fids 2 9 ≡ Some ENFILE }
+{}
+
+/// Where walks begin: at the inode of a fid, to a free fid or to the same; or why they don't, in this order.
+#[tactic(auto, using(crate::proofs::Sampling::walk_begins, crate::proofs::Sampling::walk_stays, crate::proofs::Sampling::walk_onto_used, crate::proofs::Sampling::walk_from_none, crate::proofs::Sampling::walk_without_room, crate::proofs::Sampling::walk_of_many))]
+pub fn beginning_walks()
+    ensures begins { walk_start server.fids 2 7 8 1 ≡ Ok 1 }
+    ensures stays { walk_start with_open.fids 2 8 8 16 ≡ Ok 2 }
+    ensures onto_used { walk_start with_open.fids 2 9 8 1 ≡ Err EBADF }
+    ensures from_none { walk_start server.fids 2 9 8 1 ≡ Err EBADF }
+    ensures no_room { walk_start with_open.fids 2 8 9 17 ≡ Err ENFILE }
+    ensures too_many { walk_start server.fids 2 7 8 17 ≡ Err EINVAL }
+{}
+
+/// What is told of a fid, and the reply to a host's refusal, to its fault and to want of memory.
+pub fn answering()
+    ensures unknown { ino_told None ≡ Err (host.Errno EBADF) }
+    ensures known { ino_told (Some (closed 2)) ≡ Ok 2 }
+    ensures shut { readable_told (Some (closed 2)) ≡ Err (host.Errno EBADF) }
+    ensures to_read { readable_told (Some (record { ino = 2; open_state = Opened 0 false })) ≡ Ok 2 }
+    ensures to_write { readable_told (Some (record { ino = 2; open_state = Opened 1 false })) ≡ Err (host.Errno EBADF) }
+    ensures told { reply_told lerror (Ok 5) ≡ Ok (lerror 5) }
+    ensures refused { reply_told lerror (Err (host.Errno ENOENT)) ≡ Ok (lerror ENOENT) }
+    ensures fault { reply_told lerror (Err host.Fault) ≡ Ok (lerror EIO) }
+    ensures no_memory { reply_told lerror (Err host.NoMemory) ≡ Err wire.NoMemory }
+{}
