@@ -1,5 +1,5 @@
 -- Counts of a session and the first frames of an input, on small ones.
-use Rattle.std.proofs.Common.{ℕ, ◌≡◌, [], ◌∷◌, ◌++◌, ap, Some, arith}
+use Rattle.std.proofs.Common.{[], ◌∷◌, ◌++◌, ap, Some, arith}
 use Rattle.std.specs.Prelude.{take}
 use Rattle.fuse_wire.specs.Samples.{least}
 use Rattle.fuse_wire.proofs.Sampling.{ends_done, ends_spent}

@@ -31,7 +31,6 @@ pub fn attaching()
 {}
 
 /// Nodes and handles of the machine, the fids that stand for them, and a node that is looked up once more.
-#[tactic(auto, using(crate::proofs::Sampling::node_shown, crate::proofs::Sampling::handle_shown, crate::proofs::Sampling::node_counted, crate::proofs::Sampling::node_missing))]
 pub fn standing()
     ensures node { (a : Global) → get (machine_of (gate a) with_open).nodes 2 ≡ Some (record { ino = 2; count = 4 }) }
     ensures handle { (a : Global) → get (machine_of (gate a) with_open).handles 3 ≡ Some (record { ino = 2; access = 0; append = false }) }
@@ -53,7 +52,7 @@ pub fn reading()
 {}
 
 /// Attributes come through 9P as the machine lays them out; replies in bytes.
-#[tactic(auto, using(crate::proofs::Sampling::attributes_kept))]
+#[tactic(auto, using(crate::proofs::Sampling::attributes_kept, crate::proofs::Sampling::refusal_written, crate::proofs::Sampling::bytes_written))]
 pub fn replying()
     ensures attributes { let a : Attr = record { ino = 2; kind = kind.File; mode = 420; uid = 5; gid = 6; links = 1; size = 5; atime = born; mtime = born; ctime = born } in file_attributes (attributes_of a) ≡ fuse_attributes a }
     ensures refused { written 7 (laid_out (Refused 2)) ≡ 16 ∷ 0 ∷ 0 ∷ 0 ∷ 254 ∷ 255 ∷ 255 ∷ 255 ∷ 7 ∷ 0 ∷ 0 ∷ 0 ∷ 0 ∷ 0 ∷ 0 ∷ 0 ∷ [] }

@@ -1,5 +1,5 @@
 -- What a small server refuses: it follows by computation from what its map of fids has.
-use Rattle.std.proofs.Common.{◌≡◌, ℕ, Bool, true, cond, not, ◌&&◌, ◌==◌, ap, ◌∙◌, Option, Some, None, Result, Ok, Err}
+use Rattle.std.proofs.Common.{◌≡◌, ℕ, Bool, true, false, cond, ◌&&◌, ap, ◌∙◌, Option, Some, None, Result, Ok, Err}
 use Rattle.std.specs.Prelude.{codes, is_none, is_some, nat_le}
 use Rattle.std.specs.FinMap.{get, len}
 use Rattle.port_base.specs.declared.errno.TheConstants.{EBADF, EINVAL, ENFILE}
