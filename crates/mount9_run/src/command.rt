@@ -147,10 +147,7 @@ fn read_keys(alloc: Global, words: &Words) -> Result<DraftWords, WordsError>
         let Some(word) = words.get(i) else {
             unreachable!()
         };
-        match take_word(alloc, &mut draft, word) {
-            Ok(()) => {}
-            Err(e) => return Err(e),
-        }
+        take_word(alloc, &mut draft, word)?;
     }
     Ok(draft)
 }

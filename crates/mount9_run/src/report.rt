@@ -31,14 +31,8 @@ pub fn write_report<K: Sink>(
 ) -> Result<(), SinkFault>
     ensures { Wrote (K.sent out.old) (K.sent out.new) (K.faults out.old) (K.faults out.new) (verdict_line verdict ++ (tree_text (linked (tree host.now)) ++ closing table.now nine)) result }
 {
-    match write_verdict(alloc, out, verdict) {
-        Ok(()) => {}
-        Err(e) => return Err(e),
-    }
-    match write_tree(alloc, out, host) {
-        Ok(()) => {}
-        Err(e) => return Err(e),
-    }
+    write_verdict(alloc, out, verdict)?;
+    write_tree(alloc, out, host)?;
     write_closing(alloc, out, table, nine)
 }
 

@@ -97,10 +97,7 @@ fn write_whole<K: Sink>(
 ) -> Result<(), SinkFault>
     ensures { Wrote (K.sent out.old) (K.sent out.new) (K.faults out.old) (K.faults out.new) (report replies.now verdict (linked (tree host.now)) mount_table nine) result }
 {
-    match write_replies(alloc, out, replies) {
-        Ok(()) => {}
-        Err(fault) => return Err(fault),
-    }
+    write_replies(alloc, out, replies)?;
     let table = b"1 1 0:1 / / rw - rootfs rootfs rw\n";
     write_report(alloc, out, verdict, host, table, nine)
 }

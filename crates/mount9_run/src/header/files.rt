@@ -149,17 +149,9 @@ pub fn file_lines<'a>(
 {
     let mut at = start;
     'lines: loop {
-        let (line, next) = match next_line(at) {
-            Ok(taken) => taken,
-            Err(e) => return Err(e),
-        };
-        match take_file(alloc, at.number, host, line) {
-            Ok(more) => {
-                if !more {
-                    return Ok(at);
-                }
-            }
-            Err(e) => return Err(e),
+        let (line, next) = next_line(at)?;
+        if !take_file(alloc, at.number, host, line)? {
+            return Ok(at);
         }
         at = next;
     }

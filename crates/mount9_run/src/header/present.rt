@@ -40,17 +40,9 @@ pub fn present_lines<'a>(alloc: Global, start: Place<'a>) -> Result<(Words, Plac
     let mut present = Words::new(alloc);
     let mut at = start;
     'lines: loop {
-        let (line, next) = match next_line(at) {
-            Ok(taken) => taken,
-            Err(e) => return Err(e),
-        };
-        match take_present(alloc, at.number, &mut present, line) {
-            Ok(more) => {
-                if !more {
-                    return Ok((present, at));
-                }
-            }
-            Err(e) => return Err(e),
+        let (line, next) = next_line(at)?;
+        if !take_present(alloc, at.number, &mut present, line)? {
+            return Ok((present, at));
         }
         at = next;
     }

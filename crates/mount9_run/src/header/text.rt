@@ -60,10 +60,9 @@ pub fn take_text<S: Source>(source: &mut S, text: &mut Vec<u8>) -> Result<(), Te
             }
             Err(_) => return Err(TextError::Read),
         }
-        match scan(text, start, next[0]) {
-            Ok(None) => return Ok(()),
-            Ok(Some(more)) => start = more,
-            Err(e) => return Err(e),
+        match scan(text, start, next[0])? {
+            None => return Ok(()),
+            Some(more) => start = more,
         }
     }
     Err(TextError::NoEnd)

@@ -35,10 +35,7 @@ fn write_entries<K: Sink>(
 {
     let mut at = 0;
     'entries: while let Some((cookie, child, name)) = host.peek_entry(dir, at) {
-        match write_entry_line(alloc, out, buffer, dir, cookie, child, name) {
-            Ok(()) => {}
-            Err(e) => return Err(e),
-        }
+        write_entry_line(alloc, out, buffer, dir, cookie, child, name)?;
         at = cookie;
     }
     Ok(())
@@ -57,10 +54,7 @@ fn write_directory<K: Sink>(
 {
     let above = host.above(attr.ino);
     let next_cookie = host.next_cookie(attr.ino);
-    match write_directory_line(alloc, out, buffer, attr, above, next_cookie) {
-        Ok(()) => {}
-        Err(e) => return Err(e),
-    }
+    write_directory_line(alloc, out, buffer, attr, above, next_cookie)?;
     write_entries(alloc, out, buffer, host, attr.ino)
 }
 
@@ -96,10 +90,7 @@ fn write_pieces<K: Sink>(
         if piece.is_empty() {
             return Ok(());
         }
-        match write_hex(alloc, out, piece) {
-            Ok(()) => {}
-            Err(e) => return Err(e),
-        }
+        write_hex(alloc, out, piece)?;
         offset += piece.len() as u64;
     }
 }
@@ -137,14 +128,8 @@ fn write_file<K: Sink>(
     requires size { attr.now.size ≡ length (bytes_at (tree host.now) attr.now.ino) }
     ensures { Wrote (K.sent out.old) (K.sent out.new) (K.faults out.old) (K.faults out.new) (file_line attr.now (bytes_at (tree host.now) attr.now.ino)) result }
 {
-    match write_file_head(alloc, out, buffer, attr) {
-        Ok(()) => {}
-        Err(e) => return Err(e),
-    }
-    match write_bytes(alloc, out, buffer, host, attr.ino, attr.size) {
-        Ok(()) => {}
-        Err(e) => return Err(e),
-    }
+    write_file_head(alloc, out, buffer, attr)?;
+    write_bytes(alloc, out, buffer, host, attr.ino, attr.size)?;
     write_text(out, b"\n")
 }
 
@@ -190,10 +175,7 @@ fn write_records<K: Sink>(alloc: Global, out: &mut K, host: &TreeHost) -> Result
     let mut buffer = Vec::new(alloc);
     let mut at = 0;
     'records: while let Some(attr) = host.record_after(at) {
-        match write_linked(alloc, out, &mut buffer, host, &attr) {
-            Ok(()) => {}
-            Err(e) => return Err(e),
-        }
+        write_linked(alloc, out, &mut buffer, host, &attr)?;
         at = attr.ino;
     }
     Ok(())
@@ -204,9 +186,6 @@ fn write_records<K: Sink>(alloc: Global, out: &mut K, host: &TreeHost) -> Result
 pub fn write_tree<K: Sink>(alloc: Global, out: &mut K, host: &TreeHost) -> Result<(), SinkFault>
     ensures { Wrote (K.sent out.old) (K.sent out.new) (K.faults out.old) (K.faults out.new) (tree_text (linked (tree host.now))) result }
 {
-    match write_number_line(alloc, out, b"tree", host.next_ino()) {
-        Ok(()) => {}
-        Err(e) => return Err(e),
-    }
+    write_number_line(alloc, out, b"tree", host.next_ino())?;
     write_records(alloc, out, host)
 }

@@ -163,10 +163,7 @@ fn write_hex_lines<K: Sink>(alloc: Global, out: &mut K, bytes: &[u8]) -> Result<
     let mut rest = bytes;
     'rows: for _ in 0..bytes.len().div_ceil(32) {
         let (row, after) = first_row(rest);
-        match write_hex_line(alloc, out, &mut buffer, row) {
-            Ok(()) => {}
-            Err(e) => return Err(e),
-        }
+        write_hex_line(alloc, out, &mut buffer, row)?;
         rest = after;
     }
     Ok(())
@@ -177,10 +174,7 @@ fn write_hex_lines<K: Sink>(alloc: Global, out: &mut K, bytes: &[u8]) -> Result<
 pub fn write_replies<K: Sink>(alloc: Global, out: &mut K, replies: &[u8]) -> Result<(), SinkFault>
     ensures { Wrote (K.sent out.old) (K.sent out.new) (K.faults out.old) (K.faults out.new) (replies_text replies.now) result }
 {
-    match write_text(out, b"replies\n") {
-        Ok(()) => {}
-        Err(e) => return Err(e),
-    }
+    write_text(out, b"replies\n")?;
     write_hex_lines(alloc, out, replies)
 }
 
@@ -194,17 +188,8 @@ pub fn write_closing<K: Sink>(
 ) -> Result<(), SinkFault>
     ensures { Wrote (K.sent out.old) (K.sent out.new) (K.faults out.old) (K.faults out.new) (closing table.now nine) result }
 {
-    match write_text(out, b"mounts\n") {
-        Ok(()) => {}
-        Err(e) => return Err(e),
-    }
-    match write_text(out, table) {
-        Ok(()) => {}
-        Err(e) => return Err(e),
-    }
-    match write_text(out, b"end\n") {
-        Ok(()) => {}
-        Err(e) => return Err(e),
-    }
+    write_text(out, b"mounts\n")?;
+    write_text(out, table)?;
+    write_text(out, b"end\n")?;
     write_number_line(alloc, out, b"nine", nine)
 }

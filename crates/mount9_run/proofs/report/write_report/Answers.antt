@@ -1,12 +1,13 @@
 -- The texts follow one another.
+use Rattle.std.proofs.lemmas.Result.{err_from_is_err_and}
 use Rattle.mount9_run.proofs.Sequences.{Wrote-then, Wrote-stopped}
 use Rattle.mount9_run.proofs.report.write_report.Goals as goal
 
-pub returns-in-Err : goal.returns-in-Err
-returns-in-Err g c = Wrote-stopped _ c.in-Err.ensures
+pub returns-in_err-write_verdict : goal.returns-in_err-write_verdict
+returns-in_err-write_verdict g c = let p = err_from_is_err_and c.from_residual.result c.from_residual.ensures.1 in rw (p.1, p.2) (Wrote-stopped _ c.in_err-write_verdict.ensures)
 
-pub returns-in-Err-write_tree : goal.returns-in-Err-write_tree
-returns-in-Err-write_tree g c = Wrote-then c.in-Ok.ensures (Wrote-stopped _ c.in-Err-write_tree.ensures)
+pub returns-in_err-write_tree : goal.returns-in_err-write_tree
+returns-in_err-write_tree g c = let p = err_from_is_err_and c.from_residual-in_err-write_tree.result c.from_residual-in_err-write_tree.ensures.1 in rw (p.1, p.2) (Wrote-then c.in_ok-write_verdict.ensures (Wrote-stopped _ c.in_err-write_tree.ensures))
 
 pub returns : goal.returns
-returns g c = Wrote-then c.in-Ok.ensures (Wrote-then c.in-Ok-write_tree.ensures c.write_closing.ensures)
+returns g c = Wrote-then c.in_ok-write_verdict.ensures (Wrote-then c.in_ok-write_tree.ensures c.write_closing.ensures)

@@ -1,12 +1,13 @@
 -- The replies, and then the rest of the report.
+use Rattle.std.proofs.lemmas.Result.{err_from_is_err_and}
 use Rattle.mount9_run.specs.Report.{report}
 use Rattle.mount9_run.proofs.Sequences.{Wrote-then, Wrote-stopped}
 use Rattle.mount9_run.proofs.run.write_whole.Goals as goal
 
-pub returns-in-Err : goal.returns-in-Err
+pub returns-in_err-write_replies : goal.returns-in_err-write_replies
 unfolding report
-returns-in-Err g c = Wrote-stopped _ c.in-Err.ensures
+returns-in_err-write_replies g c = let p = err_from_is_err_and c.from_residual.result c.from_residual.ensures.1 in rw (p.1, p.2) (Wrote-stopped _ c.in_err-write_replies.ensures)
 
 pub returns : goal.returns
 unfolding report
-returns g c = Wrote-then c.in-Ok.ensures c.write_report.ensures
+returns g c = Wrote-then c.in_ok-write_replies.ensures c.write_report.ensures

@@ -1,5 +1,6 @@
 -- Each piece is written, up to the first that is empty.
 use Rattle.std.proofs.Common.{◌≡◌, ◌∙◌, refl, sym, arith, eqb-true}
+use Rattle.std.proofs.lemmas.Result.{err_from_is_err_and}
 use Rattle.tree_model.specs.Reading.{bytes_at, part}
 use Rattle.tree_host.specs.TreeHosts.{tree}
 use Rattle.mount9_run.proofs.Sequences.{Writing-memory, Writing-more, Writing-stop, Writing-end, Writing-at}
@@ -16,12 +17,12 @@ returns-then-is_empty g c =
     let is : piece ≡ part bytes c.pieces.offset 4096 = c.as_slice-piece.ensures.value ∙ c.in-Ok.ensures in
     Writing-end _ _ _ _ _ (Writing-at (encode-end bytes piece c.pieces.offset is (eqb-true _ 0 (sym c.if-is_empty.ensures))) c.pieces.invariant.writing)
 
-pub returns-in-Err-write_hex : goal.returns-in-Err-write_hex
-returns-in-Err-write_hex g c =
+pub returns-in_err-write_hex : goal.returns-in_err-write_hex
+returns-in_err-write_hex g c =
     let bytes = bytes_at (tree c.args.host.now) c.args.ino in
     let piece = c.as_slice-piece.result.now in
     let is : piece ≡ part bytes c.pieces.offset 4096 = c.as_slice-piece.ensures.value ∙ c.in-Ok.ensures in
-    Writing-stop _ _ _ _ _ _ _ _ _ (Writing-at (encode-step bytes piece c.pieces.offset is _ refl) c.pieces.invariant.writing) c.in-Err-write_hex.e c.in-Err-write_hex.ensures
+    let p = err_from_is_err_and c.from_residual.result c.from_residual.ensures.1 in rw (p.1, p.2) (Writing-stop _ _ _ _ _ _ _ _ _ (Writing-at (encode-step bytes piece c.pieces.offset is _ refl) c.pieces.invariant.writing) c.in_err-write_hex.field-0.0 c.in_err-write_hex.ensures)
 
 pub overflow_add-offset : goal.overflow_add-offset
 overflow_add-offset g c =
@@ -36,6 +37,6 @@ pieces-preserved g c =
     let piece = c.as_slice-piece.result.now in
     let is : piece ≡ part bytes c.pieces.offset 4096 = c.as_slice-piece.ensures.value ∙ c.in-Ok.ensures in
     record {
-      writing = Writing-more _ _ _ _ _ _ _ _ _ (Writing-at (encode-step bytes piece c.pieces.offset is _ refl) c.pieces.invariant.writing) c.in-Ok-write_hex.ensures;
+      writing = Writing-more _ _ _ _ _ _ _ _ _ (Writing-at (encode-step bytes piece c.pieces.offset is _ refl) c.pieces.invariant.writing) c.in_ok-write_hex.ensures;
       within = omega (arith, piece_within bytes piece c.pieces.offset is c.pieces.invariant.within);
     }
