@@ -11,7 +11,7 @@ use Rattle.libmount.specs.declared.mountinfo.numbers.NumberFault.TheVariants as 
 use Rattle.libmount.specs.declared.remount.RemountError.TheVariants as remount_error
 use Rattle.libmount.specs.Cuts.{colon, cut, dash, space, without_leading_spaces, without_trailing_spaces}
 use Rattle.libmount.specs.ErrorTexts.{parse_error_text, remount_error_text}
-use Rattle.libmount.specs.Escapes.{has_escape, unescaped}
+use Rattle.libmount.specs.Escapes.{has_escape, decoded}
 use Rattle.libmount.specs.Items.{item_of, items, lines}
 use Rattle.libmount.specs.Lookup.{flags_in, verdict}
 use Rattle.libmount.specs.Numbers.{digits_value, number_at, number_field, number_of}
@@ -45,35 +45,35 @@ unfolding field_at cut
 field_missing = refl
 
 pub escape_seen : has_escape (codes "/a\\040b") ≡ true
-unfolding has_escape unescaped
+unfolding has_escape decoded
 escape_seen = refl
 
 pub escape_not_seen : has_escape (codes "/proc\\1\\08") ≡ false
-unfolding has_escape unescaped
+unfolding has_escape decoded
 escape_not_seen = refl
 
-pub escapes_meant : unescaped (codes "/a\\040b\\\\134\\08") ≡ codes "/a b\\\\\\08"
-unfolding has_escape unescaped
+pub escapes_meant : decoded (codes "/a\\040b\\\\134\\08") ≡ codes "/a b\\\\\\08"
+unfolding has_escape decoded
 escapes_meant = refl
 
-pub escape_of_256 : unescaped (codes "\\400") ≡ 0 ∷ []
-unfolding has_escape unescaped
+pub escape_of_256 : decoded (codes "\\400") ≡ 0 ∷ []
+unfolding has_escape decoded
 escape_of_256 = refl
 
 pub text_owned : text_of (10, codes "a\\040b") ≡ owned (codes "a b")
-unfolding has_escape unescaped text_at optional_at field_at cut
+unfolding has_escape decoded text_at optional_at field_at cut
 text_owned = refl
 
 pub text_borrowed : text_of (10, codes "a\\4b") ≡ borrowed (10, codes "a\\4b")
-unfolding has_escape unescaped text_at optional_at field_at cut
+unfolding has_escape decoded text_at optional_at field_at cut
 text_borrowed = refl
 
 pub text_before_space : text_at (10, codes " /p rw") ≡ Ok (borrowed (11, codes "/p"), (14, codes "rw"))
-unfolding has_escape unescaped text_at optional_at field_at cut
+unfolding has_escape decoded text_at optional_at field_at cut
 text_before_space = refl
 
 pub optional_before_dash : optional_at (10, codes "shared:12 master:1 - proc") ≡ Ok (borrowed (10, codes "shared:12 master:1"), (31, codes "proc"))
-unfolding has_escape unescaped text_at optional_at field_at cut
+unfolding has_escape decoded text_at optional_at field_at cut
 optional_before_dash = refl
 
 pub number_plus : number_of (codes "+19") ≡ Ok 19
@@ -155,47 +155,47 @@ unfolding lines
 lines_open = refl
 
 pub row_comment : row (0, 9 ∷ codes " # More") ≡ Ok None
-unfolding cut has_escape unescaped digits_value number_at number_field number_of field_at bad_number quoted quoted_byte fields_of optional_at row row_of text_at
+unfolding cut has_escape decoded digits_value number_at number_field number_of field_at bad_number quoted quoted_byte fields_of optional_at row row_of text_at
 row_comment = refl
 
 pub row_return : row (0, 13 ∷ []) ≡ Ok None
-unfolding cut has_escape unescaped digits_value number_at number_field number_of field_at bad_number quoted quoted_byte fields_of optional_at row row_of text_at
+unfolding cut has_escape decoded digits_value number_at number_field number_of field_at bad_number quoted quoted_byte fields_of optional_at row row_of text_at
 row_return = refl
 
 pub row_returned : row (0, returned_line) ≡ Ok (Some (short_fields 0))
-unfolding cut has_escape unescaped digits_value number_at number_field number_of field_at bad_number quoted quoted_byte fields_of optional_at row row_of text_at
+unfolding cut has_escape decoded digits_value number_at number_field number_of field_at bad_number quoted quoted_byte fields_of optional_at row row_of text_at
 row_returned = refl
 
 pub row_alike : row (0, alike_line) ≡ Ok (Some alike_fields)
-unfolding cut has_escape unescaped digits_value number_at number_field number_of field_at bad_number quoted quoted_byte fields_of optional_at row row_of text_at
+unfolding cut has_escape decoded digits_value number_at number_field number_of field_at bad_number quoted quoted_byte fields_of optional_at row row_of text_at
 row_alike = refl
 
 pub row_spaces : row (0, codes "  ") ≡ Err (codes "Cannot parse integer \"\": empty")
-unfolding cut has_escape unescaped digits_value number_at number_field number_of field_at bad_number quoted quoted_byte fields_of optional_at row row_of text_at
+unfolding cut has_escape decoded digits_value number_at number_field number_of field_at bad_number quoted quoted_byte fields_of optional_at row row_of text_at
 row_spaces = refl
 
 pub row_short : row (0, codes "19 24 0:4 / /proc rw,relatime shared:12 - proc proc") ≡ Err (codes "Expected more fields")
-unfolding cut has_escape unescaped digits_value number_at number_field number_of field_at bad_number quoted quoted_byte fields_of optional_at row row_of text_at
+unfolding cut has_escape decoded digits_value number_at number_field number_of field_at bad_number quoted quoted_byte fields_of optional_at row row_of text_at
 row_short = refl
 
 pub items_small : items (0, small_table) ≡ Ok (short_fields 7) ∷ Err (record { message = codes "Cannot parse integer \"bad\": invalid digit"; number = 2; row = codes "bad" }) ∷ []
-unfolding cut has_escape unescaped digits_value number_at number_field number_of field_at bad_number quoted quoted_byte fields_of optional_at row row_of text_at lines item_of items
+unfolding cut has_escape decoded digits_value number_at number_field number_of field_at bad_number quoted quoted_byte fields_of optional_at row row_of text_at lines item_of items
 items_small = refl
 
 pub flags_last : flags_in (codes "/tmp") mounted_twice ≡ Ok (Some 6)
-unfolding cut has_escape unescaped digits_value number_at number_field number_of field_at bad_number quoted quoted_byte fields_of optional_at row row_of text_at verdict flags_in flag_of flags_of same_path components names
+unfolding cut has_escape decoded digits_value number_at number_field number_of field_at bad_number quoted quoted_byte fields_of optional_at row row_of text_at verdict flags_in flag_of flags_of same_path components names
 flags_last = refl
 
 pub flags_bad_first : flags_in (codes "//tmp/.") (codes "bad\n" ++ mounted_twice) ≡ Ok (Some 6)
-unfolding cut has_escape unescaped digits_value number_at number_field number_of field_at bad_number quoted quoted_byte fields_of optional_at row row_of text_at verdict flags_in flag_of flags_of same_path components names
+unfolding cut has_escape decoded digits_value number_at number_field number_of field_at bad_number quoted quoted_byte fields_of optional_at row row_of text_at verdict flags_in flag_of flags_of same_path components names
 flags_bad_first = refl
 
 pub flags_bad_last : flags_in (codes "/tmp") (mounted_twice ++ codes "bad\n") ≡ Err (codes "Cannot parse integer \"bad\": invalid digit")
-unfolding cut has_escape unescaped digits_value number_at number_field number_of field_at bad_number quoted quoted_byte fields_of optional_at row row_of text_at verdict flags_in flag_of flags_of same_path components names
+unfolding cut has_escape decoded digits_value number_at number_field number_of field_at bad_number quoted quoted_byte fields_of optional_at row row_of text_at verdict flags_in flag_of flags_of same_path components names
 flags_bad_last = refl
 
 pub flags_none : flags_in (codes "/") mounted_twice ≡ Ok None
-unfolding cut has_escape unescaped digits_value number_at number_field number_of field_at bad_number quoted quoted_byte fields_of optional_at row row_of text_at verdict flags_in flag_of flags_of same_path components names
+unfolding cut has_escape decoded digits_value number_at number_field number_of field_at bad_number quoted quoted_byte fields_of optional_at row row_of text_at verdict flags_in flag_of flags_of same_path components names
 flags_none = refl
 
 pub shown_bytes : shown (codes "/" ++ 250 ∷ []) ≡ codes "/\\xFA"
@@ -206,10 +206,10 @@ pub parse_error_printed : (error : RowError) → error.row_num ≡ 12 → error.
 unfolding shown digits
 parse_error_printed error number message row = rw (number, message, row) refl
 
-pub parse_memory_printed : parse_error_text parse_error.NoMemory ≡ codes "no memory"
+pub parse_memory_printed : parse_error_text parse_error.NoMemory ≡ codes "out of memory"
 unfolding shown digits
 parse_memory_printed = refl
 
-pub remount_memory_printed : remount_error_text remount_error.NoMemory ≡ codes "no memory"
+pub remount_memory_printed : remount_error_text remount_error.NoMemory ≡ codes "out of memory"
 unfolding shown digits
 remount_memory_printed = refl

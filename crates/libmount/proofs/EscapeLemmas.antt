@@ -2,23 +2,23 @@
 use Rattle.std.proofs.Common.{◌≡◌, ℕ, ◌+◌, ◌-◌, ◌≤◌, ◌<◌, true, false, List, [], ◌∷◌, ◌++◌, length, take, drop, get_or, refl, sym, ap, ◌∙◌, arith}
 use Rattle.std.specs.Prelude.{slice_index}
 use Rattle.std.proofs.lemmas.List.{append_assoc, drop-drop, length-drop, take_rest}
-use Rattle.libmount.specs.Escapes.{has_escape, octal_value, starts_with_escape, unescaped}
+use Rattle.libmount.specs.Escapes.{has_escape, octal_value, starts_with_escape, decoded}
 
 -- the bytes from a place on, as a slice has them
 abbrev pub from : List ℕ → ℕ → List ℕ
 from text at = take (length text - at) (drop at text)
 
 first-escape : (text : List ℕ) → 4 ≤ length text → starts_with_escape text ≡ true
-    → unescaped text ≡ octal_value (slice_index text 1) (slice_index text 2) (slice_index text 3) ∷ unescaped (drop 4 text)
-unfolding unescaped
+    → decoded text ≡ octal_value (slice_index text 1) (slice_index text 2) (slice_index text 3) ∷ decoded (drop 4 text)
+unfolding decoded
 first-escape [] long h = absurd (omega arith)
 first-escape (a ∷ []) long h = absurd (omega arith)
 first-escape (a ∷ b ∷ []) long h = absurd (omega arith)
 first-escape (a ∷ b ∷ c ∷ []) long h = absurd (omega arith)
 first-escape (a ∷ b ∷ c ∷ d ∷ rest) long h = rw h refl
 
-first-plain : (text : List ℕ) → 0 < length text → starts_with_escape text ≡ false → unescaped text ≡ get_or text 0 0 ∷ unescaped (drop 1 text)
-unfolding unescaped
+first-plain : (text : List ℕ) → 0 < length text → starts_with_escape text ≡ false → decoded text ≡ get_or text 0 0 ∷ decoded (drop 1 text)
+unfolding decoded
 first-plain [] some h = absurd (omega arith)
 first-plain (a ∷ []) some h = refl
 first-plain (a ∷ b ∷ []) some h = refl
@@ -45,19 +45,19 @@ pub has-nil : has_escape [] ≡ false
 unfolding has_escape
 has-nil = refl
 
-pub unescaped-nil : unescaped [] ≡ []
-unfolding unescaped
-unescaped-nil = refl
+pub decoded-nil : decoded [] ≡ []
+unfolding decoded
+decoded-nil = refl
 
 module _ (text : List ℕ) where
   pub takes-escape : 4 ≤ length text → starts_with_escape text ≡ true
-      → (unescaped text ≡ octal_value (slice_index text 1) (slice_index text 2) (slice_index text 3) ∷ unescaped (from text 4)) × (length (from text 4) < length text)
+      → (decoded text ≡ octal_value (slice_index text 1) (slice_index text 2) (slice_index text 3) ∷ decoded (from text 4)) × (length (from text 4) < length text)
   takes-escape long h = (
     rw (take_rest text 4) (first-escape text long h),
     rw (take_rest text 4) (omega (arith, length-drop 4 text)),
   )
 
-  pub takes-plain : 0 < length text → starts_with_escape text ≡ false → (unescaped text ≡ get_or text 0 0 ∷ unescaped (from text 1)) × (length (from text 1) < length text)
+  pub takes-plain : 0 < length text → starts_with_escape text ≡ false → (decoded text ≡ get_or text 0 0 ∷ decoded (from text 1)) × (length (from text 1) < length text)
   takes-plain some h = (
     rw (take_rest text 1) (first-plain text some h),
     rw (take_rest text 1) (omega (arith, length-drop 1 text)),
@@ -71,5 +71,5 @@ module _ (text : List ℕ) (at : ℕ) where
   has-more h = has-on (drop at text) (rw (take_rest text at) at h) ∙ ap has_escape (drop-drop 1 at text)
 
 -- one byte more of a text
-pub decoded-more : (out : List ℕ) (byte : ℕ) (whole rest after : List ℕ) → out ++ unescaped rest ≡ whole → unescaped rest ≡ byte ∷ unescaped after → (out ++ byte ∷ []) ++ unescaped after ≡ whole
-decoded-more out byte whole rest after h e = append_assoc out (byte ∷ []) (unescaped after) ∙ ap (λ (t : List ℕ). out ++ t) (sym e) ∙ h
+pub decoded-more : (out : List ℕ) (byte : ℕ) (whole rest after : List ℕ) → out ++ decoded rest ≡ whole → decoded rest ≡ byte ∷ decoded after → (out ++ byte ∷ []) ++ decoded after ≡ whole
+decoded-more out byte whole rest after h e = append_assoc out (byte ∷ []) (decoded after) ∙ ap (λ (t : List ℕ). out ++ t) (sym e) ∙ h

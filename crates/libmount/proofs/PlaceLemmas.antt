@@ -5,7 +5,7 @@ use Rattle.std.specs.Option.{option_map}
 use Rattle.std.specs.Str.Lines.{strip_carriage_return}
 use Rattle.port_base.specs.Paths.{same_path}
 use Rattle.libmount.specs.Cuts.{Placed, colon, dash, space, without_trailing_spaces}
-use Rattle.libmount.specs.Escapes.{has_escape, unescaped}
+use Rattle.libmount.specs.Escapes.{has_escape, decoded}
 use Rattle.libmount.specs.Lookup.{verdict_by}
 use Rattle.libmount.specs.Numbers.{number_at, number_field, number_of, or_bad_number}
 use Rattle.libmount.specs.Options.{flags_of}
@@ -80,7 +80,7 @@ by_escape true a b u bs = refl
 by_escape false a b u bs = refl
 
 text_of-alike : (p q : Placed) → p.1 ≡ q.1 → text_bytes (text_of p) ≡ text_bytes (text_of q)
-text_of-alike (a, bs) (b, cs) h = subst (λ (t : List ℕ). text_bytes (text_of (a, bs)) ≡ text_bytes (text_of (b, t))) h (by_escape (has_escape bs) a b (unescaped bs) bs)
+text_of-alike (a, bs) (b, cs) h = subst (λ (t : List ℕ). text_bytes (text_of (a, bs)) ≡ text_bytes (text_of (b, t))) h (by_escape (has_escape bs) a b (decoded bs) bs)
 
 text-alike : (p q : Placed) → p.1 ≡ q.1 → Alike SameText (text_at p) (text_at q)
 unfolding text_at

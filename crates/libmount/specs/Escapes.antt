@@ -18,9 +18,9 @@ has_escape (a ∷ b ∷ c ∷ d ∷ rest) = is_escape a b c d || has_escape (b �
 has_escape _ = false
 
 -- the text that is meant
-unfoldable pub unescaped : List ℕ → List ℕ
-unescaped (a ∷ b ∷ c ∷ d ∷ rest) = if is_escape a b c d then octal_value b c d ∷ unescaped rest else a ∷ unescaped (b ∷ c ∷ d ∷ rest)
-unescaped text = text
+unfoldable pub decoded : List ℕ → List ℕ
+decoded (a ∷ b ∷ c ∷ d ∷ rest) = if is_escape a b c d then octal_value b c d ∷ decoded rest else a ∷ decoded (b ∷ c ∷ d ∷ rest)
+decoded text = text
 
 -- a backslash and three octal digits stand at the front
 abbrev pub starts_with_escape : List ℕ → Bool
@@ -28,4 +28,4 @@ starts_with_escape text = is_escape (slice_index text 0) (slice_index text 1) (s
 
 -- the first byte that is meant, and what follows it
 abbrev pub TakesByte : List ℕ → ℕ → List ℕ → Type 0
-TakesByte text byte rest = (unescaped text ≡ byte ∷ unescaped rest) × (length rest < length text)
+TakesByte text byte rest = (decoded text ≡ byte ∷ decoded rest) × (length rest < length text)

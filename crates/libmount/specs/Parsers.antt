@@ -14,14 +14,14 @@ use Rattle.libmount.specs.Views.{refused_view, row_view}
 abbrev pub items_left : Parser → List Item
 items_left parser = filter_map item_of (lines_left parser.lines)
 
--- the first of the items goes; nothing is said of what is left after want of memory
+-- the first of the items goes; nothing is said of what is left after it is out of memory
 abbrev pub TakesItem : List Item → Option (Result MountPoint ParseError) → List Item → Type 0
 TakesItem old None new = (old ≡ []) × (new ≡ [])
 TakesItem old (Some (Ok m)) new = old ≡ Ok (row_view m) ∷ new
 TakesItem old (Some (Err (Row e))) new = old ≡ Err (refused_view e) ∷ new
 TakesItem old (Some (Err NoMemory)) new = 0 < length old
 
--- one call of a parser: the first of the items, or none where none is left; want of memory ends it
+-- one call of a parser: the first of the items, or none where none is left; running out of memory ends it
 abbrev pub GivesNext : List Item → Option (Result MountPoint ParseError) → List Item → Type 0
 GivesNext old None new = (old ≡ []) × (new ≡ [])
 GivesNext old (Some (Ok m)) new = old ≡ Ok (row_view m) ∷ new

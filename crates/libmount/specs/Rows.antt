@@ -3,7 +3,7 @@ use Rattle.std.specs.Prelude.{ℕ, List, length, drop, Bool, ◌==◌, ◌||◌,
 use Rattle.std.specs.List.{prefix_len}
 use Rattle.std.specs.Str.Lines.{strip_carriage_return}
 use Rattle.libmount.specs.Cuts.{Placed, space, colon, dash, without_trailing_spaces}
-use Rattle.libmount.specs.Escapes.{has_escape, unescaped}
+use Rattle.libmount.specs.Escapes.{has_escape, decoded}
 use Rattle.libmount.specs.Numbers.{number_at, number_field}
 use Rattle.libmount.specs.Reading.{Message, ◌>>=◌, field_at}
 
@@ -17,7 +17,7 @@ text_bytes (borrowed part) = part.1
 text_bytes (owned bytes) = bytes
 
 abbrev pub text_of : Placed → Text
-text_of field = if has_escape field.1 then owned (unescaped field.1) else borrowed field
+text_of field = if has_escape field.1 then owned (decoded field.1) else borrowed field
 
 -- a mounted file system
 pub record Row : Type 0 where

@@ -44,7 +44,7 @@ row_view m = record {
   super_options = text m.super_options;
 }
 
--- what a line says, or its refusal's message; want of memory comes at no line that is passed over
+-- what a line says, or its refusal's message; running out of memory comes at no line that is passed over
 abbrev pub GivesRow : Result (Option MountPoint) RowFault → Result (Option Row) Message → Type 0
 GivesRow (Ok found) read = read ≡ Ok (option_map row_view found)
 GivesRow (Err (RefusedRow e)) read = read ≡ Err e.0.items
@@ -70,7 +70,7 @@ IsRefused fault number line NoErrorMemory = Unit {0}
 IsRefused (RefusedRow error) number line (ErrorRow e) = refused_view e ≡ record { message = error.0.items; number = number; row = line }
 IsRefused NoRowMemory number line (ErrorRow e) = ⊥
 
--- what a line says, where it isn't passed over; want of memory comes at no line that is
+-- what a line says, where it isn't passed over; running out of memory comes at no line that is
 abbrev pub GivesItem : Option (Result MountPoint ParseError) → Option Item → Type 0
 GivesItem None wanted = wanted ≡ None
 GivesItem (Some (Ok m)) wanted = wanted ≡ Some (Ok (row_view m))

@@ -6,7 +6,7 @@ ghost use Rattle.libmount.specs.declared.mountinfo.numbers.NumberFault.TheVarian
 ghost use Rattle.libmount.specs.declared.remount.RemountError.TheVariants as remount_error;
 ghost use Rattle.libmount.specs.Cuts.{colon, cut, dash, space, without_leading_spaces, without_trailing_spaces};
 ghost use Rattle.libmount.specs.ErrorTexts.{parse_error_text, remount_error_text};
-ghost use Rattle.libmount.specs.Escapes.{has_escape, unescaped};
+ghost use Rattle.libmount.specs.Escapes.{has_escape, decoded};
 ghost use Rattle.libmount.specs.Items.{items, lines};
 ghost use Rattle.libmount.specs.Lookup.{flags_in};
 ghost use Rattle.libmount.specs.Numbers.{number_at, number_field, number_of};
@@ -44,8 +44,8 @@ pub fn a_field_and_none()
 pub fn escapes_in_a_text()
     ensures seen { has_escape (codes "/a\\040b") ≡ true }
     ensures not_seen { has_escape (codes "/proc\\1\\08") ≡ false }
-    ensures meant { unescaped (codes "/a\\040b\\\\134\\08") ≡ codes "/a b\\\\\\08" }
-    ensures low { unescaped (codes "\\400") ≡ 0 ∷ [] }
+    ensures meant { decoded (codes "/a\\040b\\\\134\\08") ≡ codes "/a b\\\\\\08" }
+    ensures low { decoded (codes "\\400") ≡ 0 ∷ [] }
 {}
 
 /// A text field is owned where it has an escape, and is else that very part of the row, with the place where it begins.
@@ -143,6 +143,6 @@ pub fn a_byte_that_is_no_ascii()
 #[tactic(auto, using(crate::proofs::ByComputing::parse_error_printed, crate::proofs::ByComputing::parse_memory_printed, crate::proofs::ByComputing::remount_memory_printed))]
 pub fn texts_of_errors()
     ensures row { (error : RowError) → error.row_num ≡ 12 → error.message.items ≡ codes "m" → error.row.items ≡ short_line → parse_error_text (parse_error.Row error) ≡ codes "Parse error at line 12: m\n1 2 0:4 / /p ro - t s rw" }
-    ensures no_memory { parse_error_text parse_error.NoMemory ≡ codes "no memory" }
-    ensures no_remount_memory { remount_error_text remount_error.NoMemory ≡ codes "no memory" }
+    ensures no_memory { parse_error_text parse_error.NoMemory ≡ codes "out of memory" }
+    ensures no_remount_memory { remount_error_text remount_error.NoMemory ≡ codes "out of memory" }
 {}

@@ -1,7 +1,7 @@
 //! Mounts: a parser of mountinfo tables that copies nothing it needn't, and the flags of a mount in such a table.
 #![tactic(auto)]
 
-pub mod examples;
+mod examples;
 pub mod laws;
 pub mod mountinfo;
 pub mod remount;

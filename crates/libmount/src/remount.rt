@@ -29,7 +29,7 @@ impl fmt::Display for RemountError {
     fn fmt<W: fmt::Write>(&self, f: &mut fmt::Formatter<W>) -> fmt::Result {
         match self {
             RemountError::ParseMountInfo(message) => write!(f, "{}", Shown(message)),
-            RemountError::NoMemory => f.write_str("no memory"),
+            RemountError::NoMemory => f.write_str("out of memory"),
         }
     }
 }

@@ -5,4 +5,6 @@ pub mod TableOrder
 pub mod PathParts
 mod PathWalks
 pub mod Escaping
+pub mod Unescaping
+pub mod BlockWrites
 pub mod ByComputing

@@ -1,6 +1,7 @@
 -- What the loops over a source and a sink keep.
 use Rattle.std.proofs.Common.{◌≡◌, ℕ, ◌+◌, ◌-◌, ◌≤◌, List, ◌++◌, length, take, drop, sym, ap, ◌∙◌, subst, arith, le_refl, drop_at, length-take-le}
 use Rattle.std.proofs.Common.{rules}
+use Rattle.std.specs.Prelude.{IsNone}
 use Rattle.std.proofs.lemmas.List.{take-append-le, length-take, length-drop, take_rest, places}
 use Rattle.std.proofs.lemmas.Slice.{take-put_mid_below}
 use Rattle.std.specs.declared.option.Option.{Option}
@@ -13,6 +14,7 @@ pub record Sending (sent0 sent : Option (List ℕ)) (room0 room faults0 faults :
   pub within : at ≤ length bytes
   pub so_far : Appends sent0 sent (take at bytes)
   pub fits : room0 ≤ room + at
+  pub silent : IsNone sent0 → IsNone sent
   pub same : faults ≡ faults0
 
 pub record Filling (left0 left : Option (List ℕ)) (faults0 faults : ℕ) (buf0 buf : List ℕ) (filled : ℕ) : Type 0 where
@@ -26,14 +28,15 @@ abbrev pub rest_of : List ℕ → ℕ → List ℕ
 rest_of xs i = take (length xs - i) (drop i xs)
 
 module _ (sent0 sent1 sent2 : Option (List ℕ)) (room0 room1 room2 faults0 faults1 faults2 : ℕ) (bytes : List ℕ) (at n : ℕ) where
-  pub Sending-more : Sending sent0 sent1 room0 room1 faults0 faults1 bytes at → n ≤ length (rest_of bytes at) → Appends sent1 sent2 (take n (rest_of bytes at)) → room1 ≤ room2 + n → faults2 ≡ faults1
+  pub Sending-more : Sending sent0 sent1 room0 room1 faults0 faults1 bytes at → n ≤ length (rest_of bytes at) → Appends sent1 sent2 (take n (rest_of bytes at)) → (IsNone sent1 → IsNone sent2) → room1 ≤ room2 + n → faults2 ≡ faults1
       → Sending sent0 sent2 room0 room2 faults0 faults2 bytes (at + n)
-  Sending-more h le more room faults =
+  Sending-more h le more silent room faults =
       let whole : take at bytes ++ take n (rest_of bytes at) ≡ take (at + n) bytes = ap (λ (l : List ℕ). take at bytes ++ take n l) (take_rest bytes at) ∙ sym (take-add at n bytes) in
       record {
         within = omega (arith, h.within, length-take (length bytes - at) (drop at bytes), length-drop at bytes, le);
         so_far = subst (Appends sent0 sent2) whole (Appends-trans sent0 sent1 sent2 (take at bytes) (take n (rest_of bytes at)) h.so_far more);
         fits = omega (arith, h.fits);
+        silent = λ none. silent (h.silent none);
         same = faults ∙ h.same;
       }
 

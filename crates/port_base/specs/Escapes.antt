@@ -1,5 +1,5 @@
 -- The escapes of names and paths in texts, which are those of fstab(5).
-use Rattle.std.specs.Prelude.{◌≡◌, ℕ, ◌+◌, ◌/◌, ◌%◌, List, [], ◌∷◌, ◌++◌, length, drop, ◌==◌, ◌||◌, if◌then◌else◌, Bool, Option, Some, None}
+use Rattle.std.specs.Prelude.{◌≡◌, ℕ, ◌+◌, ◌-◌, ◌*◌, ◌/◌, ◌%◌, List, [], ◌∷◌, ◌++◌, length, drop, ◌==◌, ◌||◌, if◌then◌else◌, Bool, Option, Some, None, bytes_eq, option_map}
 use Rattle.std.specs.List.{flat_map}
 
 -- a space, a tab, a line feed, a carriage return or a backslash
@@ -16,6 +16,23 @@ escaped_byte b = if is_escaped b then 92 ∷ octal_digit b 64 ∷ octal_digit b 
 
 unfoldable pub escaped : List ℕ → List ℕ
 escaped bytes = flat_map escaped_byte bytes
+
+-- the number that three octal digits stand for
+abbrev pub octal_value : ℕ → ℕ → ℕ → ℕ
+octal_value x y z = 64 * (x - 48) + 8 * (y - 48) + (z - 48)
+
+-- a text with one more byte before it
+abbrev pub behind : ℕ → Option (List ℕ) → Option (List ℕ)
+behind b text = option_map (λ bs. b ∷ bs) text
+
+-- the text whose escaped text is the field: a byte that isn't escaped stands for itself, four bytes stand for the one
+-- whose escape they are; none where neither begins what is left
+unfoldable pub unescaped : List ℕ → Option (List ℕ)
+unescaped [] = Some []
+unescaped (b ∷ x ∷ y ∷ z ∷ rest) =
+    if is_escaped b then (if bytes_eq (escaped_byte (octal_value x y z)) (b ∷ x ∷ y ∷ z ∷ []) then behind (octal_value x y z) (unescaped rest) else None)
+    else behind b (unescaped (x ∷ y ∷ z ∷ rest))
+unescaped (b ∷ rest) = if is_escaped b then None else behind b (unescaped rest)
 
 -- the text whose escaped text is the field; none where there is none
 abbrev pub IsUnescaped : List ℕ → Option (List ℕ) → Type 0

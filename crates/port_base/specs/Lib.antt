@@ -3,9 +3,12 @@ pub mod Faults
 pub mod Flags
 pub mod Lending
 pub mod Names
+pub mod OpenFlags
 pub mod Paths
 pub mod Quoting
 pub mod Streams
+pub mod Sending
+pub mod Blocks
 pub mod Words
 pub mod Tables
 pub mod Failing

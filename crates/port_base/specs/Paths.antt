@@ -1,8 +1,9 @@
 -- Paths by their components, as Rust's `Path` compares them.
-use Rattle.std.specs.Prelude.{◌≡◌, ℕ, ◌<◌, List, [], ◌∷◌, ◌++◌, length, Bool, not, ◌&&◌, ◌==◌, if◌then◌else◌, Option, Some, None, slice_index, bytes_eq, codes, filter}
-use Rattle.std.specs.List.{slice_split, before_first, starts_with}
+use Rattle.std.specs.Prelude.{◌≡◌, ℕ, ◌<◌, List, [], ◌∷◌, ◌++◌, length, Bool, not, ◌&&◌, ◌||◌, ◌==◌, if◌then◌else◌, Option, Some, None, is_none, slice_index, bytes_eq, codes, drop, filter}
+use Rattle.std.specs.List.{slice_split, before_first, starts_with, list_all}
 use Rattle.std.specs.Option.{option_to_list}
 use Rattle.std.specs.Cmp.Lexicographic.{pointwise}
+use Rattle.port_base.specs.Names.{name_fault}
 use Rattle.port_base.specs.declared.paths.Components.{Components}
 
 abbrev pub is_slash : ℕ → Bool
@@ -53,3 +54,13 @@ abbrev pub strip : List (List ℕ) → List (List ℕ) → Option (List (List �
 strip parts [] = Some parts
 strip [] (part ∷ base) = None
 strip (own ∷ parts) (part ∷ base) = if bytes_eq part own then strip parts base else None
+
+-- ---- paths from the top
+
+-- names without fault, joined by single slashes
+abbrev pub are_joined_names : List ℕ → Bool
+are_joined_names path = list_all (λ part. is_none (name_fault part)) (slice_split is_slash path)
+
+-- the top, or a slash and names without fault joined by single slashes
+abbrev pub is_rooted_path : List ℕ → Bool
+is_rooted_path path = is_slash (slice_index path 0) && ((length path == 1) || are_joined_names (drop 1 path))

@@ -1,8 +1,8 @@
 //! The escapes of names and paths in texts, which are those of fstab(5).
-ghost use Rattle.std.specs.Prelude.{◌≡◌, ◌++◌, IfOk, OnOk, option_map};
-ghost use Rattle.port_base.specs.Escapes.{is_escaped, escaped_byte, escaped, IsUnescaped, BeginsWith};
+ghost use Rattle.std.specs.Prelude.{◌≡◌, ◌++◌, ℕ, List, IfOk, OnOk, option_map};
+ghost use Rattle.port_base.specs.Escapes.{is_escaped, escaped_byte, escaped, unescaped, IsUnescaped, BeginsWith};
 
-use crate::pushing::push;
+use crate::buffer::push;
 use crate::sink::NoMemory;
 use std::alloc::Global;
 
@@ -14,7 +14,7 @@ fn is_special(byte: u8) -> bool
 }
 
 #[tactic(auto, unfolding(crate::specs::Escapes::escaped))]
-fn push_escaped(out: &mut Vec<u8>, byte: u8) -> Result<(), NoMemory>
+fn push_escaped_byte(out: &mut Vec<u8>, byte: u8) -> Result<(), NoMemory>
     ensures { OnOk result (out.new.items ≡ out.old.items ++ escaped_byte byte) }
 {
     match byte {
@@ -27,16 +27,24 @@ fn push_escaped(out: &mut Vec<u8>, byte: u8) -> Result<(), NoMemory>
     }
 }
 
+/// Appends the escaped text of the bytes. After an `Err` a front of it may be there.
+#[tactic(auto, unfolding(crate::specs::Escapes::escaped))]
+pub fn push_escaped(out: &mut Vec<u8>, bytes: &[u8]) -> Result<(), NoMemory>
+    ensures { OnOk result (out.new.items ≡ out.old.items ++ escaped bytes.now) }
+{
+    for byte in bytes {
+        push_escaped_byte(out, *byte)?;
+    }
+    Ok(())
+}
+
 /// The bytes with exactly spaces, tabs, line feeds, carriage returns and backslashes as a backslash and three
 /// octal digits.
-#[tactic(auto, unfolding(crate::specs::Escapes::escaped))]
 pub fn escaped(alloc: Global, bytes: &[u8]) -> Result<Vec<u8>, NoMemory>
     ensures { IfOk result (λ text. text.items ≡ escaped bytes.now) }
 {
     let mut out = Vec::new(alloc);
-    for byte in bytes {
-        push_escaped(&mut out, *byte)?;
-    }
+    push_escaped(&mut out, bytes)?;
     Ok(out)
 }
 
@@ -55,8 +63,8 @@ fn first_byte(field: &[u8]) -> Option<(u8, usize)>
     }
 }
 
-/// The one text whose escaped text is the field, or `None` exactly where there is none.
-pub fn unescaped(alloc: Global, field: &[u8]) -> Result<Option<Vec<u8>>, NoMemory>
+// The text that the escapes of a field stand for.
+fn text_of(alloc: Global, field: &[u8]) -> Result<Option<Vec<u8>>, NoMemory>
     ensures { IfOk result (λ text. IsUnescaped field.now (option_map (λ v. v.items) text)) }
 {
     let mut out = Vec::new(alloc);
@@ -70,6 +78,20 @@ pub fn unescaped(alloc: Global, field: &[u8]) -> Result<Option<Vec<u8>>, NoMemor
     }
     Ok(Some(out))
 }
+
+/// The one text whose escaped text is the field, or `None` exactly where there is none.
+#[tactic(auto, using(crate::proofs::Unescaping::only_unescaped))]
+pub fn unescaped(alloc: Global, field: &[u8]) -> Result<Option<Vec<u8>>, NoMemory>
+    ensures { IfOk result (λ text. option_map (λ v. v.items) text ≡ unescaped field.now) }
+{
+    text_of(alloc, field)
+}
+
+/// What is read is the one text whose escaped text is the field, and nothing exactly where there is none.
+#[tactic(auto, using(crate::proofs::Unescaping::reading_is_unescaped))]
+pub fn what_is_read_is_escaped_as_the_field()
+    ensures { (field : List ℕ) → IsUnescaped field (unescaped field) }
+{}
 
 #[cfg(test)]
 mod tests {

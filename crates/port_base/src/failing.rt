@@ -1,20 +1,22 @@
 //! Sources and sinks in memory that fail in the calls that a test names.
-ghost use Rattle.std.specs.Prelude.{◌≡◌, ◌-◌, ◌<◌, ◌↔◌, ℕ, List, length, [], Some, IfOk, IsErr, IsTrue, IsNone, Err, if◌then◌else◌, vec_len, vec_capacity};
+ghost use Rattle.std.specs.Prelude.{◌≡◌, ◌-◌, ◌^◌, ◌<◌, ◌↔◌, ◌++◌, ◌∷◌, ℕ, List, length, [], true, false};
+ghost use Rattle.std.specs.Prelude.{Some, IfOk, OnOk, OnErr, IsErr, IsTrue, IsNone, Err, if◌then◌else◌, vec_len, vec_capacity};
 ghost use Rattle.std.specs.Borrow.{GName};
 ghost use Rattle.std.specs.Io.{ReadsAtMost, WritesAtMost};
 ghost use Rattle.std.specs.Io.KnownBytes.{ReadConsumes, WriteAppends};
 ghost use Rattle.port_base.specs.Faults.{Faulted, ReadCause, SinkCause};
 ghost use Rattle.port_base.specs.Streams.{RoomAfter};
-ghost use Rattle.port_base.specs.Failing.{FailsAt, counted};
+ghost use Rattle.port_base.specs.Failing.{counted, is_due, after_call, is_quiet, first_calls};
 
 use crate::memory::SliceSource;
 use crate::sink::{NoMemory, Sink, SinkFault};
 use crate::source::{ReadFault, Source};
 use std::alloc::Global;
+use std::marker::Model;
 
-/// Which calls fail, by their numbers from 0, and how many there were.
+/// Which calls fail, by their numbers from 0, how many there were, and how many failed.
 ///
-/// The count of calls stands at 2^64 - 1 once it is there, and that number names no call.
+/// Both counts stand at 2^64 - 1 once they are there, and that number names no call.
 #[derive(Drop)]
 pub struct FailingCalls {
     numbers: Vec<u64>,
@@ -22,28 +24,48 @@ pub struct FailingCalls {
     faults: u64,
 }
 
+impl Model for FailingCalls {
+    ghost use Rattle.port_base.specs.Failing.{CountedCalls};
+
+    ghost Value = { CountedCalls };
+
+    ghost view = { λ a. record {
+      script = record { numbers = a.numbers.items; calls = a.calls };
+      faults = a.faults;
+    } };
+}
+
 impl FailingCalls {
+    /// No call fails, and none was made yet.
+    pub fn none(alloc: Global) -> Self
+        ensures { result ≡ first_calls [] }
+    {
+        FailingCalls {
+            numbers: Vec::new(alloc),
+            calls: 0,
+            faults: 0,
+        }
+    }
+
     /// The calls with these numbers fail. None was made yet.
     pub fn new(alloc: Global, fails: &[u64]) -> Result<Self, NoMemory>
-        ensures { IfOk result (λ f. (f.numbers.items ≡ fails.now) × (f.calls ≡ 0) × (f.faults ≡ 0)) }
+        ensures { IfOk result (λ calls. calls ≡ first_calls fails.now) }
     {
-        match fails.to_vec(alloc) {
-            Ok(numbers) => Ok(FailingCalls {
-                numbers,
-                calls: 0,
-                faults: 0,
-            }),
-            Err(_) => Err(NoMemory),
-        }
+        let numbers = fails.to_vec(alloc).map_err(|_| NoMemory)?;
+        Ok(FailingCalls {
+            numbers,
+            calls: 0,
+            faults: 0,
+        })
     }
 
     /// Counts a call, and says whether it fails; a call that fails is counted as a fault too.
     pub fn count(&mut self) -> bool
-        ensures fails { IsTrue result ↔ FailsAt self.old.numbers.items self.old.calls }
-        ensures calls { self.new.calls ≡ counted self.old.calls }
-        ensures faults { self.new.faults ≡ (if result then counted self.old.faults else self.old.faults) }
+        ensures fails { result ≡ is_due self.old.script }
+        ensures script { self.new.script ≡ after_call self.old.script }
+        ensures faults { self.new.faults ≡
+            (if result then counted self.old.faults else self.old.faults) }
         ensures cause { IsTrue result → Faulted self.old.faults self.new.faults }
-        ensures numbers { self.new.numbers.items ≡ self.old.numbers.items }
     {
         let call = self.calls;
         self.calls = call.saturating_add(1);
@@ -52,6 +74,26 @@ impl FailingCalls {
             self.faults = self.faults.saturating_add(1);
         }
         fails
+    }
+
+    /// The calls with these numbers fail too.
+    pub fn fail_at(&mut self, numbers: &[u64]) -> Result<(), NoMemory>
+        ensures more { OnOk result
+            (self.new.script.numbers ≡ self.old.script.numbers ++ numbers.now) }
+        ensures calls { self.new.script.calls ≡ self.old.script.calls }
+        ensures faults { self.new.faults ≡ self.old.faults }
+        ensures refused { OnErr result (self.new ≡ self.old) }
+    {
+        self.numbers
+            .extend_from_slice(numbers)
+            .map_err(|_| NoMemory)
+    }
+
+    /// Whether no call is to fail.
+    pub fn is_quiet(&self) -> bool
+        ensures { result ≡ is_quiet self.now.script }
+    {
+        self.numbers.is_empty()
     }
 }
 
@@ -66,7 +108,7 @@ impl<'a> FailSource<'a> {
     /// A source of these bytes, whose reads with these numbers, from 0, fail.
     pub fn new(alloc: Global, bytes: &'a [u8], fails: &[u64]) -> Result<Self, NoMemory>
         ensures bytes { IfOk result (λ s. s.source.rest.now ≡ bytes.now) }
-        ensures failing { IfOk result (λ s. (s.failing.numbers.items ≡ fails.now) × (s.failing.calls ≡ 0) × (s.failing.faults ≡ 0)) }
+        ensures failing { IfOk result (λ s. s.failing ≡ first_calls fails.now) }
     {
         let failing = FailingCalls::new(alloc, fails)?;
         Ok(FailSource {
@@ -83,19 +125,20 @@ impl Source for FailSource<'_> {
 
     ghost Kept = { List ℕ };
 
-    ghost kept = { λ s. s.failing.numbers.items };
+    ghost kept = { λ s. s.failing.script.numbers };
 
     ghost lender = { λ s. 0 };
 
     fn read(&mut self, buf: &mut [u8]) -> Result<usize, ReadFault>
         ensures bound { ReadsAtMost result buf.new }
-        ensures bytes { ReadConsumes (Some self.old.source.rest.now) (Some self.new.source.rest.now) result buf.new }
+        ensures bytes { ReadConsumes
+            (Some self.old.source.rest.now) (Some self.new.source.rest.now) result buf.new }
         ensures cause { ReadCause self.old.failing.faults self.new.failing.faults result }
         ensures silent { IsNone (Some self.old.source.rest.now) → IsNone (Some self.new.source.rest.now) }
-        ensures kept { self.new.failing.numbers.items ≡ self.old.failing.numbers.items }
+        ensures kept { self.new.failing.script.numbers ≡ self.old.failing.script.numbers }
         ensures lender { ◌≡◌ {A = GName} 0 0 }
-        ensures fails { IsErr result ↔ FailsAt self.old.failing.numbers.items self.old.failing.calls }
-        ensures calls { self.new.failing.calls ≡ counted self.old.failing.calls }
+        ensures fails { IsErr result ↔ IsTrue (is_due self.old.failing.script) }
+        ensures script { self.new.failing.script ≡ after_call self.old.failing.script }
     {
         if self.failing.count() {
             return Err(ReadFault);
@@ -115,7 +158,7 @@ impl FailSink {
     /// A sink that was sent nothing, whose writes with these numbers, from 0, fail.
     pub fn new(alloc: Global, fails: &[u64]) -> Result<Self, NoMemory>
         ensures bytes { IfOk result (λ s. s.bytes.items ≡ []) }
-        ensures failing { IfOk result (λ s. (s.failing.numbers.items ≡ fails.now) × (s.failing.calls ≡ 0) × (s.failing.faults ≡ 0)) }
+        ensures failing { IfOk result (λ s. s.failing ≡ first_calls fails.now) }
     {
         let failing = FailingCalls::new(alloc, fails)?;
         Ok(FailSink {
@@ -141,7 +184,7 @@ impl Sink for FailSink {
 
     ghost Kept = { List ℕ };
 
-    ghost kept = { λ s. s.failing.numbers.items };
+    ghost kept = { λ s. s.failing.script.numbers };
 
     fn reserve(&mut self, n: usize) -> Result<(), NoMemory> {
         self.bytes.reserve(n).map_err(|_| NoMemory)
@@ -150,23 +193,40 @@ impl Sink for FailSink {
     fn write(&mut self, piece: &[u8]) -> Result<usize, SinkFault>
         ensures bound { WritesAtMost result piece.now }
         ensures some { IfOk result (λ n. 0 < length piece.now → 0 < n) }
-        ensures bytes { WriteAppends (Some self.old.bytes.items) (Some self.new.bytes.items) result piece.now }
-        ensures room { RoomAfter (vec_capacity self.old.bytes - vec_len self.old.bytes) (vec_capacity self.new.bytes - vec_len self.new.bytes) result }
-        ensures memory { result ≡ Err SinkFault.NoMemory → vec_capacity self.old.bytes - vec_len self.old.bytes < length piece.now }
+        ensures bytes { WriteAppends
+            (Some self.old.bytes.items) (Some self.new.bytes.items) result piece.now }
+        ensures silent { IsNone (Some self.old.bytes.items) → IsNone (Some self.new.bytes.items) }
+        ensures room { RoomAfter
+            (vec_capacity self.old.bytes - vec_len self.old.bytes)
+            (vec_capacity self.new.bytes - vec_len self.new.bytes) result }
+        ensures memory { result ≡ Err SinkFault.NoMemory →
+            vec_capacity self.old.bytes - vec_len self.old.bytes < length piece.now }
         ensures cause { SinkCause self.old.failing.faults self.new.failing.faults result }
-        ensures kept { self.new.failing.numbers.items ≡ self.old.failing.numbers.items }
-        ensures fails { (result ≡ Err SinkFault.Failed) ↔ FailsAt self.old.failing.numbers.items self.old.failing.calls }
-        ensures calls { self.new.failing.calls ≡ counted self.old.failing.calls }
+        ensures kept { self.new.failing.script.numbers ≡ self.old.failing.script.numbers }
+        ensures fails { (result ≡ Err SinkFault.Failed) ↔ IsTrue (is_due self.old.failing.script) }
+        ensures script { self.new.failing.script ≡ after_call self.old.failing.script }
     {
         if self.failing.count() {
             return Err(SinkFault::Failed);
         }
-        match self.bytes.extend_from_slice(piece) {
-            Ok(()) => Ok(piece.len()),
-            Err(_) => Err(SinkFault::NoMemory),
-        }
+        self.bytes
+            .extend_from_slice(piece)
+            .map_err(|_| SinkFault::NoMemory)?;
+        Ok(piece.len())
     }
 }
+
+// The listed calls fail, from number 0 on; the greatest count of calls names no call.
+#[cfg(test)]
+fn due_calls()
+    ensures first { is_due (record { numbers = 0 ∷ 2 ∷ []; calls = 0 }) ≡ true }
+    ensures second { is_due (record { numbers = 0 ∷ 2 ∷ []; calls = 1 }) ≡ false }
+    ensures third { is_due (record { numbers = 0 ∷ 2 ∷ []; calls = 2 }) ≡ true }
+    ensures last { is_due (record { numbers = (2 ^ 64 - 1) ∷ []; calls = 2 ^ 64 - 1 }) ≡ false }
+    ensures calls { (after_call (record { numbers = []; calls = 6 })).calls ≡ 7 }
+    ensures quiet { is_quiet (record { numbers = []; calls = 6 }) ≡ true }
+    ensures loud { is_quiet (record { numbers = 9 ∷ []; calls = 6 }) ≡ false }
+{}
 
 #[cfg(test)]
 mod tests {

@@ -3,7 +3,9 @@ ghost use Rattle.std.specs.Prelude.{◌≡◌, ◌<◌, ◌↔◌, IsTrue, true,
 ghost use Rattle.std.specs.Option.{option_map};
 ghost use Rattle.std.specs.List.{before_first, after_first};
 ghost use Rattle.std.specs.Iterator.{YieldsFirstRef, item_count};
-ghost use Rattle.port_base.specs.Paths.{components, components_left, is_name, is_slash, lead, names, path_starts_with, same_path, strip, FirstName, TakesLead};
+ghost use Rattle.port_base.specs.Paths.{are_joined_names, is_rooted_path, components, components_left, is_name, is_slash, lead, names, path_starts_with, same_path, strip, FirstName, TakesLead};
+
+use crate::names::name_fault;
 
 fn first_slash(path: &[u8]) -> Option<usize>
     ensures { result ≡ position is_slash path.now }
@@ -151,6 +153,21 @@ pub fn path_starts_with(path: &[u8], base: &[u8]) -> bool
     ensures { result ≡ path_starts_with path.now base.now }
 {
     strip(Components::new(path), Components::new(base)).is_some()
+}
+
+// Whether a path is names without fault, joined by single slashes.
+fn are_joined_names(path: &[u8]) -> bool
+    ensures { result ≡ are_joined_names path.now }
+{
+    path.split(|byte| *byte == b'/')
+        .all(|part| name_fault(part).is_none())
+}
+
+/// Whether a path is `/`, or `/` and names without fault joined by single slashes.
+pub fn is_rooted_path(path: &[u8]) -> bool
+    ensures { result ≡ is_rooted_path path.now }
+{
+    !path.is_empty() && path[0] == b'/' && (path.len() == 1 || are_joined_names(&path[1..]))
 }
 
 #[cfg(test)]

@@ -2,7 +2,7 @@
 ghost use Rattle.std.specs.Prelude.{◌≡◌, ◌<◌, ◌++◌, ◌∷◌, [], IfOk, OnOk};
 ghost use Rattle.port_base.specs.Quoting.{hex_digit, quoted, quoted_byte, upper_hex_digit};
 
-use crate::pushing::push;
+use crate::buffer::push;
 use crate::sink::NoMemory;
 use std::alloc::Global;
 

@@ -1,6 +1,8 @@
 //! Words of a command line.
 ghost use Rattle.std.specs.Prelude.{◌≡◌, ◌<◌, ◌++◌, ◌∷◌, [], length, OnOk, OnErr, slice_get, Option};
 ghost use Rattle.std.specs.Option.{option_map};
+ghost use Rattle.std.specs.Iterator.{YieldsFirstRef, item_count};
+ghost use Rattle.port_base.specs.Words.{words_left};
 
 use crate::sink::NoMemory;
 use std::alloc::Global;
@@ -41,10 +43,7 @@ impl Words {
         let Ok(word) = Vec::from_slice(self.alloc, word) else {
             return Err(NoMemory);
         };
-        match self.words.push(word) {
-            Ok(()) => Ok(()),
-            Err(_) => Err(NoMemory),
-        }
+        self.words.push(word).map_err(|_| NoMemory)
     }
 
     /// How many words there are.
@@ -63,6 +62,33 @@ impl Words {
             None => None,
         }
     }
+
+    /// The words, in order.
+    pub fn iter(&self) -> Iter<'_>
+        ensures { words_left result ≡ self.now }
+    {
+        Iter { rest: &self.words }
+    }
+}
+
+/// The words that are left of those of a command line.
+#[derive(Drop)]
+pub struct Iter<'a> {
+    rest: &'a [Vec<u8>],
+}
+
+impl<'a> Iterator for Iter<'a> {
+    type Item = &'a [u8];
+
+    ghost next_gives = { YieldsFirstRef words_left };
+
+    ghost remaining = { item_count words_left };
+
+    fn next(&mut self) -> Option<&'a [u8]> {
+        let (first, rest) = self.rest.split_first()?;
+        self.rest = rest;
+        Some(first.as_slice())
+    }
 }
 
 #[cfg(test)]
@@ -77,5 +103,6 @@ mod tests {
         assert_eq!(rt; words.len(), 2);
         assert_eq!(rt; words.get(1), Some(b"root=/".as_slice()));
         assert_eq!(rt; words.get(2), None);
+        assert!(rt; words.iter().any(|word| word.len() == 6));
     }
 }

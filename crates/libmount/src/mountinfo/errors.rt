@@ -58,7 +58,7 @@ impl fmt::Display for ParseError {
                 Shown(&error.message),
                 Shown(&error.row)
             ),
-            ParseError::NoMemory => f.write_str("no memory"),
+            ParseError::NoMemory => f.write_str("out of memory"),
         }
     }
 }

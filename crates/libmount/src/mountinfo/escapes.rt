@@ -1,6 +1,6 @@
 // Texts in which a backslash and three octal digits are one byte.
 ghost use Rattle.std.specs.Prelude.{◌≡◌, ◌<◌, ◌≤◌, IsTrue, IfOk, length};
-ghost use Rattle.libmount.specs.Escapes.{has_escape, is_octal, octal_value, starts_with_escape, unescaped, TakesByte};
+ghost use Rattle.libmount.specs.Escapes.{has_escape, is_octal, octal_value, starts_with_escape, decoded, TakesByte};
 ghost use Rattle.libmount.specs.Slices.{FieldLiesIn, placed};
 ghost use Rattle.libmount.specs.Views.{text, GivesText};
 ghost use Rattle.libmount.specs.Rows.{text_bytes, text_of};
@@ -79,8 +79,8 @@ fn first_byte(text: &[u8]) -> (u8, &[u8])
     }
 }
 
-fn unescape(alloc: Global, text: &[u8]) -> Result<Vec<u8>, NoMemory>
-    ensures { IfOk result (λ bytes. bytes.items ≡ unescaped text.now) }
+fn decode(alloc: Global, text: &[u8]) -> Result<Vec<u8>, NoMemory>
+    ensures { IfOk result (λ bytes. bytes.items ≡ decoded text.now) }
 {
     let Ok(mut bytes) = Vec::with_capacity(alloc, text.len()) else {
         return Err(NoMemory);
@@ -104,7 +104,7 @@ pub(crate) fn text_of<'a>(alloc: Global, field: &'a [u8]) -> Result<Field<'a>, R
     if !has_escape(field) {
         return Ok(Field::Borrowed(field));
     }
-    match unescape(alloc, field) {
+    match decode(alloc, field) {
         Ok(bytes) => Ok(Field::Owned(bytes)),
         Err(_) => Err(Refusal::NoMemory),
     }

@@ -1,10 +1,11 @@
 // Why a row is refused, before its message is written.
-ghost use Rattle.std.specs.Prelude.{◌≡◌, ◌++◌, IfOk, OnOk};
+ghost use Rattle.std.specs.Prelude.{◌≡◌, IfOk};
 ghost use Rattle.libmount.specs.Reading.{bad_number, fault_text, more_fields};
 ghost use Rattle.libmount.specs.Views.{Tells};
 
 use crate::mountinfo::errors::{ParseRowError, RowFault};
 use crate::mountinfo::numbers::NumberFault;
+use port_base::buffer::push;
 use port_base::quoting::quoted;
 use port_base::sink::NoMemory;
 use std::alloc::Global;
@@ -27,22 +28,16 @@ fn fault_text(fault: NumberFault) -> &'static [u8]
     }
 }
 
-fn append(out: &mut Vec<u8>, bytes: &[u8]) -> Result<(), NoMemory>
-    ensures { OnOk result (out.new.items ≡ out.old.items ++ bytes.now) }
-{
-    out.extend_from_slice(bytes).map_err(|_| NoMemory)
-}
-
 #[tactic(auto, unfolding(crate::specs::Reading::bad_number))]
 fn bad_number(alloc: Global, field: &[u8], fault: NumberFault) -> Result<Vec<u8>, NoMemory>
     ensures { IfOk result (λ message. message.items ≡ bad_number field.now fault) }
 {
     let field = quoted(alloc, field)?;
     let mut message = Vec::new(alloc);
-    append(&mut message, b"Cannot parse integer ")?;
-    append(&mut message, &field)?;
-    append(&mut message, b": ")?;
-    append(&mut message, fault_text(fault))?;
+    push(&mut message, b"Cannot parse integer ")?;
+    push(&mut message, &field)?;
+    push(&mut message, b": ")?;
+    push(&mut message, fault_text(fault))?;
     Ok(message)
 }
 

@@ -172,7 +172,7 @@ fn describe_line(alloc: Global, line: &[u8]) -> Result<String, AllocError> {
         Ok(Some(mount)) => format!(in alloc; "{}", mount.get_mount_flags().bits()),
         Ok(None) => format!(in alloc; "passed over"),
         Err(RowFault::Row(error)) => format!(in alloc; "{error}"),
-        Err(RowFault::NoMemory) => format!(in alloc; "no memory"),
+        Err(RowFault::NoMemory) => format!(in alloc; "out of memory"),
     }
 }
 

@@ -2,7 +2,7 @@
 use Rattle.std.proofs.Common.{◌++◌, ap, rules}
 use Rattle.port_base.specs.Escapes.{escaped}
 use Rattle.port_base.proofs.Escaping.{none_escaped, one_more}
-use Rattle.port_base.proofs.escapes.unescaped.Goals as goal
+use Rattle.port_base.proofs.escapes.text_of.Goals as goal
 
 pub loop-rest-init : goal.loop-rest-init
 unfolding escaped

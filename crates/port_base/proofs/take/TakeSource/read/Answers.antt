@@ -2,7 +2,7 @@ use Rattle.std.proofs.Common.{◌≤◌, sym, take, drop, length, arith, inl, in
 use Rattle.std.proofs.lemmas.List.{take-append-le, length-append, length-take, length-drop}
 use Rattle.std.proofs.lemmas.Bool.{cases_eq}
 use Rattle.port_base.proofs.Takes.{kept_at, took_front, kept_beyond, end_of, nothing_of}
-use Rattle.port_base.proofs.taken.TakeSource.read.Goals as goal
+use Rattle.port_base.proofs.take.TakeSource.read.Goals as goal
 
 pub returns-in_err-n-clause-kept : goal.returns-in_err-n-clause-kept
 returns-in_err-n-clause-kept g c =

@@ -1,7 +1,0 @@
-use Rattle.std.proofs.Common.{◌≡◌, take}
-use Rattle.std.specs.List.{flat_map}
-use Rattle.port_base.specs.Escapes.{escaped_byte}
-use Rattle.port_base.proofs.escapes.escaped.Given as goal
-
-abbrev pub invariant-loop-byte : goal.invariant-loop-byte
-invariant-loop-byte l = l.out.items ≡ flat_map escaped_byte (take l.byte-index l.bytes)
