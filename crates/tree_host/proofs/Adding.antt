@@ -6,7 +6,8 @@ use Rattle.tree_model.specs.Tree.{Tree, Record, Records, body_at, is_linked}
 use Rattle.tree_model.specs.Good.{IsGoodTree}
 use Rattle.tree_model.specs.Sound.{IsKept, AreStored, has_no_links}
 use Rattle.tree_model.specs.Making.{new_name_refused}
-use Rattle.tree_model.specs.Placing.{IsNew, create_refused, with_record, link_refused, with_link}
+use Rattle.tree_model.specs.Placing.{IsNew, with_record, link_refused, with_link}
+use Rattle.tree_model.specs.Making.{create_refused}
 use Rattle.tree_model.proofs.Files.{refused_by_links, good_is_counted}
 use Rattle.tree_model.proofs.Placing.{with_record_good, with_record_kept, with_record_stored}
 use Rattle.tree_model.proofs.Joining.{named_in, with_link_good, with_link_kept, with_link_stored, link_refused_by_links}

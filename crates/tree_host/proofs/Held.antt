@@ -6,7 +6,8 @@ use Rattle.std.specs.Ordering.{nat_cmp}
 use Rattle.std.specs.FinMap.{get, insert, remove, empty, get-empty}
 use Rattle.tree_model.specs.declared.attributes.Stamp.{Stamp}
 use Rattle.tree_model.specs.declared.attributes.Limits.{Limits}
-use Rattle.tree_model.specs.Tree.{Tree, Records, is_linked, keep, top}
+use Rattle.tree_model.specs.declared.attributes.TheConstants.{TOP}
+use Rattle.tree_model.specs.Tree.{Tree, Records, is_linked, keep}
 use Rattle.tree_model.specs.Good.{IsGoodTree}
 use Rattle.tree_model.specs.Making.{new_tree, top_record}
 use Rattle.tree_model.specs.Sound.{IsKeptBut, AreStored, swept}
@@ -101,9 +102,9 @@ module _ (t : Tree) (h h' : Holds) (i : ℕ) (g : IsGoodTree t) (s : IsHeldIn t 
 pub new_held : (limits : Limits) (moment born : Stamp) (mode uid gid : ℕ) → IsHeldIn (new_tree limits moment born mode uid gid) empty
 new_held limits moment born mode uid gid = record {
   kept = λ q had. ⊎_elim
-      (λ is. subst (λ j. (is_linked (insert empty top (top_record born mode uid gid)) j || is_held empty j) ≡ true) (sym is) refl)
-      (λ ne. absurd (false≢true (subst IsSome (insert_keeps empty top (top_record born mode uid gid) q ne ∙ get-empty nat_cmp q) had)))
-      (cases_eq q top);
+      (λ is. subst (λ j. (is_linked (insert empty TOP (top_record born mode uid gid)) j || is_held empty j) ≡ true) (sym is) refl)
+      (λ ne. absurd (false≢true (subst IsSome (insert_keeps empty TOP (top_record born mode uid gid) q ne ∙ get-empty nat_cmp q) had)))
+      (cases_eq q TOP);
   stored = λ q held. absurd (false≢true (ap (λ o. nat_lt 0 (unwrap_or o 0)) (sym (get-empty nat_cmp q)) ∙ held));
   positive = λ i n at. absurd (let none : get {X = ℕ} {R = nat_cmp} empty i ≡ None = get-empty nat_cmp i in cc);
 }

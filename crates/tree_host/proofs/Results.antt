@@ -7,9 +7,11 @@ use Rattle.port_base.specs.declared.errno.TheConstants.{ENOTDIR}
 use Rattle.tree_model.specs.declared.attributes.HostError.{HostError}
 use Rattle.tree_model.specs.declared.attributes.HostError.TheVariants.{Errno}
 use Rattle.tree_host.specs.Host.{as_errno}
-use Rattle.tree_model.specs.Tree.{Tree, Record, Records, body_at, is_directory_at, top}
+use Rattle.tree_model.specs.declared.attributes.TheConstants.{TOP}
+use Rattle.tree_model.specs.Tree.{Tree, Record, Records, body_at, is_directory_at}
 use Rattle.tree_model.specs.Finding.{walk_on, walk_step, walk_end, root_of, path_names}
-use Rattle.tree_model.specs.Opening.{walk_to, if_told, found_at}
+use Rattle.tree_model.specs.Opening.{walk_to, found_at}
+use Rattle.std.specs.Result.{result_ok}
 use Rattle.std.specs.List.{slice_split}
 use Rattle.tree_host.specs.Walking.{part_step, part_end, walk_parts, walk_of}
 
@@ -79,7 +81,7 @@ walk_on-parts t at (part ∷ parts) = by_test (length part == 0) refl (λ at. wa
   by_test false is later = later (part_step t.records part at) ∙ ap (λ at. walk_on t at (filter (λ part. not (length part == 0)) parts)) (full_step t part at is) ∙ ap (λ b. walk_on t at (cond (not b) (part ∷ filter (λ part. not (length part == 0)) parts) (filter (λ part. not (length part == 0)) parts))) (sym is)
 
 pub walk_of-root_of : (t : Tree) (path : List ℕ) → walk_of t.records path ≡ root_of t (path_names path)
-walk_of-root_of t path = walk_on-parts t (Ok top) (slice_split (λ b. b == 47) path)
+walk_of-root_of t path = walk_on-parts t (Ok TOP) (slice_split (λ b. b == 47) path)
 
 -- ---- what stands at the end of a walk
 
@@ -92,11 +94,11 @@ walk_to-parts t at (part ∷ parts) = by_test (length part == 0) refl (λ at. wa
   by_test false is later = later (part_step t.records part at) ∙ ap (λ at. walk_to t at (filter (λ part. not (length part == 0)) parts)) (full_step t part at is) ∙ ap (λ b. walk_to t at (cond (not b) (part ∷ filter (λ part. not (length part == 0)) parts) (filter (λ part. not (length part == 0)) parts))) (sym is)
 
 -- an answer that is found, or none
-pub found_by_ok : (t : Tree) (path : List ℕ) (ino : ℕ) → Ok ino ≡ as_errno (walk_parts t.records (Ok top) (slice_split (λ b. b == 47) path)) → Some ino ≡ found_at t (path_names path)
-found_by_ok t path ino is = sym (ap if_told (sym (walk_to-parts t (Ok top) (slice_split (λ b. b == 47) path)) ∙ told_ok (walk_parts t.records (Ok top) (slice_split (λ b. b == 47) path)) ino is))
+pub found_by_ok : (t : Tree) (path : List ℕ) (ino : ℕ) → Ok ino ≡ as_errno (walk_parts t.records (Ok TOP) (slice_split (λ b. b == 47) path)) → Some ino ≡ found_at t (path_names path)
+found_by_ok t path ino is = sym (ap result_ok (sym (walk_to-parts t (Ok TOP) (slice_split (λ b. b == 47) path)) ∙ told_ok (walk_parts t.records (Ok TOP) (slice_split (λ b. b == 47) path)) ino is))
 
-pub found_by_err : (t : Tree) (path : List ℕ) (e : HostError) → Err e ≡ as_errno (walk_parts t.records (Ok top) (slice_split (λ b. b == 47) path)) → None ≡ found_at t (path_names path)
-found_by_err t path e is = none_told (walk_parts t.records (Ok top) (slice_split (λ b. b == 47) path)) e is ∙ ap if_told (walk_to-parts t (Ok top) (slice_split (λ b. b == 47) path)) where
-  none_told : (told : Result ℕ ℕ) (e : HostError) → Err e ≡ as_errno told → None ≡ if_told told
+pub found_by_err : (t : Tree) (path : List ℕ) (e : HostError) → Err e ≡ as_errno (walk_parts t.records (Ok TOP) (slice_split (λ b. b == 47) path)) → None ≡ found_at t (path_names path)
+found_by_err t path e is = none_told (walk_parts t.records (Ok TOP) (slice_split (λ b. b == 47) path)) e is ∙ ap result_ok (walk_to-parts t (Ok TOP) (slice_split (λ b. b == 47) path)) where
+  none_told : (told : Result ℕ ℕ) (e : HostError) → Err e ≡ as_errno told → None ≡ result_ok told
   none_told (Ok a) e is = absurd (cc)
   none_told (Err n) e is = refl

@@ -1,7 +1,6 @@
 -- What the calls of a host promise.
-use Rattle.std.specs.Prelude.{◌≡◌, ℕ, ◌<◌, ◌≤◌, Bool, false, List, length, take, drop, Some, Result, Ok, Err, ⊤}
+use Rattle.std.specs.Prelude.{◌≡◌, ℕ, ◌<◌, ◌≤◌, List, length, take, drop, Some, Result, Ok, Err, ⊤}
 use Rattle.std.specs.FinMap as map
-use Rattle.port_base.specs.Faults.{Faulted}
 use Rattle.tree_model.specs.declared.attributes.HostError.{HostError}
 use Rattle.tree_model.specs.declared.attributes.HostError.TheVariants.{Errno, Fault, NoMemory}
 use Rattle.tree_model.specs.Tree.{Tree}
@@ -50,15 +49,3 @@ ReadsBy told old new (Err NoMemory) = new ≡ old
 -- the bytes that a definition gives stand at the front of a buffer, whose rest is as it was; or the refusal is the definition's
 pub record Reads (told : Result (List ℕ) ℕ) (old new : List ℕ) (result : Result ℕ HostError) : Type 0 where
   pub exactly : ReadsBy told old new result
-
--- ---- counts of faults
-
-abbrev pub CauseBy : {A : Type 0} → Bool → ℕ → ℕ → Result A HostError → Type 0
-CauseBy steady before now (Ok a) = now ≡ before
-CauseBy steady before now (Err (Errno e)) = now ≡ before
-CauseBy steady before now (Err Fault) = Faulted before now × (steady ≡ false)
-CauseBy steady before now (Err NoMemory) = now ≡ before
-
--- a fault is counted, and comes only where the host isn't steady; every other answer leaves the count
-pub record Causes {A : Type 0} (steady : Bool) (before now : ℕ) (result : Result A HostError) : Type 0 where
-  pub counted : CauseBy steady before now result

@@ -3,7 +3,7 @@ use Rattle.std.specs.Prelude.{ℕ, Bool, List, Option, Some, None}
 use Rattle.std.specs.Borrow.{Bor}
 use Rattle.tree_model.specs.declared.attributes.Stamp.{Stamp}
 use Rattle.tree_model.specs.declared.attributes.Limits.{Limits}
-use Rattle.tree_model.specs.Tree.{Tree, Records, Entry}
+use Rattle.tree_model.specs.Tree.{Tree, Records, DirEntry}
 use Rattle.tree_model.specs.Making.{change}
 use Rattle.tree_model.specs.Sound.{swept}
 use Rattle.tree_model.specs.Unlinking.{parted_by, one_name_less}
@@ -12,7 +12,7 @@ abbrev pub tree_from : Records → ℕ → Limits → Stamp → Tree
 tree_from records next limits moment = record { records = records; next = next; limits = limits; moment = moment }
 
 -- an entry told by its cookie, inode and name
-abbrev pub entry_from : ℕ × ℕ × Bor (List ℕ) → Entry
+abbrev pub entry_from : ℕ × ℕ × Bor (List ℕ) → DirEntry
 entry_from e = record { cookie = e.0; name = e.2.now; ino = e.1 }
 
 -- the records without the entry of what is replaced, which has a name less

@@ -4,5 +4,5 @@ pub mod Stored
 pub mod Walking
 pub mod Kept
 pub mod TreeHosts
-pub mod Scripts
+pub mod Calls
 pub mod Changing

@@ -1,6 +1,6 @@
 -- How the bodies of records are stored.
 use Rattle.std.specs.Prelude.{ℕ, List, Option, position, bytes_eq}
-use Rattle.tree_model.specs.Tree.{Body, Record, Entry}
+use Rattle.tree_model.specs.Tree.{Body, Record, DirEntry}
 use Rattle.tree_model.specs.Tree.Body.{File, Directory, Link}
 use Rattle.tree_host.specs.declared.node.Stored.{Stored}
 use Rattle.tree_host.specs.declared.node.Stored.TheVariants.{Bytes, Names, Target}
@@ -15,5 +15,5 @@ abbrev pub links : Record → ℕ
 links r = r.links
 
 -- where the entry of a name stands
-abbrev pub place_among : List ℕ → List Entry → Option ℕ
+abbrev pub place_among : List ℕ → List DirEntry → Option ℕ
 place_among name es = position (λ e. bytes_eq e.name name) es

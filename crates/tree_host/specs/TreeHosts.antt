@@ -1,6 +1,7 @@
 -- What a host in memory shows, and what can be added to it.
-use Rattle.std.specs.Prelude.{◌≡◌, ℕ, Bool, List, Result, ◌<◌, IsSome, ⊤}
+use Rattle.std.specs.Prelude.{◌≡◌, ℕ, List, Result, ◌<◌, IsSome, ⊤}
 use Rattle.std.specs.FinMap as map
+use Rattle.port_base.specs.Failing.{Script}
 use Rattle.tree_model.specs.declared.attributes.Stamp.{Stamp}
 use Rattle.tree_model.specs.Tree.{Tree, Records}
 use Rattle.tree_model.specs.Good.{IsGoodTarget}
@@ -9,7 +10,7 @@ use Rattle.tree_model.specs.Making.{NewFile, add_file_of}
 use Rattle.tree_host.specs.declared.memory.TreeHost.{TreeHost}
 use Rattle.tree_host.specs.declared.memory.NewItem.{NewItem}
 use Rattle.tree_host.specs.declared.memory.NewItem.TheVariants.{Dir, File, Link, Hard}
-use Rattle.tree_host.specs.Scripts.{Plan}
+use Rattle.tree_host.specs.Calls.{Calls, scripted}
 use Rattle.tree_host.specs.Holds.{Holds}
 use Rattle.tree_host.specs.Kept.{tree_from}
 
@@ -23,32 +24,27 @@ holds h = h.holds
 abbrev pub birth : TreeHost → Stamp
 birth h = h.born
 
+-- which calls fault
+abbrev pub script : TreeHost → Script
+script h = h.failing.script
+
 -- how many faults were counted
 abbrev pub faults : TreeHost → ℕ
-faults h = h.faults
+faults h = h.failing.faults
 
--- whether it never faults
-abbrev pub is_steady : TreeHost → Bool
-is_steady h = h.steady
-
--- which calls fault
-abbrev pub plan : TreeHost → Plan
-plan h = h.script
+abbrev pub calls : TreeHost → Calls
+calls h = scripted h.failing
 
 -- what a call that adds leaves as it was
 pub record KeepsRest (old new : TreeHost) : Type 0 where
   pub holds : holds new ≡ holds old
   pub born : birth new ≡ birth old
-  pub faults : faults new ≡ faults old
-  pub steady : is_steady new ≡ is_steady old
-  pub plan : plan new ≡ plan old
+  pub calls : new.failing ≡ old.failing
 
 -- what a call that holds what it adds leaves as it was
-pub record KeepsPlan (old new : TreeHost) : Type 0 where
+pub record KeepsCalls (old new : TreeHost) : Type 0 where
   pub born : birth new ≡ birth old
-  pub faults : faults new ≡ faults old
-  pub steady : is_steady new ≡ is_steady old
-  pub plan : plan new ≡ plan old
+  pub calls : new.failing ≡ old.failing
 
 -- modes are permission bits, and targets those of good links
 abbrev pub IsGoodItem : NewItem → Type 0

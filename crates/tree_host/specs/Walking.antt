@@ -1,7 +1,8 @@
 -- A walk along the parts of a path as it is split at slashes, of which some may be empty.
 use Rattle.std.specs.Prelude.{ℕ, List, [], ◌∷◌, length, Result, Ok, Err, if◌then◌else◌, ◌==◌, false}
 use Rattle.std.specs.List.{slice_split}
-use Rattle.tree_model.specs.Tree.{Records, body_at, top}
+use Rattle.tree_model.specs.declared.attributes.TheConstants.{TOP}
+use Rattle.tree_model.specs.Tree.{Records, body_at}
 use Rattle.tree_model.specs.Finding.{entries_at, ino_among, directory_or_not}
 
 -- one more part: an empty one leads nowhere else
@@ -19,4 +20,4 @@ walk_parts rs at (part ∷ parts) = walk_parts rs (part_step rs part at) parts
 
 -- the directory at the end of a path as it is split
 abbrev pub walk_of : Records → List ℕ → Result ℕ ℕ
-walk_of rs path = part_end rs (walk_parts rs (Ok top) (slice_split (λ b. b == 47) path))
+walk_of rs path = part_end rs (walk_parts rs (Ok TOP) (slice_split (λ b. b == 47) path))

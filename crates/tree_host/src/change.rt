@@ -1,7 +1,8 @@
 //! Changes of one record.
 use tree_model::TimeSet;
 
-/// What changes: the ctime alone, a mode, the owners that are given, the times, or the length of a file.
+/// What changes: the ctime alone, a mode, the owners that are given, the times, or the length of a
+/// file.
 #[derive(Clone, Copy)]
 pub enum Change {
     Ctime,

@@ -1,6 +1,7 @@
-//! What a host in memory goes by, computed: holds, calls that fault, walks along paths, changes of a record and items
-//! that are added. The tree is a top directory with the file `hello`, inode 2, of five bytes.
-ghost use Rattle.std.specs.Prelude.{◌≡◌, ◌-◌, ◌^◌, Bool, true, false, Ok, Err, Some, None, [], ◌∷◌, codes};
+//! What a host in memory goes by, computed: holds, walks along paths, changes of a record and
+//! items that are added. The tree is a top directory with the file `hello`, inode 2, of five
+//! bytes.
+ghost use Rattle.std.specs.Prelude.{◌≡◌, true, false, Ok, Err, Some, None, [], ◌∷◌, codes};
 ghost use Rattle.std.specs.FinMap.{empty};
 ghost use Rattle.port_base.specs.declared.errno.TheConstants.{EEXIST, EFBIG, ENOENT, ENOTDIR, EOPNOTSUPP, EPERM};
 ghost use Rattle.tree_model.specs.Samples.{born, sample, hello};
@@ -8,7 +9,6 @@ ghost use Rattle.tree_model.specs.Tree.Body.{File, Link};
 ghost use Rattle.tree_model.specs.Placing.{with_record, with_link, directory_record};
 ghost use Rattle.tree_model.specs.Attributing.{with_changed};
 ghost use Rattle.tree_host.specs.Holds.{hold_count, is_held, held_more, held_less};
-ghost use Rattle.tree_host.specs.Scripts.{is_due, is_quiet, after_call};
 ghost use Rattle.tree_host.specs.Stored.{place_among};
 ghost use Rattle.tree_host.specs.Walking.{walk_of};
 ghost use Rattle.tree_host.specs.Changing.{change_of, change_refused, changed_by, is_small};
@@ -25,17 +25,6 @@ pub fn holding()
     ensures one_left { hold_count (held_less (held_more (held_more empty 2) 2) 2) 2 ≡ 1 }
     ensures none_left { is_held (held_less (held_more empty 2) 2) 2 ≡ false }
     ensures another { is_held (held_more empty 2) 3 ≡ false }
-{}
-
-/// The listed calls fault, from number 0 on; the count of calls stops at its greatest, which names no call.
-pub fn faulting()
-    ensures first { is_due (record { fails = 0 ∷ 2 ∷ []; calls = 0 }) ≡ true }
-    ensures second { is_due (record { fails = 0 ∷ 2 ∷ []; calls = 1 }) ≡ false }
-    ensures third { is_due (record { fails = 0 ∷ 2 ∷ []; calls = 2 }) ≡ true }
-    ensures last { is_due (record { fails = (2 ^ 64 - 1) ∷ []; calls = 2 ^ 64 - 1 }) ≡ false }
-    ensures counted { after_call (record { fails = 2 ∷ []; calls = 0 }) ≡ record { fails = 2 ∷ []; calls = 1 } }
-    ensures full { after_call (record { fails = []; calls = 2 ^ 64 - 1 }) ≡ record { fails = []; calls = 2 ^ 64 - 1 } }
-    ensures quiet { is_quiet [] ≡ true }
 {}
 
 /// Directories at the ends of paths; parts between slashes that are empty lead nowhere else.

@@ -6,7 +6,8 @@ ghost use Rattle.tree_host.specs.Holds.{hold_count, held_more, held_less, is_hel
 use port_base::table::Table;
 use std::alloc::AllocError;
 
-fn count(holds: &Table<u64>, ino: u64) -> u64
+/// How often an inode is held.
+pub fn count(holds: &Table<u64>, ino: u64) -> u64
     ensures { result ≡ hold_count holds.now ino }
 {
     holds.get(ino).copied().unwrap_or(0)
@@ -36,6 +37,7 @@ pub fn lower(holds: &mut Table<u64>, ino: u64)
     }
 }
 
+/// Whether an inode is held.
 pub fn is_held(holds: &Table<u64>, ino: u64) -> bool
     ensures { result ≡ is_held holds.now ino }
 {

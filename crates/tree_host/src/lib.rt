@@ -2,18 +2,15 @@
 #![tactic(auto)]
 
 mod change;
-pub mod entry;
-pub mod examples;
+mod entry;
+mod examples;
 mod holds;
 pub mod host;
-pub mod laws;
 pub mod memory;
 mod node;
 mod nodes;
-mod script;
-#[cfg(test)]
-mod tests;
 
 pub use entry::Entry;
 pub use host::Host;
 pub use memory::{NewItem, TreeHost};
+pub use tree_model::{Attr, HostError, Kind, Limits, Stamp, Statfs, TimeSet};

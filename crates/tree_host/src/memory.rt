@@ -3,39 +3,39 @@ ghost use Rattle.tree_model.specs.Good.{IsGoodTree, IsGoodStamp};
 ghost use Rattle.tree_model.specs.GoodLaws.{IsGoodTree-prop};
 ghost use Rattle.tree_host.specs.Host.{IsHeldIn};
 ghost use Rattle.tree_host.specs.Kept.{tree_from};
-ghost use Rattle.tree_host.specs.Scripts.{is_quiet};
-ghost use Rattle.std.specs.Prelude.{◌≡◌};
 
 mod adding;
 #[cfg(test)]
 mod call_tests;
 mod changing;
 mod creating;
-#[cfg(test)]
-mod fault_tests;
 mod readers;
 mod renaming;
 #[cfg(test)]
 mod tests;
 mod unlinking;
+mod writing;
 
+use crate::Entry;
 use crate::change::Change;
-use crate::entry::Entry;
 use crate::holds::{hold, lower};
 use crate::host::Host;
-use crate::node::{Node, TOP};
+use crate::node::Node;
 use crate::nodes::{
     entry_after, find_empty, find_file, find_in, open_check, read_link, sweep, walk,
 };
-use crate::script::Script;
 use port_base::errno::ENOENT;
+use port_base::failing::FailingCalls;
 use port_base::sink::NoMemory;
 use port_base::table::Table;
 use std::alloc::Global;
+use tree_model::attributes::{BLOCK_SIZE, TOP};
 use tree_model::{Attr, HostError, Limits, Stamp, Statfs, TimeSet};
 
-/// What is added to a tree in memory: a directory or a file with its permission bits and owners, a symbolic
-/// link, or one more name of the file or link `ino`.
+const BLOCK: u64 = BLOCK_SIZE as u64;
+
+/// What is added to a tree in memory: a directory or a file with its permission bits and owners, a
+/// symbolic link, or one more name of the file or link `ino`.
 pub enum NewItem<'a> {
     Dir {
         mode: u32,
@@ -68,27 +68,25 @@ pub struct TreeHost {
     limits: Limits,
     moment: Stamp,
     born: Stamp,
-    faults: u64,
-    steady: bool,
-    script: Script,
+    failing: FailingCalls,
     ghost good: { IsGoodTree (tree_from nodes next limits moment) } by { IsGoodTree-prop (tree_from nodes next limits moment) },
     ghost stored: { IsHeldIn (tree_from nodes next limits moment) holds },
     ghost timed: { IsGoodStamp born },
-    ghost quiet: { steady ≡ is_quiet script.fails },
 }
 
 impl TreeHost {
     ghost use Rattle.std.specs.Prelude.{◌≡◌, ◌≢◌, ◌<◌, ◌++◌, [], IfOk, OnOk, OnErr, IsSome, true, None, Err};
-    ghost use Rattle.tree_host.specs.Scripts.{is_quiet};
+    ghost use Rattle.port_base.specs.Failing.{first_calls};
     ghost use Rattle.port_base.specs.Names.{name_fault};
     ghost use Rattle.std.specs.FinMap as map;
     ghost use Rattle.tree_model.specs.Good.{IsGoodLimits, IsGoodStamp};
     ghost use Rattle.tree_model.specs.Making.{new_tree};
+    ghost use Rattle.tree_host.specs.Calls.{scripted};
     ghost use Rattle.tree_host.specs.Host.{Leaves};
-    ghost use Rattle.tree_host.specs.TreeHosts.{tree, holds, birth, faults, is_steady, plan, IsGoodItem, IsStoredItem, add_of};
+    ghost use Rattle.tree_host.specs.TreeHosts.{tree, holds, birth, calls, script, faults, IsGoodItem, IsStoredItem, add_of};
 
-    /// A tree of the top directory alone, inode 1, whose times are `born`. What is added is born then too,
-    /// and what changes is stamped with `moment`.
+    /// A tree of the top directory alone, inode 1, whose times are `born`. What is added is born
+    /// then too, and what changes is stamped with `moment`.
     pub fn new(
         alloc: Global,
         limits: Limits,
@@ -105,9 +103,7 @@ impl TreeHost {
         ensures tree { IfOk result (λ host. tree host ≡ new_tree limits moment born mode uid gid) }
         ensures holds { IfOk result (λ host. holds host ≡ map.empty) }
         ensures born { IfOk result (λ host. birth host ≡ born) }
-        ensures faults { IfOk result (λ host. faults host ≡ 0) }
-        ensures steady { IfOk result (λ host. is_steady host ≡ true) }
-        ensures plan { IfOk result (λ host. plan host ≡ record { fails = []; calls = 0 }) }
+        ensures calls { IfOk result (λ host. calls host ≡ scripted (first_calls [])) }
     {
         let mut nodes = Table::new(alloc);
         match nodes.insert(TOP, Node::top(alloc, mode, uid, gid, born)) {
@@ -119,33 +115,30 @@ impl TreeHost {
                 limits,
                 moment,
                 born,
-                faults: 0,
-                steady: true,
-                script: Script::new(alloc),
+                failing: FailingCalls::none(alloc),
             }),
             Err(_) => Err(NoMemory),
         }
     }
 
-    /// Adds a record with an entry in the directory `dir`, and answers its number. Its times are those that
-    /// the tree is born with; the directory's times stay. ENOTDIR for what is no directory, ENOENT for a
-    /// directory that no entry names, EEXIST for a name that is there, ENOSPC where the directory is full or
-    /// no number or cookie is left, EFBIG for more bytes than a file may have. `Hard` adds an entry alone and
-    /// answers `ino`: EPERM, after ENOTDIR, for a directory, ENOENT also for what no entry names, EMLINK, after
-    /// EEXIST, for what has as many links as there may be. After an error nothing has changed. It never
-    /// faults.
+    /// Adds a record with an entry in the directory `dir`, and answers its number. Its times are
+    /// those that the tree is born with; the directory's times stay. ENOTDIR for what is no
+    /// directory, ENOENT for a directory that no entry names, EEXIST for a name that is there,
+    /// ENOSPC where the directory is full or no number or cookie is left, EFBIG for more bytes
+    /// than a file may have. `Hard` adds an entry alone and answers `ino`: EPERM, after ENOTDIR,
+    /// for a directory, ENOENT also for what no entry names, EMLINK, after EEXIST, for what has as
+    /// many links as there may be. After an error nothing has changed. It never faults.
     pub fn add(&mut self, dir: u64, name: &[u8], item: NewItem<'_>) -> Result<u64, HostError>
         requires stored { IsSome (map.get (tree self.old).records dir) }
         requires named { name_fault name.now ≡ None }
         requires item { IsGoodItem item }
         requires there { IsStoredItem (tree self.old).records item }
-        ensures leaves { Leaves (add_of (birth self.old) (tree self.old) dir name.now item.entry) (tree self.old) (tree self.new) result }
+        ensures leaves { Leaves (add_of (birth self.old) (tree self.old) dir name.now item.entry)
+            (tree self.old) (tree self.new) result }
         ensures holds { holds self.new ≡ holds self.old }
         ensures fault { result ≢ Err HostError.Fault }
-        ensures faults { faults self.new ≡ faults self.old }
-        ensures steady { is_steady self.new ≡ is_steady self.old }
         ensures born { birth self.new ≡ birth self.old }
-        ensures plan { plan self.new ≡ plan self.old }
+        ensures calls { calls self.new ≡ calls self.old }
     {
         match item {
             NewItem::Dir { mode, uid, gid } => self.add_directory(dir, name, mode, uid, gid),
@@ -160,42 +153,34 @@ impl TreeHost {
         }
     }
 
-    /// Lets the calls of `Host` with these numbers fault, besides those that were listed before. Calls count
-    /// from 0 on; `release` and the readers don't count. From a number on it is no longer steady. Without
-    /// memory nothing changes.
+    /// Lets the calls of `Host` with these numbers fault, besides those that were listed before.
+    /// Calls count from 0 on; `release` and the readers don't count. Once a number is listed it is
+    /// no longer steady. Without memory nothing changes.
     pub fn fail_at(&mut self, fails: &[u64]) -> Result<(), NoMemory>
-        ensures ok { OnOk result (plan self.new ≡ record (plan self.old) { fails = (plan self.old).fails ++ fails.now }) }
-        ensures err { OnErr result (plan self.new ≡ plan self.old) }
-        ensures steady { is_steady self.new ≡ is_quiet (plan self.new).fails }
+        ensures more { OnOk result
+            ((script self.new).numbers ≡ (script self.old).numbers ++ fails.now) }
+        ensures refused { OnErr result (script self.new ≡ script self.old) }
+        ensures made { (script self.new).calls ≡ (script self.old).calls }
+        ensures faults { faults self.new ≡ faults self.old }
         ensures tree { tree self.new ≡ tree self.old }
         ensures holds { holds self.new ≡ holds self.old }
-        ensures faults { faults self.new ≡ faults self.old }
         ensures born { birth self.new ≡ birth self.old }
     {
-        let listed = self.script.fail_at(fails);
-        self.steady = self.script.is_quiet();
-        match listed {
-            Ok(()) => Ok(()),
-            Err(_) => Err(NoMemory),
-        }
+        self.failing.fail_at(fails)
     }
 }
 
 impl Host for TreeHost {
-    ghost use Rattle.std.specs.Prelude.{Some};
+    ghost use Rattle.tree_host.specs.Calls.{scripted};
 
     ghost tree = { λ s. tree_from s.nodes s.next s.limits s.moment };
 
     ghost holds = { λ s. s.holds };
 
-    ghost faults = { λ s. s.faults };
-
-    ghost steady = { λ s. s.steady };
-
-    ghost plan = { λ s. Some s.script };
+    ghost calls = { λ s. scripted s.failing };
 
     fn attach_path(&mut self, path: &[u8]) -> Result<u64, HostError> {
-        if self.script.strikes(&mut self.faults) {
+        if self.failing.count() {
             return Err(HostError::Fault);
         }
         let ino = walk(&self.nodes, path)?;
@@ -206,7 +191,7 @@ impl Host for TreeHost {
     }
 
     fn lookup(&mut self, dir: u64, name: &[u8]) -> Result<u64, HostError> {
-        if self.script.strikes(&mut self.faults) {
+        if self.failing.count() {
             return Err(HostError::Fault);
         }
         let ino = find_in(&self.nodes, dir, name)?;
@@ -217,7 +202,7 @@ impl Host for TreeHost {
     }
 
     fn hold_again(&mut self, ino: u64) -> Result<(), HostError> {
-        if self.script.strikes(&mut self.faults) {
+        if self.failing.count() {
             return Err(HostError::Fault);
         }
         match hold(&mut self.holds, ino) {
@@ -232,7 +217,7 @@ impl Host for TreeHost {
     }
 
     fn stat(&mut self, ino: u64) -> Result<Attr, HostError> {
-        if self.script.strikes(&mut self.faults) {
+        if self.failing.count() {
             return Err(HostError::Fault);
         }
         match self.nodes.get(ino) {
@@ -242,14 +227,14 @@ impl Host for TreeHost {
     }
 
     fn open_check(&mut self, ino: u64, flags: u32) -> Result<(), HostError> {
-        if self.script.strikes(&mut self.faults) {
+        if self.failing.count() {
             return Err(HostError::Fault);
         }
         open_check(&self.nodes, ino, flags)
     }
 
     fn read_at(&mut self, ino: u64, offset: u64, buf: &mut [u8]) -> Result<usize, HostError> {
-        if self.script.strikes(&mut self.faults) {
+        if self.failing.count() {
             return Err(HostError::Fault);
         }
         match self.nodes.get(ino) {
@@ -283,35 +268,35 @@ impl Host for TreeHost {
     }
 
     fn entry_after(&mut self, dir: u64, cookie: u64) -> Result<Option<Entry>, HostError> {
-        if self.script.strikes(&mut self.faults) {
+        if self.failing.count() {
             return Err(HostError::Fault);
         }
         entry_after(self.alloc, &self.nodes, dir, cookie)
     }
 
     fn create(&mut self, dir: u64, name: &[u8], mode: u32) -> Result<u64, HostError> {
-        if self.script.strikes(&mut self.faults) {
+        if self.failing.count() {
             return Err(HostError::Fault);
         }
         self.create_file(dir, name, mode)
     }
 
     fn mkdir(&mut self, dir: u64, name: &[u8], mode: u32) -> Result<Attr, HostError> {
-        if self.script.strikes(&mut self.faults) {
+        if self.failing.count() {
             return Err(HostError::Fault);
         }
         self.make_directory(dir, name, mode)
     }
 
     fn link(&mut self, ino: u64, dir: u64, name: &[u8]) -> Result<(), HostError> {
-        if self.script.strikes(&mut self.faults) {
+        if self.failing.count() {
             return Err(HostError::Fault);
         }
         self.link_name(ino, dir, name)
     }
 
     fn unlink(&mut self, dir: u64, name: &[u8]) -> Result<(), HostError> {
-        if self.script.strikes(&mut self.faults) {
+        if self.failing.count() {
             return Err(HostError::Fault);
         }
         let ino = find_file(&self.nodes, dir, name)?;
@@ -320,7 +305,7 @@ impl Host for TreeHost {
     }
 
     fn rmdir(&mut self, dir: u64, name: &[u8]) -> Result<(), HostError> {
-        if self.script.strikes(&mut self.faults) {
+        if self.failing.count() {
             return Err(HostError::Fault);
         }
         let ino = find_empty(&self.nodes, dir, name)?;
@@ -335,31 +320,31 @@ impl Host for TreeHost {
         newdir: u64,
         newname: &[u8],
     ) -> Result<(), HostError> {
-        if self.script.strikes(&mut self.faults) {
+        if self.failing.count() {
             return Err(HostError::Fault);
         }
         self.rename_entry(olddir, oldname, newdir, newname)
     }
 
     fn readlink(&mut self, ino: u64) -> Result<Vec<u8>, HostError> {
-        if self.script.strikes(&mut self.faults) {
+        if self.failing.count() {
             return Err(HostError::Fault);
         }
         read_link(self.alloc, &self.nodes, ino)
     }
 
     fn statfs(&mut self, ino: u64) -> Result<Statfs, HostError> {
-        if self.script.strikes(&mut self.faults) {
+        if self.failing.count() {
             return Err(HostError::Fault);
         }
         Ok(Statfs {
-            blocks: (self.limits.file + 4095) / 4096,
+            blocks: (self.limits.file + (BLOCK - 1)) / BLOCK,
             files: self.limits.entries,
         })
     }
 
     fn sync(&mut self, ino: u64) -> Result<(), HostError> {
-        if self.script.strikes(&mut self.faults) {
+        if self.failing.count() {
             return Err(HostError::Fault);
         }
         Ok(())

@@ -20,26 +20,23 @@ use std::alloc::{AllocError, Global};
 use std::marker::Model;
 use tree_model::{Attr, HostError, Kind, Stamp};
 
-/// The inode number of the top directory.
-pub const TOP: u64 = 1;
-
 /// A name in a directory, with its cookie and the inode that it names.
 #[derive(Drop)]
-pub struct Name {
+pub struct DirEntry {
     cookie: u64,
     name: Vec<u8>,
     ino: u64,
 }
 
-impl Model for Name {
-    ghost use Rattle.tree_model.specs.Tree.{Entry};
+impl Model for DirEntry {
+    ghost use Rattle.tree_model.specs.Tree.{DirEntry};
 
-    ghost Value = { Entry };
+    ghost Value = { DirEntry };
 
     ghost view = { λ a. record { cookie = a.cookie; name = a.name.items; ino = a.ino } };
 }
 
-impl Name {
+impl DirEntry {
     pub fn cookie(&self) -> u64
         ensures { result ≡ self.now.cookie }
     {
@@ -65,13 +62,13 @@ impl Name {
     }
 }
 
-fn find_name<'a>(entries: &'a [Name], name: &[u8]) -> Option<&'a Name>
+fn find_name<'a>(entries: &'a [DirEntry], name: &[u8]) -> Option<&'a DirEntry>
     ensures { option_copied result ≡ entry_named name.now entries.now }
 {
     entries.iter().find(|e| e.is_named(name))
 }
 
-fn find_above(entries: &[Name], cookie: u64) -> Option<&Name>
+fn find_above(entries: &[DirEntry], cookie: u64) -> Option<&DirEntry>
     ensures { option_copied result ≡ entry_above cookie entries.now }
 {
     entries.iter().find(|e| cookie < e.cookie())
@@ -91,26 +88,27 @@ fn copy_part(bytes: &[u8], offset: u64, buf: &mut [u8]) -> usize
 
 fn push_name(
     alloc: Global,
-    entries: &mut Vec<Name>,
+    entries: &mut Vec<DirEntry>,
     cookie: u64,
     name: &[u8],
     ino: u64,
 ) -> Result<(), AllocError>
-    ensures ok { OnOk result (entries.new.items ≡ entries.old.items ++ record { cookie = cookie; name = name.now; ino = ino } ∷ []) }
+    ensures ok { OnOk result (entries.new.items ≡ entries.old.items ++ record
+        { cookie = cookie; name = name.now; ino = ino } ∷ []) }
     ensures err { OnErr result (entries.new.items ≡ entries.old.items) }
 {
     let name = Vec::from_slice(alloc, name)?;
-    entries.push(Name { cookie, name, ino })?;
+    entries.push(DirEntry { cookie, name, ino })?;
     Ok(())
 }
 
-/// What a record holds: a file its bytes; a directory its names, the next cookie and the number of the
-/// directory above; a link its target.
+/// What a record holds: a file its bytes; a directory its names, the next cookie and the number of
+/// the directory above; a link its target.
 #[derive(Drop)]
 pub enum Stored {
     Bytes(Vec<u8>),
     Names {
-        entries: Vec<Name>,
+        entries: Vec<DirEntry>,
         next: u64,
         above: u64,
     },
@@ -224,8 +222,9 @@ impl Node {
     }
 
     /// The first entry above a cookie.
-    pub fn entry_above(&self, cookie: u64) -> Option<&Name>
-        ensures { option_copied result ≡ option_and_then (entry_above cookie) (entries_of self.now.body) }
+    pub fn entry_above(&self, cookie: u64) -> Option<&DirEntry>
+        ensures { option_copied result ≡ option_and_then (entry_above cookie)
+            (entries_of self.now.body) }
     {
         match &self.body {
             Stored::Bytes(_) => None,
@@ -234,10 +233,12 @@ impl Node {
         }
     }
 
-    /// Copies the bytes of a file from an offset on, as many as there are and fit, and returns how many.
+    /// Copies the bytes of a file from an offset on, as many as there are and fit, and returns how
+    /// many.
     pub fn read(&self, offset: u64, buf: &mut [u8]) -> usize
         ensures count { result ≡ length (part (bytes_of self.now.body) offset (length buf.old)) }
-        ensures bytes { buf.new ≡ part (bytes_of self.now.body) offset (length buf.old) ++ drop result buf.old }
+        ensures bytes { buf.new ≡ part (bytes_of self.now.body) offset (length buf.old) ++ drop
+            result buf.old }
     {
         match &self.body {
             Stored::Bytes(bytes) => copy_part(bytes, offset, buf),
@@ -248,7 +249,8 @@ impl Node {
 
     /// The first refusal of a new name in this directory.
     pub fn refusal(&self, name: &[u8], number: u64, limit: u64) -> Option<u32>
-        ensures { result ≡ new_name_refused (not (self.now.links == 0)) limit number name.now (Some self.now.body) }
+        ensures { result ≡ new_name_refused (not (self.now.links == 0)) limit number name.now
+            (Some self.now.body) }
     {
         let Stored::Names { entries, next, .. } = &self.body else {
             return Some(ENOTDIR);

@@ -3,7 +3,7 @@ ghost use Rattle.std.specs.Prelude.{◌≡◌, ◌≢◌, ◌==◌, not, Result,
 ghost use Rattle.std.specs.List.{slice_split};
 ghost use Rattle.std.specs.FinMap as map;
 ghost use Rattle.std.specs.Result.{result_map_both};
-ghost use Rattle.tree_model.specs.Tree.{body_at, is_directory_at, top};
+ghost use Rattle.tree_model.specs.Tree.{body_at, is_directory_at};
 ghost use Rattle.tree_model.specs.Finding.{entries_at, ino_among, root_of, path_names};
 ghost use Rattle.tree_model.specs.Making.{change, joined_by, next_cookie, new_name_refused};
 ghost use Rattle.tree_model.specs.Sound.{has_no_links, swept};
@@ -11,7 +11,7 @@ ghost use Rattle.tree_host.specs.Holds.{is_held};
 ghost use Rattle.tree_host.specs.Host.{as_errno, Answers};
 ghost use Rattle.tree_model.specs.Reading.{shown_entry, entry_after_among};
 ghost use Rattle.tree_host.specs.Walking.{part_step, part_end, walk_parts};
-ghost use Rattle.tree_model.specs.Opening.{asked, unless, open_refused, readlink_body, found_at};
+ghost use Rattle.tree_model.specs.Opening.{body_answer, unless, open_refused, readlink_body, found_at};
 ghost use Rattle.tree_model.specs.Attributes.{kind_of};
 ghost use Rattle.tree_model.specs.Placing.{link_refused, one_link_more};
 ghost use Rattle.tree_host.specs.Stored.{links};
@@ -28,12 +28,13 @@ mod unlinking;
 use crate::change::Change;
 use crate::entry::Entry;
 use crate::holds::is_held;
-use crate::node::{Name, Node, TOP};
+use crate::node::{DirEntry, Node};
 pub use creating::{create_node, link_node, make_node};
 use port_base::errno::{ENOENT, ENOTDIR};
 use port_base::table::Table;
 pub use renaming::{found, move_entry, move_refusal, sweep_replaced};
 use std::alloc::{AllocError, Global};
+use tree_model::attributes::TOP;
 use tree_model::{HostError, Limits, Stamp};
 pub use unlinking::{find_empty, find_file, remove_entry};
 
@@ -78,7 +79,8 @@ pub fn sweep(nodes: &mut Table<Node>, holds: &Table<u64>, ino: u64)
 
 // One more part of a path.
 fn walk_part(nodes: &Table<Node>, at: Result<u64, HostError>, part: &[u8]) -> Result<u64, HostError>
-    ensures { (told : Result ℕ ℕ) → at ≡ as_errno told → result ≡ as_errno (part_step nodes.now part.now told) }
+    ensures { (told : Result ℕ ℕ) → at ≡ as_errno told → result ≡ as_errno
+        (part_step nodes.now part.now told) }
 {
     let ino = at?;
     if part.is_empty() {
@@ -89,7 +91,8 @@ fn walk_part(nodes: &Table<Node>, at: Result<u64, HostError>, part: &[u8]) -> Re
 
 // Where a path from the top leads, whatever stands there.
 fn reach(nodes: &Table<Node>, path: &[u8]) -> Result<u64, HostError>
-    ensures { result ≡ as_errno (walk_parts nodes.now (Ok top) (slice_split (λ b. b == 47) path.now)) }
+    ensures { result ≡ as_errno (walk_parts nodes.now (Ok TOP)
+        (slice_split (λ b. b == 47) path.now)) }
 {
     let mut at = Ok(TOP);
     for part in path.split(|b| *b == b'/') {
@@ -110,7 +113,8 @@ pub fn find(nodes: &Table<Node>, path: &[u8]) -> Option<u64>
 }
 
 fn end_of_walk(nodes: &Table<Node>, at: Result<u64, HostError>) -> Result<u64, HostError>
-    ensures { (told : Result ℕ ℕ) → at ≡ as_errno told → result ≡ as_errno (part_end nodes.now told) }
+    ensures { (told : Result ℕ ℕ) → at ≡ as_errno told → result ≡ as_errno
+        (part_end nodes.now told) }
 {
     let ino = at?;
     if is_directory(nodes, ino) {
@@ -131,7 +135,8 @@ pub fn walk(nodes: &Table<Node>, path: &[u8]) -> Result<u64, HostError>
 
 /// Whether an inode may be opened.
 pub fn open_check(nodes: &Table<Node>, ino: u64, flags: u32) -> Result<(), HostError>
-    ensures { result ≡ as_errno (asked (λ b. unless (open_refused flags (kind_of b))) (body_at nodes.now ino)) }
+    ensures { result ≡ as_errno (body_answer (λ b. unless (open_refused flags (kind_of b)))
+        (body_at nodes.now ino)) }
 {
     let Some(node) = nodes.get(ino) else {
         return Err(HostError::Errno(ENOENT));
@@ -144,7 +149,8 @@ pub fn open_check(nodes: &Table<Node>, ino: u64, flags: u32) -> Result<(), HostE
 
 /// The target of a link.
 pub fn read_link(alloc: Global, nodes: &Table<Node>, ino: u64) -> Result<Vec<u8>, HostError>
-    ensures answer { Answers (asked readlink_body (body_at nodes.now ino)) (result_map_both (λ target. target.items) (λ e. e) result) }
+    ensures answer { Answers (body_answer readlink_body (body_at nodes.now ino))
+        (result_map_both (λ target. target.items) (λ e. e) result) }
     ensures fault { result ≢ Err HostError.Fault }
 {
     match nodes.get(ino) {
@@ -155,7 +161,8 @@ pub fn read_link(alloc: Global, nodes: &Table<Node>, ino: u64) -> Result<Vec<u8>
 
 /// The first refusal of a new name in a directory.
 pub fn refusal(nodes: &Table<Node>, dir: u64, name: &[u8], number: u64, limit: u64) -> Option<u32>
-    ensures { result ≡ new_name_refused (not (has_no_links (map.get nodes.now dir))) limit number name.now (body_at nodes.now dir) }
+    ensures { result ≡ new_name_refused (not (has_no_links (map.get nodes.now dir))) limit number
+        name.now (body_at nodes.now dir) }
 {
     match nodes.get(dir) {
         Some(node) => node.refusal(name, number, limit),
@@ -171,7 +178,8 @@ pub fn link_refusal(
     ino: u64,
     limits: Limits,
 ) -> Option<u32>
-    ensures { result ≡ link_refused (not (has_no_links (map.get nodes.now dir))) limits name.now (body_at nodes.now dir) (map.get nodes.now ino) }
+    ensures { result ≡ link_refused (not (has_no_links (map.get nodes.now dir))) limits name.now
+        (body_at nodes.now dir) (map.get nodes.now ino) }
 {
     let Some(directory) = nodes.get(dir) else {
         return Some(ENOTDIR);
@@ -217,7 +225,8 @@ pub fn add_node(
     requires room { unwrap_or (option_map next_cookie (body_at nodes.old dir)) 0 < 2 ^ 64 - 1 }
     requires apart { dir ≢ ino }
     requires fresh { map.get nodes.old ino ≡ None }
-    ensures ok { OnOk result (nodes.new ≡ change (joined_by name.now ino) (map.insert nodes.old ino node) dir) }
+    ensures ok { OnOk result (nodes.new ≡ change (joined_by name.now ino)
+        (map.insert nodes.old ino node) dir) }
     ensures err { OnErr result (nodes.new ≡ nodes.old) }
 {
     nodes.insert(ino, node)?;
@@ -251,7 +260,8 @@ pub fn add_name(
     requires room { unwrap_or (option_map next_cookie (body_at nodes.old dir)) 0 < 2 ^ 64 - 1 }
     requires apart { dir ≢ ino }
     requires few { unwrap_or (option_map links (map.get nodes.old ino)) 0 < 2 ^ 64 - 1 }
-    ensures ok { OnOk result (nodes.new ≡ change (joined_by name.now ino) (change one_link_more nodes.old ino) dir) }
+    ensures ok { OnOk result (nodes.new ≡ change (joined_by name.now ino)
+        (change one_link_more nodes.old ino) dir) }
     ensures err { OnErr result (nodes.new ≡ nodes.old) }
 {
     push_into(alloc, nodes, dir, name, ino)?;
@@ -267,7 +277,8 @@ pub fn change_node(
     moment: Stamp,
     limit: u64,
 ) -> Result<(), HostError>
-    ensures made { Makes (refused_at (change_refused wanted limit) (body_at nodes.old ino)) (change (changed_by wanted moment) nodes.old ino) nodes.old nodes.new result }
+    ensures made { Makes (refused_at (change_refused wanted limit) (body_at nodes.old ino))
+        (change (changed_by wanted moment) nodes.old ino) nodes.old nodes.new result }
     ensures small { IsTrue (is_small wanted) → result ≢ Err HostError.NoMemory }
 {
     match nodes.get_mut(ino) {
@@ -285,7 +296,9 @@ pub fn write_node(
     moment: Stamp,
     limit: u64,
 ) -> Result<(), HostError>
-    ensures { Makes (refused_at (write_refused limit offset new.now) (body_at nodes.old ino)) (change (overwritten_at moment offset (fitting limit offset new.now)) nodes.old ino) nodes.old nodes.new result }
+    ensures { Makes (refused_at (write_refused limit offset new.now) (body_at nodes.old ino))
+        (change (overwritten_at moment offset (fitting limit offset new.now)) nodes.old ino)
+        nodes.old nodes.new result }
 {
     match nodes.get_mut(ino) {
         Some(node) => node.write(offset, new, moment, limit),
@@ -294,7 +307,7 @@ pub fn write_node(
 }
 
 // An entry with what is told of the inode that it names.
-fn shown(alloc: Global, nodes: &Table<Node>, entry: &Name) -> Result<Option<Entry>, HostError>
+fn shown(alloc: Global, nodes: &Table<Node>, entry: &DirEntry) -> Result<Option<Entry>, HostError>
     ensures told { IfOk result (λ shown. shown ≡ shown_entry nodes.now entry.now) }
     ensures memory { IfErr result (λ e. e ≡ HostError.NoMemory) }
 {
@@ -302,7 +315,11 @@ fn shown(alloc: Global, nodes: &Table<Node>, entry: &Name) -> Result<Option<Entr
         return Ok(None);
     };
     match Vec::from_slice(alloc, entry.name()) {
-        Ok(name) => Ok(Some(Entry::new(entry.cookie(), name, node.attr(entry.ino())))),
+        Ok(name) => Ok(Some(Entry {
+            cookie: entry.cookie(),
+            name,
+            attr: node.attr(entry.ino()),
+        })),
         Err(_) => Err(HostError::NoMemory),
     }
 }

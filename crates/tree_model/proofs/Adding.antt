@@ -6,7 +6,7 @@ use Rattle.std.proofs.lemmas.Bool.{cases_eq, false≢true}
 use Rattle.std.proofs.lemmas.Bool.Decides.{nat_tests}
 use Rattle.std.proofs.lemmas.List.Elements.{Contains-append_cases}
 use Rattle.std.specs.FinMap.{get, insert}
-use Rattle.tree_model.specs.Tree.{Tree, Record, Records, Body, Entry, top, listed, is_directory, is_directory_at, name_count, names_in, is_linked, count_names, weight}
+use Rattle.tree_model.specs.Tree.{Tree, Record, Records, Body, DirEntry, TOP, listed, is_directory, is_directory_at, name_count, names_in, is_linked, count_names, weight}
 use Rattle.tree_model.specs.Tree.Body.{File, Directory, Link}
 use Rattle.tree_model.specs.Good.{IsAt, IsGoodRecord, IsGoodTree, Climbs, links_of}
 use Rattle.tree_model.specs.Sound.{IsKept, AreStored}
@@ -14,14 +14,13 @@ use Rattle.tree_model.specs.Making.{with_entries, next_cookie, joined_by}
 use Rattle.tree_model.proofs.Maps.{inserted, insert_keeps}
 use Rattle.tree_model.proofs.Counting.{weigh-insert}
 use Rattle.tree_model.proofs.Naming.{named_is_stored}
-use Rattle.tree_model.proofs.Keeping.{above_stored}
 use Rattle.tree_model.proofs.Bodies.{shows_links, with_entries-is_directory, with_entries-listed, with_entries-above, same_some}
 
 or_true : (b : Bool) → (b || true) ≡ true
 or_true true = refl
 or_true false = refl
 
-pub count_names-push : (q : ℕ) (es : List Entry) (e : Entry) → count_names q (es ++ e ∷ []) ≡ count_names q es + cond {A = ℕ} (e.ino == q) 1 0
+pub count_names-push : (q : ℕ) (es : List DirEntry) (e : DirEntry) → count_names q (es ++ e ∷ []) ≡ count_names q es + cond {A = ℕ} (e.ino == q) 1 0
 count_names-push q [] e = omega arith
 count_names-push q (f ∷ es) e = let more = count_names-push q es e in omega arith
 
@@ -34,7 +33,7 @@ pub record IsAdded (t : Tree) (dir : ℕ) (name : List ℕ) (d d' f : Record) : 
   pub same_links : d'.links ≡ d.links
   pub lists : listed f.body ≡ []
   pub shows : f.links ≡ links_of f.body 1 true
-  pub under : (es : List Entry) (next up : ℕ) → f.body ≡ Directory es next up → up ≡ dir
+  pub under : (es : List DirEntry) (next up : ℕ) → f.body ≡ Directory es next up → up ≡ dir
 
 module _ (t : Tree) (g : IsGoodTree t) (dir : ℕ) (name : List ℕ) (d d' f : Record) (w : IsAdded t dir name d d' f) where
   abbrev pub rs : Records
@@ -53,10 +52,10 @@ module _ (t : Tree) (g : IsGoodTree t) (dir : ℕ) (name : List ℕ) (d d' f : R
   apart is = let low = (g.numbers dir d w.at).1 in absurd (omega arith)
 
   pub beyond : 1 < next
-  beyond = by_top (get rs top) refl where
-    by_top : (o : Option Record) → get rs top ≡ o → 1 < next
+  beyond = by_top (get rs TOP) refl where
+    by_top : (o : Option Record) → get rs TOP ≡ o → 1 < next
     by_top None at = absurd (false≢true (subst (λ o. is_directory_at (option_map (λ (r : Record). r.body) o) ≡ true) at g.top_is_directory))
-    by_top (Some r) at = (g.numbers top r at).1
+    by_top (Some r) at = (g.numbers TOP r at).1
 
   pub free : get rs next ≡ None
   free = by_record (get rs next) refl where
@@ -76,7 +75,7 @@ module _ (t : Tree) (g : IsGoodTree t) (dir : ℕ) (name : List ℕ) (d d' f : R
   at_other : (q : ℕ) → q ≢ next → q ≢ dir → get made q ≡ get rs q
   at_other q ne nd = insert_keeps mid dir d' q nd ∙ insert_keeps rs next f q ne
 
-  abbrev entry : Entry
+  abbrev entry : DirEntry
   entry = record { cookie = next_cookie d.body; name = name; ino = t.next }
 
   lists_more : listed d'.body ≡ listed d.body ++ entry ∷ []
@@ -97,7 +96,7 @@ module _ (t : Tree) (g : IsGoodTree t) (dir : ℕ) (name : List ℕ) (d d' f : R
   same_count q ne = let c = counts q in let none : cond {A = ℕ} (next == q) 1 0 ≡ 0 = grind (arith, nat_tests) in omega arith
 
   same_linked : (q : ℕ) → q ≢ next → is_linked made q ≡ is_linked rs q
-  same_linked q ne = ap (λ n. (q == top) || nat_lt 0 n) (same_count q ne)
+  same_linked q ne = ap (λ n. (q == TOP) || nat_lt 0 n) (same_count q ne)
 
   unnamed_before : name_count rs next ≡ 0
   unnamed_before = by_count (name_count rs next) refl where
@@ -109,7 +108,7 @@ module _ (t : Tree) (g : IsGoodTree t) (dir : ℕ) (name : List ℕ) (d d' f : R
   one_name = let c = counts next in let n = unnamed_before in let one : cond {A = ℕ} (next == next) 1 0 ≡ 1 = grind (arith, nat_tests) in omega arith
 
   live_next : is_linked made next ≡ true
-  live_next = ap (λ n. (next == top) || nat_lt 0 n) one_name ∙ or_true (next == top)
+  live_next = ap (λ n. (next == TOP) || nat_lt 0 n) one_name ∙ or_true (next == TOP)
 
   by_place : (P : ℕ → Record → Type 0) → P next f → P dir d' → ((q : ℕ) (x : Record) → q ≢ next → q ≢ dir → IsAt rs q x → P q x) → (q : ℕ) (x : Record) → IsAt made q x → P q x
   by_place P here there other q x is = ⊎_elim
@@ -133,10 +132,10 @@ module _ (t : Tree) (g : IsGoodTree t) (dir : ℕ) (name : List ℕ) (d d' f : R
   not_new q x at is = let none : get rs q ≡ None = ap (get rs) is ∙ free in cc
 
   -- a directory stays under the same directory
-  same_above : (es : List Entry) (n up : ℕ) → d'.body ≡ Directory es n up → (gs : List Entry) × (m : ℕ) × (d.body ≡ Directory gs m up)
+  same_above : (es : List DirEntry) (n up : ℕ) → d'.body ≡ Directory es n up → (gs : List DirEntry) × (m : ℕ) × (d.body ≡ Directory gs m up)
   same_above es n up is = with_entries-above d.body _ es _ n up (sym w.joined ∙ is)
 
-  body_of_dir : (b : Body) (es : List Entry) (n up : ℕ) → b ≡ Directory es n up → (fs : List Entry) (m : ℕ) → with_entries b fs m ≡ Directory fs m up
+  body_of_dir : (b : Body) (es : List DirEntry) (n up : ℕ) → b ≡ Directory es n up → (fs : List DirEntry) (m : ℕ) → with_entries b fs m ≡ Directory fs m up
   body_of_dir b es n up is fs m = ap (λ b. with_entries b fs m) is
 
   climbs_on : (n i : ℕ) → Climbs rs n i → Climbs made n i
@@ -186,13 +185,13 @@ module _ (t : Tree) (g : IsGoodTree t) (dir : ℕ) (name : List ℕ) (d d' f : R
   below_dir = let more = names_new in let now : 1 ≤ names_in next d' = omega arith in subst (λ o. IfSome o (λ x. 1 ≤ names_in next x)) (sym at_dir) now
 
   module _ (good_d : IsGoodRecord d') (good_f : IsGoodRecord f) where
-    new_entries : (e : Entry) → Contains (listed d'.body) e → IsSome (get made e.ino) × (e.ino ≢ top)
+    new_entries : (e : DirEntry) → Contains (listed d'.body) e → IsSome (get made e.ino) × (e.ino ≢ TOP)
     new_entries e c = ⊎_elim
         (λ old. let had = g.entries dir d e w.at old in (stored e.ino had.0, had.1))
         (λ new. let same : e ≡ entry = by_last e new.0 new.1 new.2 in
-        (subst (λ (e : Entry). IsSome (get made e.ino)) (sym same) (subst IsSome (sym at_next) refl), λ is. let b = beyond in let one : next ≡ top = sym (ap (λ (e : Entry). e.ino) same) ∙ is in absurd (omega arith)))
+        (subst (λ (e : DirEntry). IsSome (get made e.ino)) (sym same) (subst IsSome (sym at_next) refl), λ is. let b = beyond in let one : next ≡ TOP = sym (ap (λ (e : DirEntry). e.ino) same) ∙ is in absurd (omega arith)))
         (Contains-append_cases (listed d.body) (entry ∷ []) e (subst (λ es. Contains es e) lists_more c)) where
-          by_last : (e : Entry) (k : ℕ) → k < length (entry ∷ []) → get_or (entry ∷ []) k e ≡ e → e ≡ entry
+          by_last : (e : DirEntry) (k : ℕ) → k < length (entry ∷ []) → get_or (entry ∷ []) k e ≡ e → e ≡ entry
           by_last e zero low is = sym is
           by_last e (suc k) low is = absurd (omega arith)
 
@@ -203,7 +202,7 @@ module _ (t : Tree) (g : IsGoodTree t) (dir : ℕ) (name : List ℕ) (d d' f : R
       top_is_directory = top_stays;
       numbers = by_place (λ q x. (1 ≤ q) × (q < next + 1)) (let b = beyond in (omega arith, omega arith)) (let n = g.numbers dir d w.at in (n.0, let m = n.1 in omega arith)) (λ q x ne nd was. let n = g.numbers q x was in (n.0, let m = n.1 in omega arith));
       records = by_place (λ q x. IsGoodRecord x) good_f good_d (λ q x ne nd was. g.records q x was);
-      entries = λ q x e is c. by_place (λ q x. (e : Entry) → Contains (listed x.body) e → IsSome (get made e.ino) × (e.ino ≢ top))
+      entries = λ q x e is c. by_place (λ q x. (e : DirEntry) → Contains (listed x.body) e → IsSome (get made e.ino) × (e.ino ≢ TOP))
           (λ e c. absurd (let none = subst (λ es. Contains es e) w.lists c in let low = none.1 in omega arith))
           new_entries
           (λ q x ne nd was e c. let had = g.entries q x e was c in (stored e.ino had.0, had.1))
@@ -216,16 +215,23 @@ module _ (t : Tree) (g : IsGoodTree t) (dir : ℕ) (name : List ℕ) (d d' f : R
           (λ is. let one = one_name in omega arith)
           (λ is. let le = g.once dir d w.at w.directory in let same = same_count dir apart in omega arith)
           (λ q x ne nd was is. let le = g.once q x was is in let same = same_count q ne in omega arith);
-      above = λ q x es n up at is live ne. by_place (λ q x. (es : List Entry) (n up : ℕ) → x.body ≡ Directory es n up → IsTrue (is_linked made q) → q ≢ top → IfSome (get made up) (λ x. 1 ≤ names_in q x))
-          (λ es n up is live ne. subst (λ up. IfSome (get made up) (λ x. 1 ≤ names_in next x)) (sym (w.under es n up is)) below_dir)
+      above = λ q x es n up at is live ne. by_place (λ q x. (es : List DirEntry) (n up : ℕ) → x.body ≡ Directory es n up → IsTrue (is_linked made q) → q ≢ TOP → IsSome (get made up) × IfSome (get made up) (λ x. 1 ≤ names_in q x))
+          (λ es n up is live ne. subst (λ up. IsSome (get made up) × IfSome (get made up) (λ x. 1 ≤ names_in next x)) (sym (w.under es n up is)) (subst IsSome (sym at_dir) refl, below_dir))
           (λ es n up is live ne.
           let old = same_above es n up is in
           let was = sym (same_linked dir apart) ∙ live in
-          still_above dir up (above_stored t g dir d old.0 old.1 up w.at old.2 was ne) (g.above dir d old.0 old.1 up w.at old.2 was ne))
+          let had = g.above dir d old.0 old.1 up w.at old.2 was ne in
+          (stored up had.0, still_above dir up had.0 had.1))
           (λ q x nn nd at es n up is live ne.
           let was = sym (same_linked q nn) ∙ live in
-          still_above q up (above_stored t g q x es n up at is was ne) (g.above q x es n up at is was ne))
+          let had = g.above q x es n up at is was ne in
+          (stored up had.0, still_above q up had.0 had.1))
           q x at es n up is live ne;
+      top_above = λ x es n up at is. by_place (λ q x. q ≡ TOP → (es : List DirEntry) (n up : ℕ) → x.body ≡ Directory es n up → up ≡ TOP)
+          (λ top es n up is. let b = beyond in absurd (omega arith))
+          (λ top es n up is. let old = same_above es n up is in g.top_above d old.0 old.1 up (sym (ap (get rs) top) ∙ w.at) old.2)
+          (λ q x nn nd at top es n up is. g.top_above x es n up (sym (ap (get rs) top) ∙ at) is)
+          TOP x at refl es n up is;
       climbs = by_place (λ q x. IsTrue (is_directory x.body) → IsTrue (is_linked made q) → ∥ ((n : ℕ) × Climbs made n q) ∥₁)
           (λ is live. ∥∥₁_map (g.climbs dir d w.at w.directory w.live) (λ c. new_climb f.body refl is c.0 c.1))
           (λ is live. ∥∥₁_map (g.climbs dir d w.at w.directory w.live) (λ c. (c.0, climbs_on c.0 dir c.1)))
@@ -235,11 +241,11 @@ module _ (t : Tree) (g : IsGoodTree t) (dir : ℕ) (name : List ℕ) (d d' f : R
           (λ loose. absurd (false≢true (sym loose ∙ same_linked dir apart ∙ w.live)))
           (λ q x ne nd was loose. g.emptied q x was (sym (same_linked q ne) ∙ loose));
     } where
-      top_stays : IsTrue (is_directory_at (option_map (λ (r : Record). r.body) (get made top)))
+      top_stays : IsTrue (is_directory_at (option_map (λ (r : Record). r.body) (get made TOP)))
       top_stays = ⊎_elim
           (λ eq. subst (λ o. is_directory_at (option_map (λ (r : Record). r.body) o) ≡ true) (sym (ap (get made) eq ∙ at_dir)) (ap is_directory w.joined ∙ with_entries-is_directory d.body _ _ ∙ w.directory))
-          (λ nd. subst (λ o. is_directory_at (option_map (λ (r : Record). r.body) o) ≡ true) (sym (at_other top (let b = beyond in omega arith) nd)) g.top_is_directory)
-          (cases_eq top dir)
+          (λ nd. subst (λ o. is_directory_at (option_map (λ (r : Record). r.body) o) ≡ true) (sym (at_other TOP (let b = beyond in omega arith) nd)) g.top_is_directory)
+          (cases_eq TOP dir)
 
       new_climb : (b : Body) → f.body ≡ b → is_directory b ≡ true → (n : ℕ) → Climbs rs n dir → (m : ℕ) × Climbs made m next
       new_climb (File bytes) is plain n c = absurd (false≢true plain)

@@ -10,8 +10,8 @@ use Rattle.tree_model.specs.declared.attributes.TimeSet.TheVariants.{Keep, Now, 
 use Rattle.tree_model.specs.Tree.{Tree, Record, Body, body_at, listed, is_directory}
 use Rattle.tree_model.specs.Good.{IsAt, IsGoodStamp, IsGoodRecord, IsGoodTree, links_of}
 use Rattle.tree_model.specs.Sound.{IsKept, AreStored}
-use Rattle.tree_model.specs.Making.{changed, change}
-use Rattle.tree_model.specs.Attributing.{with_changed, changing, refused_at, is_timely, time_after, times_refused, retimed}
+use Rattle.tree_model.specs.Making.{changed, change, unless_refused}
+use Rattle.tree_model.specs.Attributing.{with_changed, refused_at, is_timely, time_after, times_refused, retimed}
 use Rattle.tree_model.proofs.Altering.{IsAltered, altered_good, altered_kept, altered_stored}
 
 -- a record whose body and links stay
@@ -33,7 +33,7 @@ changed_good t g f ino alters = by_record (get t.records ino) refl where
   by_record None at = g
   by_record (Some r) at = altered_good t g ino r (f r) (alters r at)
 
-pub changing_good : {A : Type 0} (a b : A) (f : Record → Record) (ino : ℕ) (t u : Tree) (o : Option ℕ) → changing a f ino t o ≡ Ok (b, u) → IsGoodTree (with_changed f ino t) → IsGoodTree u
+pub changing_good : {A : Type 0} (a b : A) (f : Record → Record) (ino : ℕ) (t u : Tree) (o : Option ℕ) → unless_refused o a (with_changed f ino t) ≡ Ok (b, u) → IsGoodTree (with_changed f ino t) → IsGoodTree u
 changing_good a b f ino t u (Some e) is good = absurd (cc)
 changing_good {A} a b f ino t u None is good =
     let both : ◌≡◌ {A = A × Tree} (a, with_changed f ino t) (b, u) = cc in
@@ -57,7 +57,7 @@ low_mode mode = omega arith
 
 -- ---- calls that may be refused
 
-changing_free : {A : Type 0} (a b : A) (f : Record → Record) (ino : ℕ) (t u : Tree) (o : Option ℕ) → changing a f ino t o ≡ Ok (b, u) → o ≡ None
+changing_free : {A : Type 0} (a b : A) (f : Record → Record) (ino : ℕ) (t u : Tree) (o : Option ℕ) → unless_refused o a (with_changed f ino t) ≡ Ok (b, u) → o ≡ None
 changing_free a b f ino t u (Some e) is = absurd (cc)
 changing_free a b f ino t u None is = refl
 
@@ -70,7 +70,7 @@ abbrev pub Amends : Tree → ℕ → (Body → Option ℕ) → (Record → Recor
 Amends t ino refused f = (r : Record) → IsAt t.records ino r → refused r.body ≡ None → IsAltered t ino r (f r)
 
 module _ (t : Tree) (g : IsGoodTree t) (ino : ℕ) (refused : Body → Option ℕ) (f : Record → Record) (amends : Amends t ino refused f) where
-  pub call_good : {A : Type 0} (a b : A) (u : Tree) → changing a f ino t (refused_at refused (body_at t.records ino)) ≡ Ok (b, u) → IsGoodTree u
+  pub call_good : {A : Type 0} (a b : A) (u : Tree) → unless_refused (refused_at refused (body_at t.records ino)) a (with_changed f ino t) ≡ Ok (b, u) → IsGoodTree u
   call_good a b u is =
       let free = changing_free a b f ino t u (refused_at refused (body_at t.records ino)) is in
       changing_good a b f ino t u (refused_at refused (body_at t.records ino)) is (changed_good t g f ino (λ r at. amends r at (not_refused t ino r refused at free)))

@@ -6,7 +6,7 @@ use Rattle.std.proofs.lemmas.Bool.{false≢true}
 use Rattle.std.proofs.lemmas.Bool.Decides.{nat_tests}
 use Rattle.std.proofs.lemmas.Map.Steps.{length-le_from_distinct_below}
 use Rattle.std.specs.FinMap.{get}
-use Rattle.tree_model.specs.Tree.{Tree, Record, Records, top, is_directory_at}
+use Rattle.tree_model.specs.Tree.{Tree, Record, Records, TOP, is_directory_at}
 use Rattle.tree_model.specs.Good.{IsGoodTree}
 use Rattle.tree_model.specs.Reading.{above}
 use Rattle.tree_model.specs.Renaming.{above_at, climbs_past}
@@ -47,22 +47,22 @@ module _ (t : Tree) (g : IsGoodTree t) (ino : ℕ) where
     by_test true later = refl
     by_test false later = ap (past k) (above_none 0 none_at_zero) ∙ later
 
-  top_stored : IsSome (get rs top)
-  top_stored = by_record (get rs top) refl where
-    by_record : (o : Option Record) → get rs top ≡ o → IsSome (get rs top)
+  top_stored : IsSome (get rs TOP)
+  top_stored = by_record (get rs TOP) refl where
+    by_record : (o : Option Record) → get rs TOP ≡ o → IsSome (get rs TOP)
     by_record None at = absurd (false≢true (subst (λ o. is_directory_at (option_map (λ (r : Record). r.body) o) ≡ true) at g.top_is_directory))
     by_record (Some r) at = subst IsSome (sym at) refl
 
   -- what climbs is stored
   climbs_stored : (k i : ℕ) → past (suc k) i ≡ true → IsSome (get rs i)
   climbs_stored k i is = by_record (get rs i) refl where
-    by_tests : get rs i ≡ None → (b c : Bool) → (i == top) ≡ c → cond b false (cond c true (past k (above_at rs i))) ≡ true → IsSome (get rs i)
+    by_tests : get rs i ≡ None → (b c : Bool) → (i == TOP) ≡ c → cond b false (cond c true (past k (above_at rs i))) ≡ true → IsSome (get rs i)
     by_tests none true c high is = absurd (false≢true is)
-    by_tests none false true high is = subst (λ i. IsSome (get rs i)) (let same : top ≡ i = grind (arith, nat_tests) in same) top_stored
+    by_tests none false true high is = subst (λ i. IsSome (get rs i)) (let same : TOP ≡ i = grind (arith, nat_tests) in same) top_stored
     by_tests none false false high is = absurd (false≢true (sym (never_from_zero k) ∙ sym (ap (past k) (above_none i none)) ∙ is))
 
     by_record : (o : Option Record) → get rs i ≡ o → IsSome (get rs i)
-    by_record None at = by_tests at (i == ino) (i == top) refl is
+    by_record None at = by_tests at (i == ino) (i == TOP) refl is
     by_record (Some r) at = subst IsSome (sym at) refl
 
   climbs_below : (k i : ℕ) → past (suc k) i ≡ true → i < t.next
@@ -75,7 +75,7 @@ module _ (t : Tree) (g : IsGoodTree t) (ino : ℕ) where
 
   one_more : (k i : ℕ) → past k i ≡ true → past (suc k) i ≡ true
   one_more zero i is = absurd (false≢true is)
-  one_more (suc k) i is = by_tests (i == ino) (i == top) is (λ is. one_more k (above_at rs i) is) where
+  one_more (suc k) i is = by_tests (i == ino) (i == TOP) is (λ is. one_more k (above_at rs i) is) where
     by_tests : (b c : Bool) → cond b false (cond c true (past k (above_at rs i))) ≡ true → (past k (above_at rs i) ≡ true → past (suc k) (above_at rs i) ≡ true) → cond b false (cond c true (past (suc k) (above_at rs i))) ≡ true
     by_tests true c is later = absurd (false≢true is)
     by_tests false true is later = refl
@@ -102,7 +102,7 @@ module _ (t : Tree) (g : IsGoodTree t) (ino : ℕ) where
     by_test false less later = (k, (is, less))
 
   least_above : (k i : ℕ) → IsLeast (suc k) i → IsLeast k (above_at rs i)
-  least_above k i least = by_tests (i == ino) (i == top) least.0 least.1 where
+  least_above k i least = by_tests (i == ino) (i == TOP) least.0 least.1 where
     by_tests : (b c : Bool) → cond b false (cond c true (past (suc k) (above_at rs i))) ≡ true → cond b false (cond c true (past k (above_at rs i))) ≡ false → IsLeast k (above_at rs i)
     by_tests true c is less = absurd (false≢true is)
     by_tests false true is less = absurd (false≢true (sym less))

@@ -6,10 +6,10 @@ use Rattle.tree_model.specs.declared.attributes.Stamp.{Stamp}
 use Rattle.tree_model.specs.Tree.{Tree, Record, body_at, is_linked}
 use Rattle.tree_model.specs.Good.{IsAt, IsGoodStamp, IsGoodTree}
 use Rattle.tree_model.specs.Sound.{IsKept, AreStored}
-use Rattle.tree_model.specs.Placing.{IsNew, create_refused, with_record, link_refused, with_link}
-use Rattle.tree_model.specs.Making.{changed}
+use Rattle.tree_model.specs.Placing.{IsNew, with_record, link_refused, with_link}
+use Rattle.tree_model.specs.Making.{changed, unless_refused, create_refused}
 use Rattle.tree_model.specs.Attributing.{with_changed, restamped}
-use Rattle.tree_model.specs.Creating.{stamped, made_unless, with_new, with_name, empty_file, empty_directory}
+use Rattle.tree_model.specs.Creating.{stamped, with_new, with_name, empty_file, empty_directory}
 use Rattle.tree_model.proofs.Altering.{IsAltered, altered_kept, altered_stored}
 use Rattle.tree_model.proofs.Attributing.{same_body, changed_good, restamped_good, low_mode}
 use Rattle.tree_model.proofs.Placing.{new_directory, with_record_good, with_record_kept_more, with_record_stored_more}
@@ -19,7 +19,7 @@ pub stamped_alters : (t : Tree) → IsGoodTree t → (ino : ℕ) (r : Record) �
 stamped_alters t g ino r at = let w = g.records ino r at in
     same_body t ino r _ at refl refl (record { body = w.body; mode = w.mode; links = w.links; atime = w.atime; mtime = g.moment; ctime = g.moment })
 
-pub made_good : {A : Type 0} (o : Option ℕ) (a b : A) (t u : Tree) → made_unless o a t ≡ Ok (b, u) → (o ≡ None → IsGoodTree t) → IsGoodTree u
+pub made_good : {A : Type 0} (o : Option ℕ) (a b : A) (t u : Tree) → unless_refused o a t ≡ Ok (b, u) → (o ≡ None → IsGoodTree t) → IsGoodTree u
 made_good (Some e) a b t u is good = absurd (cc)
 made_good {A} None a b t u is good =
     let both : ◌≡◌ {A = A × Tree} (a, t) (b, u) = cc in

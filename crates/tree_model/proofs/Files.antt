@@ -10,12 +10,12 @@ use Rattle.port_base.specs.Names.{name_fault}
 use Rattle.port_base.specs.declared.errno.TheConstants.{ENOENT, EEXIST, ENOTDIR, EFBIG, ENOSPC}
 use Rattle.tree_model.specs.declared.attributes.Stamp.{Stamp}
 use Rattle.tree_model.specs.declared.attributes.Limits.{Limits}
-use Rattle.tree_model.specs.Tree.{Tree, Record, Records, Entry, top, body_at, listed, is_directory, is_directory_at, name_count, names_in, is_linked, weight}
+use Rattle.tree_model.specs.Tree.{Tree, Record, Records, DirEntry, TOP, body_at, listed, is_directory, is_directory_at, name_count, names_in, is_linked, weight}
 use Rattle.tree_model.specs.Tree.Body.{Directory}
 use Rattle.tree_model.specs.Good.{IsAt, IsGoodStamp, IsGoodLimits, IsGoodRecord, IsGoodTree, Climbs, links_of}
 use Rattle.tree_model.specs.Sound.{IsCounted, AreStored, has_no_links}
 use Rattle.tree_model.specs.Finding.{entry_named}
-use Rattle.tree_model.specs.Making.{new_tree, next_cookie, changed, joined_by, is_full, new_name_refused, NewFile, file_record, add_refused, with_file, add_file_unless}
+use Rattle.tree_model.specs.Making.{new_tree, next_cookie, changed, joined_by, is_full, new_name_refused, NewFile, file_record, add_refused, with_file, unless_refused}
 use Rattle.tree_model.proofs.Maps.{inserted, insert_keeps}
 use Rattle.tree_model.proofs.Counting.{weigh-insert, weigh-empty}
 use Rattle.tree_model.proofs.Naming.{named_is_stored}
@@ -117,7 +117,7 @@ module _ (t : Tree) (g : IsGoodTree t) (born : Stamp) (dir : ℕ) (name : List �
 -- where a file is not refused, the tree with it is good
 pub added_file_good : (t : Tree) → IsGoodTree t → (born : Stamp) (dir : ℕ) (name : List ℕ) (f : NewFile) → IsGoodStamp born → name_fault name ≡ None → f.mode < 4096
     → (o : Option ℕ) → add_refused (new_name_refused (is_linked t.records dir) t.limits.entries t.next name (body_at t.records dir)) t.limits.file f ≡ o
-    → (ino : ℕ) (u : Tree) → add_file_unless o born t dir name f ≡ Ok (ino, u) → IsGoodTree u
+    → (ino : ℕ) (u : Tree) → unless_refused o t.next (with_file born t dir name f) ≡ Ok (ino, u) → IsGoodTree u
 added_file_good t g born dir name f stamp fine mode (Some e) is ino u made = absurd (cc)
 added_file_good t g born dir name f stamp fine mode None is ino u made =
     let known = refused_first (new_name_refused (is_linked t.records dir) t.limits.entries t.next name (body_at t.records dir)) t.limits.file f is in
@@ -128,38 +128,39 @@ added_file_good t g born dir name f stamp fine mode None is ino u made =
 
 module _ (limits : Limits) (moment born : Stamp) (mode uid gid : ℕ) where
   abbrev first : Record
-  first = record { body = Directory [] 1 top; mode = mode; uid = uid; gid = gid; links = 2; atime = born; mtime = born; ctime = born }
+  first = record { body = Directory [] 1 TOP; mode = mode; uid = uid; gid = gid; links = 2; atime = born; mtime = born; ctime = born }
 
   abbrev alone : Records
-  alone = insert empty top first
+  alone = insert empty TOP first
 
   names_none : (q : ℕ) → name_count alone q ≡ 0
   names_none q =
-      let step = weigh-insert (names_in q) empty top first in
+      let step = weigh-insert (names_in q) empty TOP first in
       let none = weigh-empty {X = Record} (names_in q) in
-      let nothing : weight (names_in q) (get empty top) ≡ 0 = ap (weight (names_in q)) (get-empty nat_cmp top) in
+      let nothing : weight (names_in q) (get empty TOP) ≡ 0 = ap (weight (names_in q)) (get-empty nat_cmp TOP) in
       omega arith
 
-  is_first : (q : ℕ) (x : Record) → IsAt alone q x → (q ≡ top) × (first ≡ x)
+  is_first : (q : ℕ) (x : Record) → IsAt alone q x → (q ≡ TOP) × (first ≡ x)
   is_first q x is = ⊎_elim
-      (λ eq. (eq, same_some first x (sym (inserted empty top first) ∙ sym (ap (get alone) eq) ∙ is)))
-      (λ ne. absurd (let none : get alone q ≡ None = insert_keeps empty top first q ne ∙ get-empty nat_cmp q in cc))
-      (cases_eq q top)
+      (λ eq. (eq, same_some first x (sym (inserted empty TOP first) ∙ sym (ap (get alone) eq) ∙ is)))
+      (λ ne. absurd (let none : get alone q ≡ None = insert_keeps empty TOP first q ne ∙ get-empty nat_cmp q in cc))
+      (cases_eq q TOP)
 
-  of_first : (P : ℕ → Record → Type 0) → P top first → (q : ℕ) (x : Record) → IsAt alone q x → P q x
-  of_first P here q x is = let w = is_first q x is in subst (λ q. P q x) (sym w.0) (subst (P top) w.1 here)
+  of_first : (P : ℕ → Record → Type 0) → P TOP first → (q : ℕ) (x : Record) → IsAt alone q x → P q x
+  of_first P here q x is = let w = is_first q x is in subst (λ q. P q x) (sym w.0) (subst (P TOP) w.1 here)
 
   pub new_tree_good : IsGoodLimits limits → IsGoodStamp moment → IsGoodStamp born → mode < 4096 → IsGoodTree (new_tree limits moment born mode uid gid)
   new_tree_good good_limits good_moment good_born good_mode = record {
     limits = good_limits;
     moment = good_moment;
-    top_is_directory = subst (λ o. is_directory_at (option_map (λ (r : Record). r.body) o) ≡ true) (sym (inserted empty top first)) refl;
+    top_is_directory = subst (λ o. is_directory_at (option_map (λ (r : Record). r.body) o) ≡ true) (sym (inserted empty TOP first)) refl;
     numbers = of_first (λ q x. (1 ≤ q) × (q < 2)) (omega arith, omega arith);
     records = of_first (λ q x. IsGoodRecord x) (record { body = (omega arith, λ k d low. absurd (omega arith), λ i j d less low. absurd (omega arith)); mode = good_mode; links = omega arith; atime = good_born; mtime = good_born; ctime = good_born });
-    entries = λ q x e is c. of_first (λ q x. (e : Entry) → Contains (listed x.body) e → IsSome (get alone e.ino) × (e.ino ≢ top)) (λ e c. absurd (let low = c.1 in omega arith)) q x is e c;
+    entries = λ q x e is c. of_first (λ q x. (e : DirEntry) → Contains (listed x.body) e → IsSome (get alone e.ino) × (e.ino ≢ TOP)) (λ e c. absurd (let low = c.1 in omega arith)) q x is e c;
     links = of_first (λ q x. x.links ≡ links_of x.body (name_count alone q) (is_linked alone q)) refl;
-    once = of_first (λ q x. IsTrue (is_directory x.body) → name_count alone q ≤ 1) (λ is. let none = names_none top in omega arith);
+    once = of_first (λ q x. IsTrue (is_directory x.body) → name_count alone q ≤ 1) (λ is. let none = names_none TOP in omega arith);
     above = λ q x es n up is body live ne. absurd (ne (is_first q x is).0);
+    top_above = λ x es n up at is. let bodies : Directory [] 1 TOP ≡ Directory es n up = ap (λ (r : Record). r.body) (is_first TOP x at).1 ∙ is in cc;
     climbs = of_first (λ q x. IsTrue (is_directory x.body) → IsTrue (is_linked alone q) → ∥ ((n : ℕ) × Climbs alone n q) ∥₁) (λ is live. merely (zero, refl));
     emptied = of_first (λ q x. is_linked alone q ≡ false → listed x.body ≡ []) (λ loose. refl);
   }

@@ -11,8 +11,8 @@ use Rattle.tree_model.specs.Tree.{Tree, Record, Records, body_at, listed, is_dir
 use Rattle.tree_model.specs.Good.{IsAt, IsGoodTree}
 use Rattle.tree_model.specs.Sound.{IsKept, AreStored, IsCounted, has_no_links}
 use Rattle.tree_model.specs.Finding.{entry_named}
-use Rattle.tree_model.specs.Making.{next_cookie, joined_by, changed, change}
-use Rattle.tree_model.specs.Placing.{takes_no_entry, link_refused, one_link_more, with_link, linked_unless}
+use Rattle.tree_model.specs.Making.{next_cookie, joined_by, changed, change, unless_refused}
+use Rattle.tree_model.specs.Placing.{takes_no_entry, link_refused, one_link_more, with_link}
 use Rattle.tree_model.proofs.Sweeping.{no_links}
 use Rattle.tree_model.proofs.Bodies.{good_joined}
 use Rattle.tree_model.proofs.Linking.{IsLinkedIn, mid_dir, linked_in_good, linked_kept, linked_stored}
@@ -121,7 +121,7 @@ module _ (t : Tree) (g : IsGoodTree t) (dir ino : ℕ) (name : List ℕ) (w : Is
   with_link_stored held s = subst (λ (rs : Records). AreStored rs held) (sym records_are) (linked_stored t g dir ino name w.d (joined_by name ino w.d) w.x (one_link_more w.x) is_linked_in held s)
 
 pub linked_unless_good : (t : Tree) → IsGoodTree t → (dir ino : ℕ) (name : List ℕ) → name_fault name ≡ None → (o : Option ℕ) → link_refused (is_linked t.records dir) t.limits name (body_at t.records dir) (get t.records ino) ≡ o
-    → (n : ℕ) (u : Tree) → linked_unless o t dir name ino ≡ Ok (n, u) → IsGoodTree u
+    → (n : ℕ) (u : Tree) → unless_refused o ino (with_link t dir name ino) ≡ Ok (n, u) → IsGoodTree u
 linked_unless_good t g dir ino name fine (Some e) is n u made = absurd (cc)
 linked_unless_good t g dir ino name fine None is n u made =
     let both : ◌≡◌ {A = ℕ × Tree} (ino, with_link t dir name ino) (n, u) = cc in

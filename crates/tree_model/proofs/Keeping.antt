@@ -1,14 +1,11 @@
 -- A good tree stays good where records go that are not linked.
-use Rattle.std.proofs.Common.{◌≡◌, ◌≢◌, ℕ, zero, suc, ◌<◌, ◌≤◌, Bool, true, false, cond, ◌||◌, List, refl, sym, ap, ◌∙◌, subst, Option, Some, None, ◌⊎◌, inl, inr, ⊎_elim, arith, IsSome, nat_lt}
+use Rattle.std.proofs.Common.{◌≡◌, ℕ, zero, suc, ◌<◌, ◌≤◌, Bool, true, false, cond, ◌||◌, refl, sym, ap, ◌∙◌, subst, Option, Some, None, ◌⊎◌, inl, inr, ⊎_elim, arith, IsSome, nat_lt}
 use Rattle.std.specs.Prelude.{◌==◌, option_map, IfSome}
-use Rattle.std.proofs.Math.Logic.{∥∥₁_map, ∥∥₁_elim}
+use Rattle.std.proofs.Math.Logic.{∥∥₁_map}
 use Rattle.std.proofs.lemmas.Bool.{cases_eq, false≢true}
 use Rattle.std.proofs.lemmas.Bool.Decides.{nat_tests}
 use Rattle.std.specs.FinMap.{get, retain_keys}
-use Rattle.std.proofs.Props.{props}
-use Rattle.tree_model.specs.Tree.Body.{Directory}
-use Rattle.tree_model.proofs.Bodies.{same_some}
-use Rattle.tree_model.specs.Tree.{Tree, Record, Records, Entry, top, is_directory, is_directory_at, name_count, names_in, is_linked, count_names, weight, keep, linked}
+use Rattle.tree_model.specs.Tree.{Tree, Record, Records, TOP, is_directory_at, name_count, names_in, is_linked, count_names, weight, keep, linked}
 use Rattle.tree_model.specs.Good.{IsAt, IsGoodTree, Climbs, links_of}
 use Rattle.tree_model.specs.Sound.{IsKept, AreStored}
 use Rattle.tree_model.proofs.Maps.{retained}
@@ -17,13 +14,13 @@ use Rattle.tree_model.proofs.Naming.{entry_is_counted}
 
 -- what is named is linked
 pub named_is_linked : (rs : Records) (i : ℕ) → 0 < name_count rs i → is_linked rs i ≡ true
-named_is_linked rs i many = by_count (i == top) (name_count rs i) many where
+named_is_linked rs i many = by_count (i == TOP) (name_count rs i) many where
   by_count : (b : Bool) (n : ℕ) → 0 < n → (b || nat_lt 0 n) ≡ true
   by_count true n more = refl
   by_count false n more = grind (arith, nat_tests)
 
 -- the top, or a record that is stored, is where a climb goes on
-pub climb_goes_on : (rs : Records) (n i : ℕ) → Climbs rs n i → (i ≡ top) ⊎ IsSome (get rs i)
+pub climb_goes_on : (rs : Records) (n i : ℕ) → Climbs rs n i → (i ≡ TOP) ⊎ IsSome (get rs i)
 climb_goes_on rs zero i c = inl c
 climb_goes_on rs (suc n) i c = ⊎_elim (λ is. inl is) (λ s. inr (subst IsSome (sym s.4) refl)) c
 
@@ -38,27 +35,6 @@ module _ (t : Tree) (g : IsGoodTree t) where
     by_record : (o : Option Record) → get t.records up ≡ o → IfSome o (λ d. 1 ≤ names_in i d) → IsSome o → is_linked t.records up ≡ true
     by_record None at many had = absurd (false≢true had)
     by_record (Some d) at many had = by_link d at many (is_linked t.records up) refl
-
-  -- what is above a linked directory is stored
-  pub above_stored : (q : ℕ) (x : Record) (es : List Entry) (n up : ℕ) → IsAt t.records q x → x.body ≡ Directory es n up → is_linked t.records q ≡ true → q ≢ top → IsSome (get t.records up)
-  above_stored q x es n up at is live ne = ∥∥₁_elim (g.climbs q x at (ap is_directory is) live) (hlevel props) (λ c. by_climb c.0 c.1) where
-    top_stored : IsSome (get t.records top)
-    top_stored = by_top (get t.records top) refl where
-      by_top : (o : Option Record) → get t.records top ≡ o → IsSome (get t.records top)
-      by_top None at = absurd (false≢true (subst (λ o. is_directory_at (option_map (λ (r : Record). r.body) o) ≡ true) at g.top_is_directory))
-      by_top (Some r) at = subst IsSome (sym at) refl
-
-    higher : (s : (r : Record) × (gs : List Entry) × (m : ℕ) × (j : ℕ) × IsAt t.records q r × (r.body ≡ Directory gs m j)) → s.3 ≡ up
-    higher s = let same : s.0 ≡ x = same_some s.0 x (sym s.4 ∙ at) in let bodies : Directory s.1 s.2 s.3 ≡ Directory es n up = sym s.5 ∙ ap (λ (r : Record). r.body) same ∙ is in cc
-
-    by_climb : (k : ℕ) → Climbs t.records k q → IsSome (get t.records up)
-    by_climb zero c = absurd (ne c)
-    by_climb (suc k) c = ⊎_elim
-        (λ is. absurd (ne is))
-        (λ s.
-        let same = higher (s.0, s.1, s.2, s.3, s.4, s.5) in
-        subst (λ j. IsSome (get t.records j)) same (⊎_elim (λ is. subst (λ j. IsSome (get t.records j)) (sym is) top_stored) (λ had. had) (climb_goes_on t.records k s.3 s.6)))
-        c
 
 module _ (t : Tree) (g : IsGoodTree t) (p : ℕ → Bool) (all : (i : ℕ) → is_linked t.records i ≡ true → p i ≡ true) where
   abbrev rs : Records
@@ -96,7 +72,7 @@ module _ (t : Tree) (g : IsGoodTree t) (p : ℕ → Bool) (all : (i : ℕ) → i
     by_test q false is = ap (weight (names_in i)) (goes q is) ∙ sym (lists_none i q is)
 
   pub retained-is_linked : (q : ℕ) → is_linked left q ≡ is_linked rs q
-  retained-is_linked q = ap (λ n. (q == top) || nat_lt 0 n) (retained-name_count q)
+  retained-is_linked q = ap (λ n. (q == TOP) || nat_lt 0 n) (retained-name_count q)
 
   climbs_on : (n i : ℕ) → is_linked rs i ≡ true → Climbs rs n i → Climbs left n i
   climbs_on zero i live c = c
@@ -107,10 +83,10 @@ module _ (t : Tree) (g : IsGoodTree t) (p : ℕ → Bool) (all : (i : ℕ) → i
       (λ ne.
       let higher : is_linked rs s.3 ≡ true = ⊎_elim
       (λ is. subst (λ k. is_linked rs k ≡ true) (sym is) refl)
-      (λ had. above_is_linked t g i s.3 (g.above i s.0 s.1 s.2 s.3 s.4 s.5 live ne) had)
+      (λ had. above_is_linked t g i s.3 (g.above i s.0 s.1 s.2 s.3 s.4 s.5 live ne).1 had)
       (climb_goes_on rs n s.3 s.6) in
       inr (s.0, s.1, s.2, s.3, stays i (all i live) ∙ s.4, s.5, climbs_on n s.3 higher s.6))
-      (cases_eq i top))
+      (cases_eq i TOP))
       c
 
   still_above : (i up : ℕ) → IfSome (get rs up) (λ d. 1 ≤ names_in i d) → IfSome (get left up) (λ d. 1 ≤ names_in i d)
@@ -126,7 +102,7 @@ module _ (t : Tree) (g : IsGoodTree t) (p : ℕ → Bool) (all : (i : ℕ) → i
   good_retained = record {
     limits = g.limits;
     moment = g.moment;
-    top_is_directory = ap (λ o. is_directory_at (option_map (λ (r : Record). r.body) o)) (stays top (all top refl)) ∙ g.top_is_directory;
+    top_is_directory = ap (λ o. is_directory_at (option_map (λ (r : Record). r.body) o)) (stays TOP (all TOP refl)) ∙ g.top_is_directory;
     numbers = λ i r at. g.numbers i r (was_at i r at);
     records = λ i r at. g.records i r (was_at i r at);
     entries = λ i r e at c.
@@ -135,7 +111,11 @@ module _ (t : Tree) (g : IsGoodTree t) (p : ℕ → Bool) (all : (i : ℕ) → i
         (subst IsSome (sym (stays e.ino (all e.ino (named_is_linked rs e.ino many)))) had.0, had.1);
     links = λ i r at. g.links i r (was_at i r at) ∙ ap (λ n. links_of r.body n (is_linked rs i)) (sym (retained-name_count i)) ∙ ap (links_of r.body (name_count left i)) (sym (retained-is_linked i));
     once = λ i r at directory. let le = g.once i r (was_at i r at) directory in let same = retained-name_count i in omega arith;
-    above = λ i r es next up at is live ne. still_above i up (g.above i r es next up (was_at i r at) is (was_linked i live) ne);
+    above = λ i r es next up at is live ne.
+        let had = g.above i r es next up (was_at i r at) is (was_linked i live) ne in
+        let linked = above_is_linked t g i up had.1 had.0 in
+        (subst IsSome (sym (stays up (all up linked))) had.0, still_above i up had.1);
+    top_above = λ r es next up at is. g.top_above r es next up (was_at TOP r at) is;
     climbs = λ i r at directory live. ∥∥₁_map (g.climbs i r (was_at i r at) directory (was_linked i live)) (λ c. (c.0, climbs_on c.0 i (was_linked i live) c.1));
     emptied = λ i r at out. g.emptied i r (was_at i r at) (sym (retained-is_linked i) ∙ out);
   }

@@ -3,7 +3,7 @@ use Rattle.std.proofs.Common.{◌≡◌, ◌≢◌, ℕ, ◌+◌, Bool, List, re
 use Rattle.std.specs.Prelude.{option_map, Contains}
 use Rattle.std.proofs.lemmas.Bool.{cases_eq}
 use Rattle.std.specs.FinMap.{get}
-use Rattle.tree_model.specs.Tree.{Record, Records, Entry, listed, is_directory, name_count, names_in, count_names, weight}
+use Rattle.tree_model.specs.Tree.{Record, Records, DirEntry, listed, is_directory, name_count, names_in, count_names, weight}
 use Rattle.tree_model.specs.Tree.Body.{Directory}
 use Rattle.tree_model.specs.Good.{IsAt, IsGoodRecord, links_of}
 use Rattle.tree_model.specs.Making.{change, changed}
@@ -66,10 +66,10 @@ pub record IsKin (olddir newdir ino q : ℕ) (r x : Record) : Type 0 where
   pub links : x.links ≡ r.links
   pub shows : (n : ℕ) (linked : Bool) → links_of x.body n linked ≡ links_of r.body n linked
   pub names : (i : ℕ) → i ≢ ino → names_in i x ≡ names_in i r
-  pub entries : (e : Entry) → Contains (listed x.body) e → Contains (listed r.body) e ⊎ (e.ino ≡ ino)
+  pub entries : (e : DirEntry) → Contains (listed x.body) e → Contains (listed r.body) e ⊎ (e.ino ≡ ino)
   pub lists : q ≢ olddir → q ≢ newdir → listed x.body ≡ listed r.body
-  pub place : q ≢ ino → (es : List Entry) (n up : ℕ) → x.body ≡ Directory es n up → (fs : List Entry) × (m : ℕ) × (r.body ≡ Directory fs m up)
-  pub stays : q ≢ ino → (es : List Entry) (n up : ℕ) → r.body ≡ Directory es n up → (fs : List Entry) × (m : ℕ) × (x.body ≡ Directory fs m up)
+  pub place : q ≢ ino → (es : List DirEntry) (n up : ℕ) → x.body ≡ Directory es n up → (fs : List DirEntry) × (m : ℕ) × (r.body ≡ Directory fs m up)
+  pub stays : q ≢ ino → (es : List DirEntry) (n up : ℕ) → r.body ≡ Directory es n up → (fs : List DirEntry) × (m : ℕ) × (x.body ≡ Directory fs m up)
 
 module _ (olddir newdir ino q : ℕ) where
   -- the body stays

@@ -6,7 +6,7 @@ use Rattle.std.proofs.lemmas.Bool.Decides.{nat_tests}
 use Rattle.std.proofs.lemmas.List.{nil_from_length}
 use Rattle.std.specs.FinMap.{get, insert}
 use Rattle.port_base.specs.declared.errno.TheConstants.{ENOTDIR, EISDIR, ENOTEMPTY}
-use Rattle.tree_model.specs.Tree.{Tree, Record, Records, Body, Entry, body_at, listed, is_directory, is_directory_at, name_count, is_linked, keep}
+use Rattle.tree_model.specs.Tree.{Tree, Record, Records, Body, DirEntry, body_at, listed, is_directory, is_directory_at, name_count, is_linked, keep}
 use Rattle.tree_model.specs.Tree.Body.{File, Directory, Link}
 use Rattle.tree_model.specs.Good.{IsAt, IsGoodTree}
 use Rattle.tree_model.specs.Finding.{entry_named, entries_at, entries_of, ino_among, ino_or_missing, lookup_of}
@@ -22,7 +22,7 @@ use Rattle.tree_model.proofs.Unlinking.{IsUnlinkedIn, mid_dir, apart, same_linke
 -- an entry that a name finds in a directory
 pub record IsEntryIn (rs : Records) (dir : ℕ) (name : List ℕ) (ino : ℕ) : Type 0 where
   pub d : Record
-  pub e : Entry
+  pub e : DirEntry
   pub at : IsAt rs dir d
   pub directory : is_directory d.body ≡ true
   pub goes : entry_named name (listed d.body) ≡ Some e
@@ -30,7 +30,7 @@ pub record IsEntryIn (rs : Records) (dir : ℕ) (name : List ℕ) (ino : ℕ) : 
 
 pub entry_in : (rs : Records) (dir : ℕ) (name : List ℕ) (ino : ℕ) → ino_among false name (entries_at rs dir) ≡ Ok ino → IsEntryIn rs dir name ino
 entry_in rs dir name ino = by_record (get rs dir) refl where
-  by_found : (d : Record) → IsAt rs dir d → (es : List Entry) (next above : ℕ) → d.body ≡ Directory es next above → (o : Option Entry) → entry_named name es ≡ o → ino_or_missing o ≡ Ok ino → IsEntryIn rs dir name ino
+  by_found : (d : Record) → IsAt rs dir d → (es : List DirEntry) (next above : ℕ) → d.body ≡ Directory es next above → (o : Option DirEntry) → entry_named name es ≡ o → ino_or_missing o ≡ Ok ino → IsEntryIn rs dir name ino
   by_found d at es next above is None found f = absurd (cc)
   by_found d at es next above is (Some e) found f = record {
     d = d;
@@ -55,7 +55,7 @@ links_left-le (File bytes) n = omega arith
 links_left-le (Directory es next above) n = omega arith
 links_left-le (Link target) n = omega arith
 
-nil_of : (es : List Entry) → (length es == 0) ≡ true → es ≡ []
+nil_of : (es : List DirEntry) → (length es == 0) ≡ true → es ≡ []
 nil_of es is = nil_from_length es (grind (arith, nat_tests))
 
 module _ (t : Tree) (g : IsGoodTree t) (dir : ℕ) (name : List ℕ) (ino : ℕ) (is : lookup_of t dir name ≡ Ok ino) where

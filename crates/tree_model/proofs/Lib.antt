@@ -24,3 +24,4 @@ pub mod Renaming
 pub mod Reading
 pub mod Sampling
 pub mod Telling
+pub mod Chains

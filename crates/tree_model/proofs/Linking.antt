@@ -6,7 +6,7 @@ use Rattle.std.proofs.lemmas.Bool.{cases_eq, false≢true}
 use Rattle.std.proofs.lemmas.Bool.Decides.{nat_tests}
 use Rattle.std.proofs.lemmas.List.Elements.{Contains-append_cases}
 use Rattle.std.specs.FinMap.{get, insert}
-use Rattle.tree_model.specs.Tree.{Tree, Record, Records, Body, Entry, top, listed, is_directory, is_directory_at, name_count, names_in, is_linked, count_names, weight}
+use Rattle.tree_model.specs.Tree.{Tree, Record, Records, Body, DirEntry, TOP, listed, is_directory, is_directory_at, name_count, names_in, is_linked, count_names, weight}
 use Rattle.tree_model.specs.Tree.Body.{File, Directory, Link}
 use Rattle.tree_model.specs.Good.{IsAt, IsGoodRecord, IsGoodTree, Climbs, links_of}
 use Rattle.tree_model.specs.Sound.{IsKept, AreStored}
@@ -14,7 +14,6 @@ use Rattle.tree_model.specs.Making.{with_entries, next_cookie, joined_by}
 use Rattle.tree_model.proofs.Maps.{inserted, insert_keeps}
 use Rattle.tree_model.proofs.Counting.{weigh-insert}
 use Rattle.tree_model.proofs.Bodies.{shows_links, with_entries-is_directory, with_entries-listed, with_entries-above, same_some, lists_none}
-use Rattle.tree_model.proofs.Keeping.{above_stored}
 use Rattle.tree_model.proofs.Adding.{count_names-push}
 
 -- a record that isn't a directory has as many links as entries name it
@@ -51,7 +50,7 @@ module _ (t : Tree) (g : IsGoodTree t) (dir ino : ℕ) (name : List ℕ) (d d' x
       let same : d ≡ x = same_some d x (sym w.at ∙ ap (get rs) is ∙ w.there) in
       absurd (false≢true (sym w.plain ∙ ap (λ (r : Record). is_directory r.body) (sym same) ∙ w.directory))
 
-  not_top : ino ≢ top
+  not_top : ino ≢ TOP
   not_top is = absurd (false≢true (sym (ap (λ o. is_directory_at (option_map (λ (r : Record). r.body) o)) (sym (ap (get rs) is) ∙ w.there) ∙ w.plain) ∙ g.top_is_directory))
 
   pub mid_dir : get mid dir ≡ Some d
@@ -66,7 +65,7 @@ module _ (t : Tree) (g : IsGoodTree t) (dir ino : ℕ) (name : List ℕ) (d d' x
   at_other : (q : ℕ) → q ≢ ino → q ≢ dir → get made q ≡ get rs q
   at_other q ne nd = insert_keeps mid dir d' q nd ∙ insert_keeps rs ino x' q ne
 
-  abbrev entry : Entry
+  abbrev entry : DirEntry
   entry = record { cookie = next_cookie d.body; name = name; ino = ino }
 
   lists_more : listed d'.body ≡ listed d.body ++ entry ∷ []
@@ -97,8 +96,8 @@ module _ (t : Tree) (g : IsGoodTree t) (dir ino : ℕ) (name : List ℕ) (d d' x
 
   same_linked : (q : ℕ) → is_linked made q ≡ is_linked rs q
   same_linked q = ⊎_elim
-      (λ eq. ap (is_linked made) eq ∙ ap (λ b. (ino == top) || b) (both_named (name_count made ino) (name_count rs ino) (let m = one_more_name in omega arith) was_named) ∙ sym (ap (is_linked rs) eq))
-      (λ ne. ap (λ n. (q == top) || nat_lt 0 n) (same_count q ne))
+      (λ eq. ap (is_linked made) eq ∙ ap (λ b. (ino == TOP) || b) (both_named (name_count made ino) (name_count rs ino) (let m = one_more_name in omega arith) was_named) ∙ sym (ap (is_linked rs) eq))
+      (λ ne. ap (λ n. (q == TOP) || nat_lt 0 n) (same_count q ne))
       (cases_eq q ino)
 
   by_place : (P : ℕ → Record → Type 0) → P ino x' → P dir d' → ((q : ℕ) (r : Record) → q ≢ ino → q ≢ dir → IsAt rs q r → P q r) → (q : ℕ) (r : Record) → IsAt made q r → P q r
@@ -122,7 +121,7 @@ module _ (t : Tree) (g : IsGoodTree t) (dir ino : ℕ) (name : List ℕ) (d d' x
       (λ ne. ⊎_elim (λ eq. subst IsSome (sym (ap (get rs) eq ∙ w.at)) refl) (λ nd. subst IsSome (at_other q ne nd) had) (cases_eq q dir))
       (cases_eq q ino)
 
-  same_above : (es : List Entry) (n up : ℕ) → d'.body ≡ Directory es n up → (gs : List Entry) × (m : ℕ) × (d.body ≡ Directory gs m up)
+  same_above : (es : List DirEntry) (n up : ℕ) → d'.body ≡ Directory es n up → (gs : List DirEntry) × (m : ℕ) × (d.body ≡ Directory gs m up)
   same_above es n up is = with_entries-above d.body _ es _ n up (sym w.joined ∙ is)
 
   climbs_on : (n i : ℕ) → Climbs rs n i → Climbs made n i
@@ -144,7 +143,7 @@ module _ (t : Tree) (g : IsGoodTree t) (dir ino : ℕ) (name : List ℕ) (d d' x
       (λ nd. inr (s.0, s.1, s.2, s.3, at_other i (λ is. not_link s.0 s.1 s.2 s.3 (sym (ap (get rs) is) ∙ s.4) s.5) nd ∙ s.4, s.5, climbs_on n s.3 s.6))
       (cases_eq i dir))
       c where
-        not_link : (r : Record) (es : List Entry) (m up : ℕ) → IsAt rs ino r → r.body ≡ Directory es m up → ⊥
+        not_link : (r : Record) (es : List DirEntry) (m up : ℕ) → IsAt rs ino r → r.body ≡ Directory es m up → ⊥
         not_link r es m up at is =
             let same : x ≡ r = same_some x r (sym w.there ∙ at) in
             false≢true (sym w.plain ∙ ap (λ (r : Record). is_directory r.body) same ∙ ap is_directory is)
@@ -178,13 +177,13 @@ module _ (t : Tree) (g : IsGoodTree t) (dir ino : ℕ) (name : List ℕ) (d d' x
     not_directory : is_directory x'.body ≡ true → ⊥
     not_directory is = false≢true (sym w.plain ∙ ap is_directory (sym w.same_body) ∙ is)
 
-    new_entries : (e : Entry) → Contains (listed d'.body) e → IsSome (get made e.ino) × (e.ino ≢ top)
+    new_entries : (e : DirEntry) → Contains (listed d'.body) e → IsSome (get made e.ino) × (e.ino ≢ TOP)
     new_entries e c = ⊎_elim
         (λ old. let had = g.entries dir d e w.at old in (stored e.ino had.0, had.1))
         (λ new. let same : e ≡ entry = by_last e new.0 new.1 new.2 in
-        (subst (λ (e : Entry). IsSome (get made e.ino)) (sym same) (subst IsSome (sym at_ino) refl), λ is. not_top (sym (ap (λ (e : Entry). e.ino) same) ∙ is)))
+        (subst (λ (e : DirEntry). IsSome (get made e.ino)) (sym same) (subst IsSome (sym at_ino) refl), λ is. not_top (sym (ap (λ (e : DirEntry). e.ino) same) ∙ is)))
         (Contains-append_cases (listed d.body) (entry ∷ []) e (subst (λ es. Contains es e) lists_more c)) where
-          by_last : (e : Entry) (k : ℕ) → k < length (entry ∷ []) → get_or (entry ∷ []) k e ≡ e → e ≡ entry
+          by_last : (e : DirEntry) (k : ℕ) → k < length (entry ∷ []) → get_or (entry ∷ []) k e ≡ e → e ≡ entry
           by_last e zero low is = sym is
           by_last e (suc k) low is = absurd (omega arith)
 
@@ -195,7 +194,7 @@ module _ (t : Tree) (g : IsGoodTree t) (dir ino : ℕ) (name : List ℕ) (d d' x
       top_is_directory = top_stays;
       numbers = by_place (λ q r. (1 ≤ q) × (q < t.next)) (g.numbers ino x w.there) (g.numbers dir d w.at) (λ q r ne nd was. g.numbers q r was);
       records = by_place (λ q r. IsGoodRecord r) good_x good_d (λ q r ne nd was. g.records q r was);
-      entries = λ q r e is c. by_place (λ q r. (e : Entry) → Contains (listed r.body) e → IsSome (get made e.ino) × (e.ino ≢ top))
+      entries = λ q r e is c. by_place (λ q r. (e : DirEntry) → Contains (listed r.body) e → IsSome (get made e.ino) × (e.ino ≢ TOP))
           (λ e c. absurd (let none = subst (λ es. Contains es e) lists_nothing c in let low = none.1 in omega arith))
           new_entries
           (λ q r ne nd was e c. let had = g.entries q r e was c in (stored e.ino had.0, had.1))
@@ -209,16 +208,23 @@ module _ (t : Tree) (g : IsGoodTree t) (dir ino : ℕ) (name : List ℕ) (d d' x
           (λ is. absurd (not_directory is))
           (λ is. let le = g.once dir d w.at w.directory in let same = same_count dir apart in omega arith)
           (λ q r ne nd was is. let le = g.once q r was is in let same = same_count q ne in omega arith);
-      above = λ q r es n up at is live ne. by_place (λ q r. (es : List Entry) (n up : ℕ) → r.body ≡ Directory es n up → IsTrue (is_linked made q) → q ≢ top → IfSome (get made up) (λ r. 1 ≤ names_in q r))
+      above = λ q r es n up at is live ne. by_place (λ q r. (es : List DirEntry) (n up : ℕ) → r.body ≡ Directory es n up → IsTrue (is_linked made q) → q ≢ TOP → IsSome (get made up) × IfSome (get made up) (λ r. 1 ≤ names_in q r))
           (λ es n up is live ne. absurd (not_directory (ap is_directory is)))
           (λ es n up is live ne.
           let old = same_above es n up is in
           let was = sym (same_linked dir) ∙ live in
-          still_above dir up (above_stored t g dir d old.0 old.1 up w.at old.2 was ne) (g.above dir d old.0 old.1 up w.at old.2 was ne))
+          let had = g.above dir d old.0 old.1 up w.at old.2 was ne in
+          (stored up had.0, still_above dir up had.0 had.1))
           (λ q r nn nd at es n up is live ne.
           let was = sym (same_linked q) ∙ live in
-          still_above q up (above_stored t g q r es n up at is was ne) (g.above q r es n up at is was ne))
+          let had = g.above q r es n up at is was ne in
+          (stored up had.0, still_above q up had.0 had.1))
           q r at es n up is live ne;
+      top_above = λ r es n up at is. by_place (λ q r. q ≡ TOP → (es : List DirEntry) (n up : ℕ) → r.body ≡ Directory es n up → up ≡ TOP)
+          (λ top es n up is. absurd (not_top top))
+          (λ top es n up is. let old = same_above es n up is in g.top_above d old.0 old.1 up (sym (ap (get rs) top) ∙ w.at) old.2)
+          (λ q r nn nd at top es n up is. g.top_above r es n up (sym (ap (get rs) top) ∙ at) is)
+          TOP r at refl es n up is;
       climbs = by_place (λ q r. IsTrue (is_directory r.body) → IsTrue (is_linked made q) → ∥ ((n : ℕ) × Climbs made n q) ∥₁)
           (λ is live. absurd (not_directory is))
           (λ is live. ∥∥₁_map (g.climbs dir d w.at w.directory w.live) (λ c. (c.0, climbs_on c.0 dir c.1)))
@@ -228,11 +234,11 @@ module _ (t : Tree) (g : IsGoodTree t) (dir ino : ℕ) (name : List ℕ) (d d' x
           (λ loose. absurd (false≢true (sym loose ∙ same_linked dir ∙ w.live)))
           (λ q r ne nd was loose. g.emptied q r was (sym (same_linked q) ∙ loose));
     } where
-      top_stays : IsTrue (is_directory_at (option_map (λ (r : Record). r.body) (get made top)))
+      top_stays : IsTrue (is_directory_at (option_map (λ (r : Record). r.body) (get made TOP)))
       top_stays = ⊎_elim
           (λ eq. subst (λ o. is_directory_at (option_map (λ (r : Record). r.body) o) ≡ true) (sym (ap (get made) eq ∙ at_dir)) (ap is_directory w.joined ∙ with_entries-is_directory d.body _ _ ∙ w.directory))
-          (λ nd. subst (λ o. is_directory_at (option_map (λ (r : Record). r.body) o) ≡ true) (sym (at_other top (λ is. not_top (sym is)) nd)) g.top_is_directory)
-          (cases_eq top dir)
+          (λ nd. subst (λ o. is_directory_at (option_map (λ (r : Record). r.body) o) ≡ true) (sym (at_other TOP (λ is. not_top (sym is)) nd)) g.top_is_directory)
+          (cases_eq TOP dir)
 
   pub linked_kept : (held : ℕ → Bool) → IsKept rs held → IsKept made held
   linked_kept held k q had = ap (λ b. b || held q) (same_linked q) ∙ k q (was_stored q had)

@@ -8,7 +8,7 @@ use Rattle.std.proofs.lemmas.Bool.Decides.{nat_tests}
 use Rattle.std.proofs.lemmas.List.Elements.{Contains-append_cases}
 use Rattle.std.specs.FinMap.{get}
 use Rattle.port_base.specs.Names.{name_fault}
-use Rattle.tree_model.specs.Tree.{Tree, Record, Records, Body, Entry, top, body_at, listed, is_directory, is_directory_at, name_count, names_in, is_linked, count_names}
+use Rattle.tree_model.specs.Tree.{Tree, Record, Records, Body, DirEntry, TOP, body_at, listed, is_directory, is_directory_at, name_count, names_in, is_linked, count_names}
 use Rattle.tree_model.specs.Tree.Body.{File, Directory, Link}
 use Rattle.tree_model.specs.Good.{IsAt, IsGoodBody, IsGoodRecord, IsGoodTree, Climbs, links_of}
 use Rattle.tree_model.specs.Sound.{IsKept, IsKeptBut, AreStored}
@@ -17,7 +17,7 @@ use Rattle.tree_model.specs.Making.{change, joined_by, with_entries, next_cookie
 use Rattle.tree_model.specs.Reading.{above}
 use Rattle.tree_model.specs.Creating.{stamped}
 use Rattle.tree_model.specs.Unlinking.{without, parted_by}
-use Rattle.tree_model.specs.Renaming.{above_at, climbs_past, placed_below, settled, with_moved}
+use Rattle.tree_model.specs.Renaming.{above_at, climbs_past, placed_below, moved_below, with_moved}
 use Rattle.tree_model.proofs.Changing.{change_at}
 use Rattle.tree_model.proofs.Naming.{names_in-le, named_is_stored, top_is_unnamed}
 use Rattle.tree_model.proofs.Bodies.{shows_links, with_entries-is_directory, with_entries-listed, with_entries-above, same_some, good_joined}
@@ -29,7 +29,7 @@ use Rattle.tree_model.proofs.Kin.{change_from, change_to, change_counts, same_co
 -- ---- bodies
 
 -- a directory with other entries stays below the same directory
-other_entries : (b : Body) (es fs : List Entry) (next n up : ℕ) → b ≡ Directory es n up → with_entries b fs next ≡ Directory fs next up
+other_entries : (b : Body) (es fs : List DirEntry) (next n up : ℕ) → b ≡ Directory es n up → with_entries b fs next ≡ Directory fs next up
 other_entries b es fs next n up is = ap (λ b. with_entries b fs next) is
 
 placed-is_directory : (dir : ℕ) (b : Body) → is_directory (placed_below dir b) ≡ is_directory b
@@ -52,13 +52,13 @@ placed-good dir (File bytes) good = good
 placed-good dir (Directory es next up) good = good
 placed-good dir (Link target) good = good
 
-placed-above : (dir : ℕ) (b : Body) (es : List Entry) (n up : ℕ) → placed_below dir b ≡ Directory es n up → up ≡ dir
+placed-above : (dir : ℕ) (b : Body) (es : List DirEntry) (n up : ℕ) → placed_below dir b ≡ Directory es n up → up ≡ dir
 placed-above dir (File bytes) es n up is = absurd (cc)
 placed-above dir (Directory fs m a) es n up is = let same : dir ≡ up = cc in sym same
 placed-above dir (Link target) es n up is = absurd (cc)
 
 -- a name that isn't there isn't there without another
-without-none : (name other : List ℕ) (es : List Entry) → entry_named other es ≡ None → entry_named other (without name es) ≡ None
+without-none : (name other : List ℕ) (es : List DirEntry) → entry_named other es ≡ None → entry_named other (without name es) ≡ None
 without-none name other [] none = refl
 without-none name other (e ∷ es) none = by_tests (bytes_eq e.name name) (bytes_eq e.name other) refl none (λ none. without-none name other es none) where
   by_tests : (b c : Bool) → bytes_eq e.name other ≡ c → cond c (Some e) (entry_named other es) ≡ None → (entry_named other es ≡ None → entry_named other (without name es) ≡ None)
@@ -104,7 +104,7 @@ module _ (t : Tree) (g : IsGoodTree t) (olddir : ℕ) (oldname : List ℕ) (newd
   stamps = change (stamped t.moment) joined newdir
 
   abbrev pub made : Records
-  made = change (settled t.moment newdir) stamps ino
+  made = change (moved_below t.moment newdir) stamps ino
 
   abbrev Kin : ℕ → Record → Record → Type 0
   Kin = IsKin olddir newdir ino
@@ -155,7 +155,7 @@ module _ (t : Tree) (g : IsGoodTree t) (olddir : ℕ) (oldname : List ℕ) (newd
       (λ is. ap (λ (r : Record). entry_named newname (listed r.body)) (is.1 ∙ same) ∙ w.new)
       was.2
 
-  abbrev entry : Entry
+  abbrev entry : DirEntry
   entry = record { cookie = next_cookie (m.0).body; name = newname; ino = ino }
 
   lists_more : listed (joins m.0).body ≡ listed (m.0).body ++ entry ∷ []
@@ -175,8 +175,8 @@ module _ (t : Tree) (g : IsGoodTree t) (olddir : ℕ) (oldname : List ℕ) (newd
     place = λ ne es n up is. with_entries-above (m.0).body _ es _ n up is;
     stays = λ ne es n up is. (listed (m.0).body ++ entry ∷ [], next_cookie (m.0).body + 1, other_entries (m.0).body es _ _ n up is);
   }) where
-    by_last : (e : Entry) (k : ℕ) → k < length (entry ∷ []) → get_or (entry ∷ []) k e ≡ e → e.ino ≡ ino
-    by_last e zero low is = ap (λ (e : Entry). e.ino) (sym is)
+    by_last : (e : DirEntry) (k : ℕ) → k < length (entry ∷ []) → get_or (entry ∷ []) k e ≡ e → e.ino ≡ ino
+    by_last e zero low is = ap (λ (e : DirEntry). e.ino) (sym is)
     by_last e (suc k) low is = absurd (omega arith)
 
   joined_from : (q : ℕ) (x : Record) → IsAt joined q x → (r : Record) × IsAt parted q r × Kin q r x
@@ -185,7 +185,7 @@ module _ (t : Tree) (g : IsGoodTree t) (olddir : ℕ) (oldname : List ℕ) (newd
   stamps_from : (q : ℕ) (x : Record) → IsAt stamps q x → (r : Record) × IsAt joined q r × Kin q r x
   stamps_from = step_kin olddir newdir ino (stamped t.moment) joined newdir (λ r at. same_kin olddir newdir ino newdir r _ refl refl)
 
-  settles_kin : (r : Record) → Kin ino r (settled t.moment newdir r)
+  settles_kin : (r : Record) → Kin ino r (moved_below t.moment newdir r)
   settles_kin r = record {
     directory = placed-is_directory newdir r.body;
     links = refl;
@@ -199,7 +199,7 @@ module _ (t : Tree) (g : IsGoodTree t) (olddir : ℕ) (oldname : List ℕ) (newd
 
   from : (q : ℕ) (x : Record) → IsAt made q x → (r : Record) × IsAt rs q r × Kin q r x
   from q x at =
-      let e = step_kin olddir newdir ino (settled t.moment newdir) stamps ino (λ r at. settles_kin r) q x at in
+      let e = step_kin olddir newdir ino (moved_below t.moment newdir) stamps ino (λ r at. settles_kin r) q x at in
       let s = stamps_from q e.0 e.1 in
       let j = joined_from q s.0 s.1 in
       let p = parted_from q j.0 j.1 in
@@ -210,7 +210,7 @@ module _ (t : Tree) (g : IsGoodTree t) (olddir : ℕ) (oldname : List ℕ) (newd
       let p = change_to parts rs olddir q r at in
       let j = change_to joins parted newdir q p.0 p.1 in
       let s = change_to (stamped t.moment) joined newdir q j.0 j.1 in
-      let e = change_to (settled t.moment newdir) stamps ino q s.0 s.1 in
+      let e = change_to (moved_below t.moment newdir) stamps ino q s.0 s.1 in
       let was = from q e.0 e.1 in
       (e.0, e.1, subst (λ r. Kin q r e.0) (same_some was.0 r (sym was.1 ∙ at)) was.2)
 
@@ -223,12 +223,12 @@ module _ (t : Tree) (g : IsGoodTree t) (olddir : ℕ) (oldname : List ℕ) (newd
       let j = change_counts joins parted newdir q m.0 m.1 in
       let more = more_names q in
       let s = same_counts (stamped t.moment) joined newdir q (λ r. refl) in
-      let e = same_counts (settled t.moment newdir) stamps ino q (λ r. ap (count_names q) (placed-listed newdir r.body)) in
+      let e = same_counts (moved_below t.moment newdir) stamps ino q (λ r. ap (count_names q) (placed-listed newdir r.body)) in
       let one = ap (λ i. cond {A = ℕ} (i == q) 1 0) w.old.names in
       omega arith
 
   same_linked : (q : ℕ) → is_linked made q ≡ is_linked rs q
-  same_linked q = ap (λ n. (q == top) || nat_lt 0 n) (counts q)
+  same_linked q = ap (λ n. (q == TOP) || nat_lt 0 n) (counts q)
 
   named : 0 < name_count rs ino
   named =
@@ -238,7 +238,7 @@ module _ (t : Tree) (g : IsGoodTree t) (olddir : ℕ) (oldname : List ℕ) (newd
       let among = names_in-le rs olddir ino d w.old.at in
       omega arith
 
-  not_top : ino ≢ top
+  not_top : ino ≢ TOP
   not_top is = let none = top_is_unnamed t g in let some = subst (λ i. 0 < name_count rs i) is named in omega arith
 
   stored : (q : ℕ) → IsSome (get rs q) → IsSome (get made q)
@@ -273,16 +273,16 @@ module _ (t : Tree) (g : IsGoodTree t) (olddir : ℕ) (oldname : List ℕ) (newd
       record { body = good.body; mode = good.mode; links = good.links; atime = good.atime; mtime = g.moment; ctime = g.moment })
 
   made_records : (q : ℕ) (x : Record) → IsAt made q x → IsGoodRecord x
-  made_records = all_good (settled t.moment newdir) stamps ino stamps_good (λ r at.
+  made_records = all_good (moved_below t.moment newdir) stamps ino stamps_good (λ r at.
       let good = stamps_good ino r at in
       record { body = placed-good newdir r.body good.body; mode = good.mode; links = good.links; atime = good.atime; mtime = good.mtime; ctime = g.moment })
 
   -- ---- above
 
   -- what moves stands below the new directory
-  settled_above : (x : Record) → IsAt made ino x → (es : List Entry) (n up : ℕ) → x.body ≡ Directory es n up → up ≡ newdir
-  settled_above x at es n up is =
-      let was = change_from (settled t.moment newdir) stamps ino ino x at in
+  moved_above : (x : Record) → IsAt made ino x → (es : List DirEntry) (n up : ℕ) → x.body ≡ Directory es n up → up ≡ newdir
+  moved_above x at es n up is =
+      let was = change_from (moved_below t.moment newdir) stamps ino ino x at in
       ⊎_elim (λ h. placed-above newdir (was.0).body es n up (ap (λ (r : Record). r.body) (sym h.1) ∙ is)) (λ h. absurd (h.0 refl)) was.2
 
   if_there : (P : Record → Type 0) (i : ℕ) → ((y : Record) → IsAt made i y → P y) → IfSome (get made i) P
@@ -293,7 +293,7 @@ module _ (t : Tree) (g : IsGoodTree t) (olddir : ℕ) (oldname : List ℕ) (newd
 
   lists_it : (y : Record) → IsAt made newdir y → 1 ≤ names_in ino y
   lists_it y at =
-      let e = change_from (settled t.moment newdir) stamps ino newdir y at in
+      let e = change_from (moved_below t.moment newdir) stamps ino newdir y at in
       let at_e : names_in ino y ≡ names_in ino e.0 = ⊎_elim (λ h. ap (names_in ino) h.1 ∙ ap (count_names ino) (placed-listed newdir (e.0).body)) (λ h. ap (names_in ino) h.1) e.2 in
       let s = change_from (stamped t.moment) joined newdir newdir e.0 e.1 in
       let at_s : names_in ino e.0 ≡ names_in ino s.0 = ⊎_elim (λ h. ap (names_in ino) h.1) (λ h. ap (names_in ino) h.1) s.2 in
@@ -312,15 +312,15 @@ module _ (t : Tree) (g : IsGoodTree t) (olddir : ℕ) (oldname : List ℕ) (newd
 
   -- ---- climbs
 
-  above_is : (i : ℕ) (r : Record) (es : List Entry) (n up : ℕ) → IsAt rs i r → r.body ≡ Directory es n up → above_at rs i ≡ up
+  above_is : (i : ℕ) (r : Record) (es : List DirEntry) (n up : ℕ) → IsAt rs i r → r.body ≡ Directory es n up → above_at rs i ≡ up
   above_is i r es n up at is = ap (λ o. unwrap_or (option_map above (option_map (λ (r : Record). r.body) o)) 0) at ∙ ap above is
 
   -- a climb that passes the inode is as it was
   climbs_away : (k n i : ℕ) → Climbs rs n i → climbs_past rs ino k i ≡ true → Climbs made n i
   climbs_away k zero i c past = c
   climbs_away zero (suc n) i c past = absurd (false≢true past)
-  climbs_away (suc k) (suc n) i c past = ⊎_elim (λ is. inl is) (λ s. by_tests s (i == ino) (i == top) refl refl past (λ low. climbs_away k n s.3 s.6 low)) c where
-    by_tests : (s : (r : Record) × (es : List Entry) × (m : ℕ) × (above : ℕ) × IsAt rs i r × (r.body ≡ Directory es m above) × Climbs rs n above) (b h : Bool) → (i == ino) ≡ b → (i == top) ≡ h
+  climbs_away (suc k) (suc n) i c past = ⊎_elim (λ is. inl is) (λ s. by_tests s (i == ino) (i == TOP) refl refl past (λ low. climbs_away k n s.3 s.6 low)) c where
+    by_tests : (s : (r : Record) × (es : List DirEntry) × (m : ℕ) × (above : ℕ) × IsAt rs i r × (r.body ≡ Directory es m above) × Climbs rs n above) (b h : Bool) → (i == ino) ≡ b → (i == TOP) ≡ h
         → cond b false (cond h true (climbs_past rs ino k (above_at rs i))) ≡ true → (climbs_past rs ino k s.3 ≡ true → Climbs made n s.3) → Climbs made (suc n) i
     by_tests s true h here high past later = absurd (false≢true past)
     by_tests s false true here high past later = inl (grind (arith, nat_tests))
@@ -330,7 +330,7 @@ module _ (t : Tree) (g : IsGoodTree t) (olddir : ℕ) (oldname : List ℕ) (newd
         let stands = x.2.stays ne s.1 s.2 s.3 s.5 in
         inr (x.0, stands.0, stands.1, s.3, x.1, stands.2, later (subst (λ up. climbs_past rs ino k up ≡ true) (above_is i s.0 s.1 s.2 s.3 s.4 s.5) past))
 
-  is_made : (b : Body) → is_directory b ≡ true → (es : List Entry) × (n : ℕ) × (up : ℕ) × (b ≡ Directory es n up)
+  is_made : (b : Body) → is_directory b ≡ true → (es : List DirEntry) × (n : ℕ) × (up : ℕ) × (b ≡ Directory es n up)
   is_made (File bytes) is = absurd (false≢true is)
   is_made (Directory es n up) is = (es, n, up, refl)
   is_made (Link target) is = absurd (false≢true is)
@@ -346,7 +346,7 @@ module _ (t : Tree) (g : IsGoodTree t) (olddir : ℕ) (oldname : List ℕ) (newd
       let high = up moves in
       let x = to i s.0 s.4 in
       let b = is_made (x.0).body (x.2.directory ∙ ap is_directory s.5) in
-      let low = settled_above x.0 (sym (ap (get made) eq) ∙ x.1) b.0 b.1 b.2 b.3 in
+      let low = moved_above x.0 (sym (ap (get made) eq) ∙ x.1) b.0 b.1 b.2 b.3 in
       (suc high.0, inr (x.0, b.0, b.1, b.2, x.1, b.3, subst (Climbs made high.0) (sym low) high.1)))
       (λ ne.
       let rest = climbs_over n s.3 s.6 up in
@@ -369,7 +369,7 @@ module _ (t : Tree) (g : IsGoodTree t) (olddir : ℕ) (oldname : List ℕ) (newd
   moved_good = record {
     limits = g.limits;
     moment = g.moment;
-    top_is_directory = top_stays (get rs top) refl g.top_is_directory;
+    top_is_directory = top_stays (get rs TOP) refl g.top_is_directory;
     numbers = λ q x at. g.numbers q (from q x at).0 (from q x at).1;
     records = made_records;
     entries = λ q x e at c. let was = from q x at in ⊎_elim
@@ -382,13 +382,19 @@ module _ (t : Tree) (g : IsGoodTree t) (olddir : ℕ) (oldname : List ℕ) (newd
     once = λ q x at is. let was = from q x at in let le = g.once q was.0 was.1 (sym was.2.directory ∙ is) in let same = counts q in omega arith;
     above = λ q x es n up at is live ne. ⊎_elim
         (λ eq.
-        let low = settled_above x (sym (ap (get made) eq) ∙ at) es n up is in
-        subst (λ up. IfSome (get made up) (λ d. 1 ≤ names_in q d)) (sym low) (subst (λ q. IfSome (get made newdir) (λ d. 1 ≤ names_in q d)) (sym eq) (if_there (λ d. 1 ≤ names_in ino d) newdir lists_it)))
+        let low = moved_above x (sym (ap (get made) eq) ∙ at) es n up is in
+        subst (λ up. IsSome (get made up) × IfSome (get made up) (λ d. 1 ≤ names_in q d)) (sym low)
+        (stored newdir (subst IsSome (sym w.there) refl), subst (λ q. IfSome (get made newdir) (λ d. 1 ≤ names_in q d)) (sym eq) (if_there (λ d. 1 ≤ names_in ino d) newdir lists_it)))
         (λ nq.
         let was = from q x at in
         let b = was.2.place nq es n up is in
-        still_above q up nq (g.above q was.0 b.0 b.1 up was.1 b.2 (sym (same_linked q) ∙ live) ne))
+        let had = g.above q was.0 b.0 b.1 up was.1 b.2 (sym (same_linked q) ∙ live) ne in
+        (stored up had.0, still_above q up nq had.1))
         (cases_eq q ino);
+    top_above = λ x es n up at is.
+        let was = from TOP x at in
+        let b = was.2.place (λ top. not_top (sym top)) es n up is in
+        g.top_above was.0 b.0 b.1 up was.1 b.2;
     climbs = λ q x at is live. let was = from q x at in still_climbs q (g.climbs q was.0 was.1 (sym was.2.directory ∙ is) (sym (same_linked q) ∙ live));
     emptied = λ q x at loose.
         let was = from q x at in
@@ -398,10 +404,10 @@ module _ (t : Tree) (g : IsGoodTree t) (olddir : ℕ) (oldname : List ℕ) (newd
         (λ is. false≢true (sym none ∙ ap (is_linked rs) is ∙ w.live))
         ∙ g.emptied q was.0 was.1 none;
   } where
-    top_stays : (o : Option Record) → get rs top ≡ o → is_directory_at (option_map (λ (r : Record). r.body) o) ≡ true → IsTrue (is_directory_at (body_at made top))
+    top_stays : (o : Option Record) → get rs TOP ≡ o → is_directory_at (option_map (λ (r : Record). r.body) o) ≡ true → IsTrue (is_directory_at (body_at made TOP))
     top_stays None at is = absurd (false≢true is)
     top_stays (Some r) at is =
-        let x = to top r at in
+        let x = to TOP r at in
         ap (λ o. is_directory_at (option_map (λ (r : Record). r.body) o)) x.1 ∙ x.2.directory ∙ is
 
     some_listed : listed d.body ≡ [] → ⊥

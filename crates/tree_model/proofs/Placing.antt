@@ -5,8 +5,8 @@ use Rattle.tree_model.specs.declared.attributes.Stamp.{Stamp}
 use Rattle.tree_model.specs.Tree.{Tree, Record, Records}
 use Rattle.tree_model.specs.Good.{IsGoodStamp, IsGoodTarget, IsGoodRecord, IsGoodTree}
 use Rattle.tree_model.specs.Sound.{IsKept, AreStored}
-use Rattle.tree_model.specs.Making.{joined_by, next_cookie, changed}
-use Rattle.tree_model.specs.Placing.{IsNew, create_refused, with_record, placed_unless, directory_record, link_record}
+use Rattle.tree_model.specs.Making.{joined_by, next_cookie, changed, unless_refused, create_refused}
+use Rattle.tree_model.specs.Placing.{IsNew, with_record, directory_record, link_record}
 use Rattle.std.specs.FinMap.{insert}
 use Rattle.tree_model.proofs.Bodies.{good_joined}
 use Rattle.tree_model.proofs.Adding.{IsAdded, mid_dir, added_good, added_kept, added_stored}
@@ -78,7 +78,7 @@ new_link born uid gid dir target stamp good = record {
 -- ---- laws
 
 pub placed_good : (t : Tree) → IsGoodTree t → (dir : ℕ) (name : List ℕ) (r : Record) → IsNew dir r → name_fault name ≡ None → (o : Option ℕ) → create_refused t dir name ≡ o
-    → (ino : ℕ) (u : Tree) → placed_unless o t dir name r ≡ Ok (ino, u) → IsGoodTree u
+    → (ino : ℕ) (u : Tree) → unless_refused o t.next (with_record t dir name r) ≡ Ok (ino, u) → IsGoodTree u
 placed_good t g dir name r new fine (Some e) is ino u made = absurd (cc)
 placed_good t g dir name r new fine None is ino u made =
     let both : ◌≡◌ {A = ℕ × Tree} (t.next, with_record t dir name r) (ino, u) = cc in

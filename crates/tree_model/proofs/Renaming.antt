@@ -5,17 +5,17 @@ use Rattle.std.proofs.lemmas.Bool.{cases_eq, false≢true}
 use Rattle.std.proofs.lemmas.Bool.Decides.{nat_tests}
 use Rattle.std.proofs.lemmas.Slice.Eq.{bytes_eq-Decides}
 use Rattle.std.specs.FinMap.{get}
+use Rattle.std.specs.Result.{result_ok}
 use Rattle.port_base.specs.Names.{name_fault}
 use Rattle.port_base.specs.declared.errno.TheConstants.{ENOENT, ENOTDIR, EISDIR, EINVAL, ENOTEMPTY}
-use Rattle.tree_model.specs.Tree.{Tree, Record, Records, Body, Entry, top, body_at, listed, is_directory, is_directory_at, is_linked, keep}
+use Rattle.tree_model.specs.Tree.{Tree, Record, Records, Body, DirEntry, TOP, body_at, listed, is_directory, is_directory_at, is_linked, keep}
 use Rattle.tree_model.specs.Tree.Body.{File, Directory, Link}
 use Rattle.tree_model.specs.Good.{IsAt, IsGoodBody, IsGoodTree}
 use Rattle.tree_model.specs.Finding.{entry_named, entries_of, found_among, ino_among, ino_or_missing, lookup_of}
-use Rattle.tree_model.specs.Making.{change, with_entries, next_cookie}
+use Rattle.tree_model.specs.Making.{change, with_entries, next_cookie, unless_refused}
 use Rattle.tree_model.specs.Reading.{above}
-use Rattle.tree_model.specs.Opening.{if_told}
 use Rattle.tree_model.specs.Unlinking.{without, parted_by, one_name_less, without_entry, is_empty_at}
-use Rattle.tree_model.specs.Renaming.{above_at, climbs_past, is_at_or_below, replace_refused, room_refused, first_of, move_refused, with_moved, without_replaced, moved_unless, same_ino, move_to, renamed_at, rename_of}
+use Rattle.tree_model.specs.Renaming.{above_at, climbs_past, is_at_or_below, replace_refused, room_refused, first_of, move_refused, with_moved, without_replaced, same_ino, move_to, renamed_at, rename_of}
 use Rattle.tree_model.proofs.Changing.{change_at, change_keeps}
 use Rattle.tree_model.proofs.Bodies.{with_entries-is_directory, with_entries-listed}
 use Rattle.tree_model.proofs.Naming.{found_among-exact}
@@ -26,7 +26,7 @@ use Rattle.tree_model.proofs.Moving.{IsMove, moved_good}
 -- ---- lists without a name
 
 -- another name is found as before
-without-other : (name other : List ℕ) (es : List Entry) → name ≢ other → entry_named other (without name es) ≡ entry_named other es
+without-other : (name other : List ℕ) (es : List DirEntry) → name ≢ other → entry_named other (without name es) ≡ entry_named other es
 without-other name other [] ne = refl
 without-other name other (e ∷ es) ne = by_tests (bytes_eq e.name name) (bytes_eq e.name other) refl refl (without-other name other es ne) where
   by_tests : (b c : Bool) → bytes_eq e.name name ≡ b → bytes_eq e.name other ≡ c → entry_named other (without name es) ≡ entry_named other es
@@ -36,10 +36,10 @@ without-other name other (e ∷ es) ne = by_tests (bytes_eq e.name name) (bytes_
   by_tests false true here there later = ap (λ c. cond c (Some e) (entry_named other (without name es))) there
   by_tests false false here there later = ap (λ c. cond c (Some e) (entry_named other (without name es))) there ∙ later
 
-no_entry : Entry
+no_entry : DirEntry
 no_entry = record { cookie = 0; name = []; ino = 0 }
 
-none_by : (name : List ℕ) (es : List Entry) → ((k : ℕ) → k < length es → (get_or es k no_entry).name ≢ name) → entry_named name es ≡ None
+none_by : (name : List ℕ) (es : List DirEntry) → ((k : ℕ) → k < length es → (get_or es k no_entry).name ≢ name) → entry_named name es ≡ None
 none_by name [] all = refl
 none_by name (e ∷ es) all = by_test (bytes_eq e.name name) refl (none_by name es (λ k low. all (suc k) (omega arith))) where
   by_test : (b : Bool) → bytes_eq e.name name ≡ b → entry_named name es ≡ None → cond b (Some e) (entry_named name es) ≡ None
@@ -47,14 +47,14 @@ none_by name (e ∷ es) all = by_test (bytes_eq e.name name) refl (none_by name 
   by_test false is later = later
 
 -- where names differ, a name that goes is gone
-without-itself : (name : List ℕ) (es : List Entry) → AllPairs (λ (e f : Entry). e.name ≢ f.name) es → entry_named name (without name es) ≡ None
+without-itself : (name : List ℕ) (es : List DirEntry) → AllPairs (λ (e f : DirEntry). e.name ≢ f.name) es → entry_named name (without name es) ≡ None
 without-itself name [] pairs = refl
 without-itself name (e ∷ es) pairs = by_test (bytes_eq e.name name) refl (without-itself name es (λ i j d less low. pairs (suc i) (suc j) d (omega arith) (omega arith))) where
   by_test : (b : Bool) → bytes_eq e.name name ≡ b → entry_named name (without name es) ≡ None → entry_named name (cond b es (e ∷ without name es)) ≡ None
   by_test true is later = none_by name es (λ k low same. pairs 0 (suc k) no_entry (omega arith) (omega arith) ((bytes_eq-Decides e.name name).0 is ∙ sym same))
   by_test false is later = ap (λ c. cond c (Some e) (entry_named name (without name es))) is ∙ later
 
-pairs_of : (b : Body) → IsGoodBody b → AllPairs (λ (e f : Entry). e.name ≢ f.name) (listed b)
+pairs_of : (b : Body) → IsGoodBody b → AllPairs (λ (e f : DirEntry). e.name ≢ f.name) (listed b)
 pairs_of (File bytes) good = λ i j d less low. absurd (omega arith)
 pairs_of (Directory es next up) good = good.2
 pairs_of (Link target) good = λ i j d less low. absurd (omega arith)
@@ -80,7 +80,7 @@ change_body f rs i q same r at = ⊎_elim
     (λ ne. (r, change_keeps f rs i q ne ∙ at, refl))
     (cases_eq q i)
 
-with_entries-up : (b : Body) (es : List Entry) (next : ℕ) → above (with_entries b es next) ≡ above b
+with_entries-up : (b : Body) (es : List DirEntry) (next : ℕ) → above (with_entries b es next) ≡ above b
 with_entries-up (File bytes) es next = refl
 with_entries-up (Directory fs n up) es next = refl
 with_entries-up (Link target) es next = refl
@@ -88,7 +88,7 @@ with_entries-up (Link target) es next = refl
 climbs_past-same : (rs rs' : Records) → ((q : ℕ) → above_at rs q ≡ above_at rs' q) → (ino k i : ℕ) → climbs_past rs ino k i ≡ climbs_past rs' ino k i
 climbs_past-same rs rs' same ino zero i = refl
 climbs_past-same rs rs' same ino (suc k) i =
-    ap (λ b. cond (i == ino) false (cond (i == top) true b)) (climbs_past-same rs rs' same ino k (above_at rs i) ∙ ap (climbs_past rs' ino k) (same i))
+    ap (λ b. cond (i == ino) false (cond (i == TOP) true b)) (climbs_past-same rs rs' same ino k (above_at rs i) ∙ ap (climbs_past rs' ino k) (same i))
 
 -- ---- what is known where nothing refuses
 
@@ -97,7 +97,7 @@ pub stored_directory : (o : Option Record) → is_directory_at (option_map (λ (
 stored_directory None is = absurd (false≢true is)
 stored_directory (Some r) is = (r, refl, is)
 
-missing_entry : (o : Option Entry) (e : ℕ) → ino_or_missing o ≡ Err e → o ≡ None
+missing_entry : (o : Option DirEntry) (e : ℕ) → ino_or_missing o ≡ Err e → o ≡ None
 missing_entry None e is = refl
 missing_entry (Some f) e is = absurd (cc)
 
@@ -243,8 +243,8 @@ free_of t olddir newdir ino there = by_test (is_at_or_below t ino newdir) refl w
 -- what a move is known of, in the tree without what it replaces
 module _ (t : Tree) (g : IsGoodTree t) (olddir : ℕ) (oldname : List ℕ) (newdir : ℕ) (newname : List ℕ) (fine : name_fault newname ≡ None) (ino : ℕ) (is : lookup_of t olddir oldname ≡ Ok ino)
     (directory : is_directory_at (body_at t.records newdir) ≡ true) (live : is_linked t.records newdir ≡ true) where
-  pub move_is : (r : Result ℕ ℕ) → lookup_of t newdir newname ≡ r → same_ino ino (if_told r) ≡ false → move_refused t olddir newdir ino (if_told r) ≡ None
-      → IsGoodTree (without_replaced t newdir newname (if_told r)) × IsMove (without_replaced t newdir newname (if_told r)) olddir oldname newdir newname ino
+  pub move_is : (r : Result ℕ ℕ) → lookup_of t newdir newname ≡ r → same_ino ino (result_ok r) ≡ false → move_refused t olddir newdir ino (result_ok r) ≡ None
+      → IsGoodTree (without_replaced t newdir newname (result_ok r)) × IsMove (without_replaced t newdir newname (result_ok r)) olddir oldname newdir newname ino
   move_is (Err e) found other free = (g, free_move t g olddir oldname newdir newname fine ino is directory live (free_of t olddir newdir ino None free).away e found)
   move_is (Ok i) found other free =
       let known = free_of t olddir newdir ino (Some i) free in
@@ -252,7 +252,7 @@ module _ (t : Tree) (g : IsGoodTree t) (olddir : ℕ) (oldname : List ℕ) (newd
       let ne : i ≢ ino = λ same. false≢true (sym other ∙ (let is : (i == ino) ≡ true = grind (arith, nat_tests) in is)) in
       (without_good t g newdir newname i found empty, replacing_move t g olddir oldname newdir newname fine ino is directory live known.away i found empty ne)
 
-same_or_moved : (held : ℕ → Bool) (b : Bool) (o : Option ℕ) (t v u : Tree) → cond b (Ok (tt, t)) (moved_unless o held v) ≡ Ok (tt, u) → IsGoodTree t → (b ≡ false → o ≡ None → IsGoodTree v) → IsGoodTree u
+same_or_moved : (held : ℕ → Bool) (b : Bool) (o : Option ℕ) (t v u : Tree) → cond {A = Result (Unit {0} × Tree) ℕ} b (Ok (tt, t)) (unless_refused o tt (keep held v)) ≡ Ok (tt, u) → IsGoodTree t → (b ≡ false → o ≡ None → IsGoodTree v) → IsGoodTree u
 same_or_moved held true o t v u is g good = let both : ◌≡◌ {A = Unit {0} × Tree} (tt, t) (tt, u) = cc in subst IsGoodTree (ap (λ (p : Unit {0} × Tree). p.1) both) g
 same_or_moved held false (Some e) t v u is g good = absurd (cc)
 same_or_moved held false None t v u is g good =
@@ -260,7 +260,7 @@ same_or_moved held false None t v u is g good =
     subst IsGoodTree (ap (λ (p : Unit {0} × Tree). p.1) both) (keep_good v (good refl refl) held)
 
 abbrev told_at : Tree → ℕ → List ℕ → Option ℕ
-told_at t dir name = if_told (lookup_of t dir name)
+told_at t dir name = result_ok (lookup_of t dir name)
 
 pub renamed_good : (held : ℕ → Bool) (t : Tree) → IsGoodTree t → (olddir : ℕ) (oldname : List ℕ) (newdir : ℕ) (newname : List ℕ) → name_fault newname ≡ None
     → (u : Tree) → rename_of held t olddir oldname newdir newname ≡ Ok (tt, u) → IsGoodTree u

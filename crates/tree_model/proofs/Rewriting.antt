@@ -4,7 +4,7 @@ use Rattle.std.proofs.lemmas.List.{length-replicate}
 use Rattle.std.specs.Prelude.{◌==◌}
 use Rattle.std.proofs.lemmas.Bool.Decides.{nat_tests}
 use Rattle.port_base.specs.declared.errno.TheConstants.{EFBIG}
-use Rattle.tree_model.specs.Tree.{Tree, Body, Entry, listed, is_directory}
+use Rattle.tree_model.specs.Tree.{Tree, Body, DirEntry, listed, is_directory}
 use Rattle.tree_model.specs.Tree.Body.{File, Directory, Link}
 use Rattle.tree_model.specs.Good.{IsGoodBody, IsGoodTree, links_of}
 use Rattle.tree_model.specs.Attributing.{resized, written, with_bytes, refused_unless_file, rewritten_at, len_refused, fitting, overwritten_at, write_refused}
@@ -28,12 +28,12 @@ directory_same h (File bytes) = refl
 directory_same h (Directory es next above) = refl
 directory_same h (Link target) = refl
 
-was_place : (h : List ℕ → List ℕ) (b : Body) (es : List Entry) (n up : ℕ) → with_bytes h b ≡ Directory es n up → b ≡ Directory es n up
+was_place : (h : List ℕ → List ℕ) (b : Body) (es : List DirEntry) (n up : ℕ) → with_bytes h b ≡ Directory es n up → b ≡ Directory es n up
 was_place h (File bytes) es n up is = absurd (cc)
 was_place h (Directory fs next above) es n up is = is
 was_place h (Link target) es n up is = absurd (cc)
 
-is_place : (h : List ℕ → List ℕ) (b : Body) (es : List Entry) (n up : ℕ) → b ≡ Directory es n up → with_bytes h b ≡ Directory es n up
+is_place : (h : List ℕ → List ℕ) (b : Body) (es : List DirEntry) (n up : ℕ) → b ≡ Directory es n up → with_bytes h b ≡ Directory es n up
 is_place h (File bytes) es n up is = absurd (cc)
 is_place h (Directory fs next above) es n up is = is
 is_place h (Link target) es n up is = absurd (cc)

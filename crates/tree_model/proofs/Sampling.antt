@@ -4,6 +4,7 @@ use Rattle.std.specs.Prelude.{codes, option_map, option_and_then}
 use Rattle.std.proofs.lemmas.Bool.{cases_eq}
 use Rattle.std.specs.Ordering.{nat_cmp}
 use Rattle.std.specs.FinMap.{get, insert, empty, get-empty, retain_keys}
+use Rattle.std.specs.Result.{result_ok}
 use Rattle.port_base.specs.declared.errno.TheConstants.{ENOENT, ENOTDIR, EISDIR, EINVAL, EFBIG, ENOTEMPTY}
 use Rattle.tree_model.specs.declared.attributes.Kind.TheVariants as kind
 use Rattle.tree_model.specs.declared.attributes.TimeSet.{TimeSet}
@@ -11,15 +12,15 @@ use Rattle.tree_model.specs.Tree.{Tree, Record, Records, Body, body_at, is_direc
 use Rattle.tree_model.specs.Tree.Body.{File}
 use Rattle.tree_model.specs.Finding.{lookup_of, path_names, ino_among, entries_of, find}
 use Rattle.tree_model.specs.Attributes.{attr_of, stat_of, attr_or_missing, kind_of}
-use Rattle.tree_model.specs.Making.{top_record, file_record, joined_by, changed, new_name_refused, add_refused, add_file_of, add_file_unless}
+use Rattle.tree_model.specs.Making.{top_record, file_record, joined_by, changed, new_name_refused, add_refused, with_file, add_file_of, unless_refused, create_refused}
 use Rattle.tree_model.specs.Samples.{born, limits, alone, hello, world, sample}
-use Rattle.tree_model.specs.Opening.{asked, unless, open_refused, open_check_of, read_body, read_of, readlink_body, readlink_of, if_told, walk_to, found_at}
-use Rattle.tree_model.specs.Placing.{create_refused, placed, placed_unless, link_refused, linked_unless, add_hard_of}
-use Rattle.tree_model.specs.Attributing.{changing, rewritten_at, resized, refused_at, refused_unless_file, set_len_of, write_of, write_refused, fitting, overwritten_at, set_times_of, times_refused, retimed}
+use Rattle.tree_model.specs.Opening.{body_answer, unless, open_refused, open_check_of, read_body, read_of, readlink_body, readlink_of, walk_to, found_at}
+use Rattle.tree_model.specs.Placing.{placed, link_refused, add_hard_of, with_record, with_link}
+use Rattle.tree_model.specs.Attributing.{rewritten_at, resized, refused_at, refused_unless_file, set_len_of, write_of, write_refused, fitting, overwritten_at, set_times_of, times_refused, retimed, with_changed}
 use Rattle.tree_model.specs.Unlinking.{unless_directory, is_empty_at, if_empty, removed_at, without_entry, unlink_of, rmdir_of}
-use Rattle.tree_model.specs.Creating.{made_unless, with_name, link_of}
-use Rattle.tree_model.specs.Renaming.{climbs_past, is_at_or_below, room_refused, first_of, moved_unless, move_to, with_moved, renamed_at, rename_of}
-use Rattle.tree_model.specs.Reading.{ShownEntry, peek_entry_of, entry_above, entry_after_among, entry_after_of, part}
+use Rattle.tree_model.specs.Creating.{with_name, link_of}
+use Rattle.tree_model.specs.Renaming.{climbs_past, is_at_or_below, room_refused, first_of, move_to, with_moved, renamed_at, rename_of}
+use Rattle.tree_model.specs.Reading.{Entry, peek_entry_of, entry_above, entry_after_among, entry_after_of, part}
 use Rattle.tree_model.proofs.Maps.{inserted, insert_keeps, retained, same_gets, rewritten}
 use Rattle.tree_model.proofs.Naming.{entry_is_counted}
 use Rattle.tree_model.proofs.Keeping.{named_is_linked}
@@ -78,11 +79,11 @@ listed_first = ap (λ o. option_and_then (entry_above 0) (option_and_then entrie
 listed_last : peek_entry_of sample 1 1 ≡ None
 listed_last = ap (λ o. option_and_then (entry_above 1) (option_and_then entries_of (option_map (λ (r : Record). r.body) o))) top_at
 
-abbrev entry_of : ℕ → Option Record → Result (Option ShownEntry) ℕ
+abbrev entry_of : ℕ → Option Record → Result (Option Entry) ℕ
 entry_of cookie o = entry_after_among sample.records cookie (option_and_then entries_of (option_map (λ (r : Record). r.body) o))
 
 -- what an entry that names the file shows, by the record of the file
-abbrev shown : Option Record → Result (Option ShownEntry) ℕ
+abbrev shown : Option Record → Result (Option Entry) ℕ
 shown o = Ok (option_map (λ (r : Record). record { cookie = 1; name = hello; attr = attr_of 2 r }) o)
 
 pub after_none : entry_after_of sample 1 0 ≡ Ok (Some (record { cookie = 1; name = hello; attr = attr_of 2 (file_record born world) }))
@@ -100,7 +101,7 @@ a_part = refl
 -- ---- what is added
 
 added : add_file_of born alone 1 hello world ≡ Ok (2, sample)
-added = ap (λ o. add_file_unless (add_refused (new_name_refused true limits.entries 2 hello (option_map (λ (r : Record). r.body) o)) limits.file world) born alone 1 hello world) first_at
+added = ap (λ o. unless_refused (add_refused (new_name_refused true limits.entries 2 hello (option_map (λ (r : Record). r.body) o)) limits.file world) alone.next (with_file born alone 1 hello world)) first_at
 
 -- ---- what is linked
 
@@ -129,7 +130,7 @@ pub body_of_file : body_at sample.records 2 ≡ Some (File (codes "world"))
 body_of_file = ap (option_map (λ (r : Record). r.body)) file_at
 
 abbrev opened : ℕ → Option Body → Result (Unit {0}) ℕ
-opened flags = asked (λ b. unless (open_refused flags (kind_of b)))
+opened flags = body_answer (λ b. unless (open_refused flags (kind_of b)))
 
 pub open_file : (flags : ℕ) → open_check_of sample 2 flags ≡ unless (open_refused flags kind.File)
 open_file flags = ap (opened flags) body_of_file
@@ -138,52 +139,52 @@ pub open_top : (flags : ℕ) → open_check_of sample 1 flags ≡ unless (open_r
 open_top flags = ap (opened flags) body_of_top
 
 pub read_file : (offset size : ℕ) → read_of sample 2 offset size ≡ Ok (part (codes "world") offset size)
-read_file offset size = ap (asked (read_body offset size)) body_of_file
+read_file offset size = ap (body_answer (read_body offset size)) body_of_file
 
 pub read_top : (offset size : ℕ) → read_of sample 1 offset size ≡ Err EISDIR
-read_top offset size = ap (asked (read_body offset size)) body_of_top
+read_top offset size = ap (body_answer (read_body offset size)) body_of_top
 
 pub found_file : found_at sample (hello ∷ []) ≡ Some 2
-found_file = ap if_told found
+found_file = ap result_ok found
 
 pub found_none : found_at sample (codes "Hello" ∷ []) ≡ None
-found_none = ap if_told not_found
+found_none = ap result_ok not_found
 
 pub found_below : found_at sample (hello ∷ hello ∷ []) ≡ None
-found_below = ap (λ r. if_told (walk_to sample r (hello ∷ []))) found ∙ ap if_told in_file
+found_below = ap (λ r. result_ok (walk_to sample r (hello ∷ []))) found ∙ ap result_ok in_file
 
 -- ---- adding and changing
 
 abbrev refused_in : List ℕ → ℕ → Option Body → Option ℕ
 refused_in name dir = new_name_refused (is_linked sample.records dir) limits.entries 3 name
 
-pub placed_in_top : (name : List ℕ) (r : Record) → placed sample 1 name r ≡ placed_unless (refused_in name 1 (Some directory.body)) sample 1 name r
-placed_in_top name r = ap (λ o. placed_unless (refused_in name 1 o) sample 1 name r) body_of_top
+pub placed_in_top : (name : List ℕ) (r : Record) → placed sample 1 name r ≡ unless_refused (refused_in name 1 (Some directory.body)) 3 (with_record sample 1 name r)
+placed_in_top name r = ap (λ o. unless_refused (refused_in name 1 o) sample.next (with_record sample 1 name r)) body_of_top
 
 pub placed_in_file : (name : List ℕ) (r : Record) → placed sample 2 name r ≡ Err ENOTDIR
-placed_in_file name r = ap (λ o. placed_unless (refused_in name 2 o) sample 2 name r) body_of_file
+placed_in_file name r = ap (λ o. unless_refused (refused_in name 2 o) sample.next (with_record sample 2 name r)) body_of_file
 
 abbrev refused_name : List ℕ → Option Body → Option Record → Option ℕ
 refused_name name = link_refused true limits name
 
-pub named_in_top : (name : List ℕ) → add_hard_of sample 1 name 2 ≡ linked_unless (refused_name name (Some directory.body) (Some (file_record born world))) sample 1 name 2
-named_in_top name = ap (λ o. linked_unless (refused_name name o (get sample.records 2)) sample 1 name 2) body_of_top ∙ ap (λ o. linked_unless (refused_name name (Some directory.body) o) sample 1 name 2) file_at
+pub named_in_top : (name : List ℕ) → add_hard_of sample 1 name 2 ≡ unless_refused (refused_name name (Some directory.body) (Some (file_record born world))) 2 (with_link sample 1 name 2)
+named_in_top name = ap (λ o. unless_refused (refused_name name o (get sample.records 2)) 2 (with_link sample 1 name 2)) body_of_top ∙ ap (λ o. unless_refused (refused_name name (Some directory.body) o) 2 (with_link sample 1 name 2)) file_at
 
-pub top_not_named : (name : List ℕ) → add_hard_of sample 1 name 1 ≡ linked_unless (refused_name name (Some directory.body) (Some directory)) sample 1 name 1
-top_not_named name = ap (λ o. linked_unless (refused_name name o (get sample.records 1)) sample 1 name 1) body_of_top ∙ ap (λ o. linked_unless (refused_name name (Some directory.body) o) sample 1 name 1) top_at
+pub top_not_named : (name : List ℕ) → add_hard_of sample 1 name 1 ≡ unless_refused (refused_name name (Some directory.body) (Some directory)) 1 (with_link sample 1 name 1)
+top_not_named name = ap (λ o. unless_refused (refused_name name o (get sample.records 1)) 1 (with_link sample 1 name 1)) body_of_top ∙ ap (λ o. unless_refused (refused_name name (Some directory.body) o) 1 (with_link sample 1 name 1)) top_at
 
 pub too_long : set_len_of sample 2 9 ≡ Err EFBIG
-too_long = ap (λ o. changing tt (rewritten_at born (resized 9)) 2 sample (refused_at (refused_unless_file (Some EFBIG)) o)) body_of_file
+too_long = ap (λ o. unless_refused (refused_at (refused_unless_file (Some EFBIG)) o) tt (with_changed (rewritten_at born (resized 9)) 2 sample)) body_of_file
 
 pub no_file : set_len_of sample 1 0 ≡ Err EISDIR
-no_file = ap (λ o. changing tt (rewritten_at born (resized 0)) 1 sample (refused_at (refused_unless_file None) o)) body_of_top
+no_file = ap (λ o. unless_refused (refused_at (refused_unless_file None) o) tt (with_changed (rewritten_at born (resized 0)) 1 sample)) body_of_top
 
 pub file_no_link : readlink_of sample 2 ≡ Err EINVAL
-file_no_link = ap (asked readlink_body) body_of_file
+file_no_link = ap (body_answer readlink_body) body_of_file
 
 -- what a write answers for the body that is there
 abbrev wrote : ℕ → ℕ → List ℕ → Option Body → Result (ℕ × Tree) ℕ
-wrote ino offset new o = changing (length (fitting 8 offset new)) (overwritten_at born offset (fitting 8 offset new)) ino sample (refused_at (write_refused 8 offset new) o)
+wrote ino offset new o = unless_refused (refused_at (write_refused 8 offset new) o) (length (fitting 8 offset new)) (with_changed (overwritten_at born offset (fitting 8 offset new)) ino sample)
 
 pub write_file : (offset : ℕ) (new : List ℕ) → write_of sample 2 offset new ≡ wrote 2 offset new (Some (File (codes "world")))
 write_file offset new = ap (wrote 2 offset new) body_of_file
@@ -195,8 +196,8 @@ write_top offset new = ap (wrote 1 offset new) body_of_top
 pub write_none : write_of sample 2 9 [] ≡ Ok (0, sample)
 write_none = write_file 9 [] ∙ ap (λ (rs : Records). let left : Tree = record sample { records = rs } in Ok (0, left)) (ap (λ o. changed (λ r. r) o sample.records 2) file_at ∙ rewritten sample.records 2 (file_record born world) (sym file_at))
 
-pub time_file : (atime mtime : TimeSet) → set_times_of sample 2 atime mtime ≡ changing tt (retimed atime mtime born) 2 sample (times_refused atime mtime (File (codes "world")))
-time_file atime mtime = ap (λ o. changing tt (retimed atime mtime born) 2 sample (refused_at (times_refused atime mtime) o)) body_of_file
+pub time_file : (atime mtime : TimeSet) → set_times_of sample 2 atime mtime ≡ unless_refused (times_refused atime mtime (File (codes "world"))) tt (with_changed (retimed atime mtime born) 2 sample)
+time_file atime mtime = ap (λ o. unless_refused (refused_at (times_refused atime mtime) o) tt (with_changed (retimed atime mtime born) 2 sample)) body_of_file
 
 -- ---- what goes
 
@@ -220,14 +221,14 @@ top_stays = ap (λ o. cond {A = Result ℕ ℕ} (is_directory_at o) (Err EISDIR)
 
 -- ---- what is created, and what else goes
 
-pub made_in_top : {A : Type 0} (a : A) (name : List ℕ) (u : Tree) → made_unless (create_refused sample 1 name) a u ≡ made_unless (refused_in name 1 (Some directory.body)) a u
-made_in_top a name u = ap (λ o. made_unless (refused_in name 1 o) a u) body_of_top
+pub made_in_top : {A : Type 0} (a : A) (name : List ℕ) (u : Tree) → unless_refused (create_refused sample 1 name) a u ≡ unless_refused (refused_in name 1 (Some directory.body)) a u
+made_in_top a name u = ap (λ o. unless_refused (refused_in name 1 o) a u) body_of_top
 
-pub made_in_file : {A : Type 0} (a : A) (name : List ℕ) (u : Tree) → made_unless (create_refused sample 2 name) a u ≡ Err ENOTDIR
-made_in_file a name u = ap (λ o. made_unless (refused_in name 2 o) a u) body_of_file
+pub made_in_file : {A : Type 0} (a : A) (name : List ℕ) (u : Tree) → unless_refused (create_refused sample 2 name) a u ≡ Err ENOTDIR
+made_in_file a name u = ap (λ o. unless_refused (refused_in name 2 o) a u) body_of_file
 
 abbrev named : ℕ → List ℕ → Option Body → Option Record → Result (Unit {0} × Tree) ℕ
-named ino name b o = made_unless (refused_name name b o) tt (with_name sample 1 name ino)
+named ino name b o = unless_refused (refused_name name b o) tt (with_name sample 1 name ino)
 
 pub link_in_top : (name : List ℕ) → link_of sample 2 1 name ≡ named 2 name (Some directory.body) (Some (file_record born world))
 link_in_top name = ap (λ o. named 2 name o (get sample.records 2)) body_of_top ∙ ap (named 2 name (Some directory.body)) file_at
@@ -292,17 +293,17 @@ module _ (held : ℕ → Bool) where
   pub file_stays : rename_of held sample 1 hello 1 hello ≡ Ok (tt, sample)
   file_stays =
       in_top hello hello ∙ ap (renamed_at held sample 1 hello 1 hello) found
-      ∙ ap (λ r. move_to held sample 1 hello 1 hello 2 (if_told r)) found
+      ∙ ap (λ r. move_to held sample 1 hello 1 hello 2 (result_ok r)) found
 
   abbrev target : Tree
   target = with_moved sample 1 hello 1 (codes "b") 2
 
   abbrev answer : Bool → Option Body → Result (Unit {0} × Tree) ℕ
-  answer below b = moved_unless (cond below (Some EINVAL) (first_of None (room_refused 2 false b))) held target
+  answer below b = unless_refused (cond below (Some EINVAL) (first_of None (room_refused 2 false b))) tt (keep held target)
 
   pub file_moves : rename_of held sample 1 hello 1 (codes "b") ≡ Ok (tt, keep held target)
   file_moves =
       in_top hello (codes "b") ∙ ap (renamed_at held sample 1 hello 1 (codes "b")) found
-      ∙ ap (λ r. move_to held sample 1 hello 1 (codes "b") 2 (if_told r)) b_missing
+      ∙ ap (λ r. move_to held sample 1 hello 1 (codes "b") 2 (result_ok r)) b_missing
       ∙ ap (λ below. answer below (body_at sample.records 1)) file_not_above
       ∙ ap (answer false) body_of_top

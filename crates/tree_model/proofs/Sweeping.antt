@@ -4,7 +4,7 @@ use Rattle.std.specs.Prelude.{◌==◌}
 use Rattle.std.proofs.lemmas.Bool.{cases_eq, false≢true}
 use Rattle.std.proofs.lemmas.Bool.Decides.{nat_tests}
 use Rattle.std.specs.FinMap.{get, remove, retain_keys}
-use Rattle.tree_model.specs.Tree.{Record, Records, Body, is_directory, name_count, names_in, is_linked, count_names, top}
+use Rattle.tree_model.specs.Tree.{Record, Records, Body, is_directory, name_count, names_in, is_linked, count_names, TOP}
 use Rattle.tree_model.specs.Tree.Body.{File, Directory, Link}
 use Rattle.tree_model.specs.Good.{IsAt, links_of}
 use Rattle.tree_model.specs.Sound.{IsCounted, IsKept, IsKeptBut, has_no_links, swept}
@@ -12,10 +12,10 @@ use Rattle.tree_model.proofs.Maps.{removed, remove_keeps, retained, same_gets}
 use Rattle.tree_model.proofs.Counting.{weigh-remove}
 
 -- a number of links is 0 where a record isn't linked
-no_links_by : (b : Body) (i n : ℕ) → (i ≡ top → IsTrue (is_directory b)) → (links_of b n ((i == top) || nat_lt 0 n) == 0) ≡ not ((i == top) || nat_lt 0 n)
-no_links_by (File bytes) i n at_top = ⊎_elim (λ e. absurd (false≢true (at_top e))) (λ ne. grind (arith, nat_tests)) (cases_eq i top)
-no_links_by (Directory es next above) i n at_top = elim ((i == top) || nat_lt 0 n) as (λ b. (cond b 2 0 == 0) ≡ not b) [ true ↦ refl | false ↦ refl ]
-no_links_by (Link target) i n at_top = ⊎_elim (λ e. absurd (false≢true (at_top e))) (λ ne. grind (arith, nat_tests)) (cases_eq i top)
+no_links_by : (b : Body) (i n : ℕ) → (i ≡ TOP → IsTrue (is_directory b)) → (links_of b n ((i == TOP) || nat_lt 0 n) == 0) ≡ not ((i == TOP) || nat_lt 0 n)
+no_links_by (File bytes) i n at_top = ⊎_elim (λ e. absurd (false≢true (at_top e))) (λ ne. grind (arith, nat_tests)) (cases_eq i TOP)
+no_links_by (Directory es next above) i n at_top = elim ((i == TOP) || nat_lt 0 n) as (λ b. (cond b 2 0 == 0) ≡ not b) [ true ↦ refl | false ↦ refl ]
+no_links_by (Link target) i n at_top = ⊎_elim (λ e. absurd (false≢true (at_top e))) (λ ne. grind (arith, nat_tests)) (cases_eq i TOP)
 
 none_case : (b g : Bool) (rs : Records) (i : ℕ) → get rs i ≡ None → cond b None None ≡ get (cond g (remove rs i) rs) i
 none_case true true rs i at = sym (removed rs i)
@@ -40,7 +40,7 @@ stays false (Some r) h = absurd (false≢true (h refl))
 not_none : {X : Type 0} (x : X) → Some x ≢ None
 not_none x e = cc
 
-not_free : (i n : ℕ) → ((i == top) || nat_lt 0 n) ≡ false → 0 < n → ⊥
+not_free : (i n : ℕ) → ((i == TOP) || nat_lt 0 n) ≡ false → 0 < n → ⊥
 not_free i n e h = grind (arith, nat_tests)
 
 free_of : (lk h : Bool) → (not lk && not h) ≡ true → (lk ≡ false) × (h ≡ false)
@@ -84,14 +84,14 @@ module _ {rs : Records} {next : ℕ} {held : ℕ → Bool} (s : IsCounted rs nex
     was_at q d now = ⊎_elim (λ e. absurd (not_none d (sym (subst (λ k. IsAt (remove rs i) k d) e now) ∙ removed rs i))) (λ ne. sym (remove_keeps rs i q ne) ∙ now) (cases_eq q i)
 
     same_linked : (q : ℕ) → is_linked (remove rs i) q ≡ is_linked rs q
-    same_linked q = ap (λ n. (q == top) || nat_lt 0 n) (counts_stay i r at free q)
+    same_linked q = ap (λ n. (q == TOP) || nat_lt 0 n) (counts_stay i r at free q)
 
     still : (q : ℕ) → q ≢ i → IsSome (get rs q) → IsSome (get (remove rs i) q)
     still q ne had = subst IsSome (sym (remove_keeps rs i q ne)) had
 
     pub counted_removed : IsCounted (remove rs i) next held
     counted_removed = record {
-      top_is_directory = λ d now. s.top_is_directory d (was_at top d now);
+      top_is_directory = λ d now. s.top_is_directory d (was_at TOP d now);
       numbers = λ q d now. s.numbers q d (was_at q d now);
       links = λ q d now. s.links q d (was_at q d now) ∙ sym (ap (links_of d.body (name_count (remove rs i) q)) (same_linked q) ∙ ap (λ n. links_of d.body n (is_linked rs q)) (counts_stay i r at free q));
       emptied = λ q d now e. s.emptied q d (was_at q d now) (sym (same_linked q) ∙ e);

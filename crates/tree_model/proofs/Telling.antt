@@ -7,9 +7,9 @@ use Rattle.port_base.specs.declared.errno.TheConstants.{ENOENT, ENOTDIR}
 use Rattle.tree_model.specs.Tree.{Tree, Record, Body, body_at}
 use Rattle.tree_model.specs.Finding.{find, root_of, directory_or_not, walk_end}
 use Rattle.tree_model.specs.Reading.{above, above_of, next_cookie_of}
-use Rattle.tree_model.specs.Making.{next_cookie}
+use Rattle.tree_model.specs.Making.{next_cookie, unless_refused}
 use Rattle.tree_model.specs.Settings.{mapped}
-use Rattle.tree_model.specs.Attributing.{changing, refused_at, refused_for_link, never, with_changed, set_mode_of, remoded, set_owner_of, owned_by, touch_ctime_of, restamped}
+use Rattle.tree_model.specs.Attributing.{refused_at, refused_for_link, never, with_changed, set_mode_of, remoded, set_owner_of, owned_by, touch_ctime_of, restamped}
 use Rattle.tree_model.specs.Samples.{born, hello, sample}
 use Rattle.tree_model.proofs.Maps.{inserted}
 use Rattle.tree_model.proofs.Sampling.{looked_up, top_at, nothing_else, found, body_of_top, body_of_file, b_missing}
@@ -53,7 +53,7 @@ none_there = ap (option_map (λ (r : Record). r.body)) (nothing_else 3 (λ h. ab
 
 -- a change of an inode, by what stands there and refuses it
 abbrev set : (Record → Record) → ℕ → (Body → Option ℕ) → Option Body → Result (Unit {0} × Tree) ℕ
-set f ino refused b = changing tt f ino sample (refused_at refused b)
+set f ino refused b = unless_refused (refused_at refused b) tt (with_changed f ino sample)
 
 pub mode_set : set_mode_of sample 2 384 ≡ Ok (tt, with_changed (remoded 384 born) 2 sample)
 mode_set = ap (set (remoded 384 born) 2 refused_for_link) body_of_file

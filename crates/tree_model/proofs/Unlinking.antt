@@ -5,7 +5,7 @@ use Rattle.std.proofs.Math.Logic.{∥∥₁_map}
 use Rattle.std.proofs.lemmas.Bool.{cases_eq, false≢true}
 use Rattle.std.proofs.lemmas.Bool.Decides.{nat_tests}
 use Rattle.std.specs.FinMap.{get, insert}
-use Rattle.tree_model.specs.Tree.{Tree, Record, Records, Body, Entry, top, listed, is_directory, is_directory_at, name_count, names_in, is_linked, count_names, weight}
+use Rattle.tree_model.specs.Tree.{Tree, Record, Records, Body, DirEntry, TOP, listed, is_directory, is_directory_at, name_count, names_in, is_linked, count_names, weight}
 use Rattle.tree_model.specs.Tree.Body.{File, Directory, Link}
 use Rattle.tree_model.specs.Good.{IsAt, IsGoodRecord, IsGoodTree, Climbs, links_of}
 use Rattle.tree_model.specs.Finding.{entry_named}
@@ -19,7 +19,7 @@ use Rattle.tree_model.proofs.Bodies.{shows_links, with_entries-is_directory, wit
 use Rattle.tree_model.proofs.Parting.{without-Contains, count_names-without}
 
 -- what changes: the directory, and the record that loses a name
-pub record IsUnlinkedIn (t : Tree) (dir ino : ℕ) (name : List ℕ) (e : Entry) (d d' x x' : Record) : Type 0 where
+pub record IsUnlinkedIn (t : Tree) (dir ino : ℕ) (name : List ℕ) (e : DirEntry) (d d' x x' : Record) : Type 0 where
   pub at : IsAt t.records dir d
   pub there : IsAt t.records ino x
   pub directory : is_directory d.body ≡ true
@@ -38,10 +38,10 @@ links_shown (File bytes) n m was now one loose = omega arith
 links_shown (Directory es next above) n m was now one loose = ap (λ b. cond {A = ℕ} b 2 0) (sym (loose refl))
 links_shown (Link target) n m was now one loose = omega arith
 
-loose_by : (i n : ℕ) → i ≢ top → n ≡ 0 → ((i == top) || nat_lt 0 n) ≡ false
+loose_by : (i n : ℕ) → i ≢ TOP → n ≡ 0 → ((i == TOP) || nat_lt 0 n) ≡ false
 loose_by i n ne none = grind (arith, nat_tests)
 
-module _ (t : Tree) (g : IsGoodTree t) (dir ino : ℕ) (name : List ℕ) (e : Entry) (d d' x x' : Record) (w : IsUnlinkedIn t dir ino name e d d' x x') where
+module _ (t : Tree) (g : IsGoodTree t) (dir ino : ℕ) (name : List ℕ) (e : DirEntry) (d d' x x' : Record) (w : IsUnlinkedIn t dir ino name e d d' x x') where
   abbrev pub rs : Records
   rs = t.records
 
@@ -84,7 +84,7 @@ module _ (t : Tree) (g : IsGoodTree t) (dir ino : ℕ) (name : List ℕ) (e : En
       let among = names_in-le rs dir ino d w.at in
       omega arith
 
-  not_top : ino ≢ top
+  not_top : ino ≢ TOP
   not_top is = let none = top_is_unnamed t g in let some = subst (λ i. 0 < name_count rs i) is named in omega arith
 
   counts : (q : ℕ) → name_count made q + cond {A = ℕ} (e.ino == q) 1 0 ≡ name_count rs q
@@ -114,7 +114,7 @@ module _ (t : Tree) (g : IsGoodTree t) (dir ino : ℕ) (name : List ℕ) (e : En
   loose is = loose_by ino (name_count made ino) not_top (unnamed is)
 
   pub same_linked : (q : ℕ) → q ≢ ino → is_linked made q ≡ is_linked rs q
-  same_linked q ne = ap (λ n. (q == top) || nat_lt 0 n) (same_count q ne)
+  same_linked q ne = ap (λ n. (q == TOP) || nat_lt 0 n) (same_count q ne)
 
   by_place : (P : ℕ → Record → Type 0) → P ino x' → P dir d' → ((q : ℕ) (r : Record) → q ≢ ino → q ≢ dir → IsAt rs q r → P q r) → (q : ℕ) (r : Record) → IsAt made q r → P q r
   by_place P here there other q r is = ⊎_elim
@@ -137,7 +137,7 @@ module _ (t : Tree) (g : IsGoodTree t) (dir ino : ℕ) (name : List ℕ) (e : En
       (λ ne. ⊎_elim (λ eq. subst IsSome (sym (ap (get rs) eq ∙ w.at)) refl) (λ nd. subst IsSome (at_other q ne nd) had) (cases_eq q dir))
       (cases_eq q ino)
 
-  same_above : (es : List Entry) (n up : ℕ) → d'.body ≡ Directory es n up → (gs : List Entry) × (m : ℕ) × (d.body ≡ Directory gs m up)
+  same_above : (es : List DirEntry) (n up : ℕ) → d'.body ≡ Directory es n up → (gs : List DirEntry) × (m : ℕ) × (d.body ≡ Directory gs m up)
   same_above es n up is = with_entries-above d.body _ es _ n up (sym w.parted ∙ is)
 
   climbs_on : (n i : ℕ) → Climbs rs n i → Climbs made n i
@@ -196,7 +196,7 @@ module _ (t : Tree) (g : IsGoodTree t) (dir ino : ℕ) (name : List ℕ) (e : En
       top_is_directory = top_stays;
       numbers = by_place (λ q r. (1 ≤ q) × (q < t.next)) (g.numbers ino x w.there) (g.numbers dir d w.at) (λ q r ne nd was. g.numbers q r was);
       records = by_place (λ q r. IsGoodRecord r) good_x good_d (λ q r ne nd was. g.records q r was);
-      entries = λ q r y is c. by_place (λ q r. (y : Entry) → Contains (listed r.body) y → IsSome (get made y.ino) × (y.ino ≢ top))
+      entries = λ q r y is c. by_place (λ q r. (y : DirEntry) → Contains (listed r.body) y → IsSome (get made y.ino) × (y.ino ≢ TOP))
           (λ y c. absurd (let none = subst (λ es. Contains es y) lists_nothing c in let low = none.1 in omega arith))
           (λ y c. let had = g.entries dir d y w.at (without-Contains name (listed d.body) e y w.goes (subst (λ es. Contains es y) lists_less c)) in (stored y.ino had.0, had.1))
           (λ q r ne nd was y c. let had = g.entries q r y was c in (stored y.ino had.0, had.1))
@@ -211,16 +211,23 @@ module _ (t : Tree) (g : IsGoodTree t) (dir ino : ℕ) (name : List ℕ) (e : En
           (λ is. let none = unnamed is in omega arith)
           (λ is. let le = g.once dir d w.at w.directory in let same = same_count dir apart in omega arith)
           (λ q r ne nd was is. let le = g.once q r was is in let same = same_count q ne in omega arith);
-      above = λ q r es n up at is live ne. by_place (λ q r. (es : List Entry) (n up : ℕ) → r.body ≡ Directory es n up → IsTrue (is_linked made q) → q ≢ top → IfSome (get made up) (λ r. 1 ≤ names_in q r))
+      above = λ q r es n up at is live ne. by_place (λ q r. (es : List DirEntry) (n up : ℕ) → r.body ≡ Directory es n up → IsTrue (is_linked made q) → q ≢ TOP → IsSome (get made up) × IfSome (get made up) (λ r. 1 ≤ names_in q r))
           (λ es n up is live ne. absurd (not_live (ap is_directory is) live))
           (λ es n up is live ne.
           let old = same_above es n up is in
           let was = sym (same_linked dir apart) ∙ live in
-          still_above dir up apart (g.above dir d old.0 old.1 up w.at old.2 was ne))
+          let had = g.above dir d old.0 old.1 up w.at old.2 was ne in
+          (stored up had.0, still_above dir up apart had.1))
           (λ q r nn nd at es n up is live ne.
           let was = sym (same_linked q nn) ∙ live in
-          still_above q up nn (g.above q r es n up at is was ne))
+          let had = g.above q r es n up at is was ne in
+          (stored up had.0, still_above q up nn had.1))
           q r at es n up is live ne;
+      top_above = λ r es n up at is. by_place (λ q r. q ≡ TOP → (es : List DirEntry) (n up : ℕ) → r.body ≡ Directory es n up → up ≡ TOP)
+          (λ top es n up is. absurd (not_top top))
+          (λ top es n up is. let old = same_above es n up is in g.top_above d old.0 old.1 up (sym (ap (get rs) top) ∙ w.at) old.2)
+          (λ q r nn nd at top es n up is. g.top_above r es n up (sym (ap (get rs) top) ∙ at) is)
+          TOP r at refl es n up is;
       climbs = by_place (λ q r. IsTrue (is_directory r.body) → IsTrue (is_linked made q) → ∥ ((n : ℕ) × Climbs made n q) ∥₁)
           (λ is live. absurd (not_live is live))
           (λ is live. ∥∥₁_map (g.climbs dir d w.at w.directory w.live) (λ c. (c.0, climbs_on c.0 dir c.1)))
@@ -230,11 +237,11 @@ module _ (t : Tree) (g : IsGoodTree t) (dir ino : ℕ) (name : List ℕ) (e : En
           (λ loose. absurd (false≢true (sym loose ∙ same_linked dir apart ∙ w.live)))
           (λ q r ne nd was loose. g.emptied q r was (sym (same_linked q ne) ∙ loose));
     } where
-      top_stays : IsTrue (is_directory_at (option_map (λ (r : Record). r.body) (get made top)))
+      top_stays : IsTrue (is_directory_at (option_map (λ (r : Record). r.body) (get made TOP)))
       top_stays = ⊎_elim
           (λ eq. subst (λ o. is_directory_at (option_map (λ (r : Record). r.body) o) ≡ true) (sym (ap (get made) eq ∙ at_dir)) (ap is_directory w.parted ∙ with_entries-is_directory d.body _ _ ∙ w.directory))
-          (λ nd. subst (λ o. is_directory_at (option_map (λ (r : Record). r.body) o) ≡ true) (sym (at_other top (λ is. not_top (sym is)) nd)) g.top_is_directory)
-          (cases_eq top dir)
+          (λ nd. subst (λ o. is_directory_at (option_map (λ (r : Record). r.body) o) ≡ true) (sym (at_other TOP (λ is. not_top (sym is)) nd)) g.top_is_directory)
+          (cases_eq TOP dir)
 
   -- every other record is linked or held as before
   pub unlinked_kept : (held : ℕ → Bool) → IsKept rs held → IsKeptBut made held ino

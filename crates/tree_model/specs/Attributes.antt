@@ -1,10 +1,14 @@
 -- What is told of an inode, by a host and by both protocols.
-use Rattle.std.specs.Prelude.{ℕ, ◌+◌, ◌/◌, ◌%◌, ◌^◌, length, Option, Some, None, Result, Ok, Err}
+use Rattle.std.specs.Prelude.{ℕ, ◌+◌, ◌-◌, ◌/◌, ◌%◌, ◌^◌, List, ◌++◌, codes, length, Option, Some, None, Result, Ok, Err}
+use Rattle.std.specs.Fmt.{decimal}
 use Rattle.std.specs.FinMap as map
 use Rattle.port_base.specs.declared.errno.TheConstants.{ENOENT}
+use Rattle.tree_model.specs.declared.attributes.TheConstants.{BLOCK_SIZE, QTDIR, QTFILE, QTSYMLINK}
 use Rattle.tree_model.specs.declared.attributes.Kind.{Kind}
 use Rattle.tree_model.specs.declared.attributes.Kind.TheVariants as kind
 use Rattle.tree_model.specs.declared.attributes.Attr.{Attr}
+use Rattle.tree_model.specs.declared.attributes.HostError.{HostError}
+use Rattle.tree_model.specs.declared.attributes.HostError.TheVariants.{Errno, Fault, NoMemory}
 use Rattle.tree_model.specs.declared.attributes.Statfs.{Statfs}
 use Rattle.tree_model.specs.Tree.{Tree, Record, Body}
 use Rattle.tree_model.specs.Tree.Body.{File, Directory, Link}
@@ -42,17 +46,26 @@ attr_or_missing i (Some r) = Ok (attr_of i r)
 abbrev pub stat_of : Tree → ℕ → Result Attr ℕ
 stat_of t i = attr_or_missing i (map.get t.records i)
 
--- `statfs`: blocks of 4096 bytes, rounded up, as many as a file may have, and the entries that a directory may have
+-- `statfs`: the blocks that a file may have, rounded up, and the entries that a directory may have
 abbrev pub statfs_of : Tree → Statfs
-statfs_of t = record { blocks = (t.limits.file + 4095) / 4096; files = t.limits.entries }
+statfs_of t = record {
+  blocks = (t.limits.file + (BLOCK_SIZE - 1)) / BLOCK_SIZE;
+  files = t.limits.entries;
+}
+
+-- an error in words
+abbrev pub host_error_text : HostError → List ℕ
+host_error_text (Errno e) = codes "refused with error number " ++ decimal e
+host_error_text Fault = codes "the host failed"
+host_error_text NoMemory = codes "out of memory"
 
 -- ---- as 9P2000.L and FUSE tell it
 
 -- the type byte of a qid
 abbrev pub qid_type : Kind → ℕ
-qid_type kind.File = 0
-qid_type kind.Directory = 128
-qid_type kind.Link = 2
+qid_type kind.File = QTFILE
+qid_type kind.Directory = QTDIR
+qid_type kind.Link = QTSYMLINK
 
 -- the type bits of a mode
 abbrev pub type_bits : Kind → ℕ

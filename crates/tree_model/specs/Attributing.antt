@@ -1,21 +1,16 @@
 -- Calls on the attributes and the bytes of one record.
-use Rattle.std.specs.Prelude.{ℕ, ◌+◌, ◌-◌, ◌%◌, Bool, true, not, ◌&&◌, ◌==◌, List, ◌++◌, length, take, drop, replicate, Option, Some, None, Result, Ok, Err, if◌then◌else◌, nat_le, nat_lt, unwrap_or}
+use Rattle.std.specs.Prelude.{ℕ, ◌+◌, ◌-◌, ◌%◌, Bool, true, not, ◌&&◌, ◌==◌, List, ◌++◌, length, take, drop, replicate, Option, Some, None, Result, if◌then◌else◌, nat_le, nat_lt, unwrap_or}
 use Rattle.port_base.specs.declared.errno.TheConstants.{ENOENT, EISDIR, EINVAL, EFBIG, EOPNOTSUPP}
 use Rattle.tree_model.specs.declared.attributes.Stamp.{Stamp}
 use Rattle.tree_model.specs.declared.attributes.TimeSet.{TimeSet}
 use Rattle.tree_model.specs.declared.attributes.TimeSet.TheVariants.{Keep, Now, At}
 use Rattle.tree_model.specs.Tree.{Tree, Record, Body, body_at}
 use Rattle.tree_model.specs.Tree.Body.{File, Directory, Link}
-use Rattle.tree_model.specs.Making.{change}
+use Rattle.tree_model.specs.Making.{change, unless_refused}
 
 -- the tree with the record at an inode changed
 abbrev pub with_changed : (Record → Record) → ℕ → Tree → Tree
 with_changed f ino t = record t { records = change f t.records ino }
-
--- an answer with the changed tree, or the refusal
-abbrev pub changing : {A : Type 0} → A → (Record → Record) → ℕ → Tree → Option ℕ → Result (A × Tree) ℕ
-changing a f ino t (Some e) = Err e
-changing a f ino t None = Ok (a, with_changed f ino t)
 
 -- what refuses a call on the body of an inode that is held
 abbrev pub refused_at : (Body → Option ℕ) → Option Body → Option ℕ
@@ -33,7 +28,9 @@ never b = None
 
 -- `touch_ctime`
 abbrev pub touch_ctime_of : Tree → ℕ → Result (Unit {0} × Tree) ℕ
-touch_ctime_of t ino = changing tt (restamped t.moment) ino t (refused_at never (body_at t.records ino))
+touch_ctime_of t ino =
+    unless_refused (refused_at never (body_at t.records ino))
+    tt (with_changed (restamped t.moment) ino t)
 
 abbrev pub refused_for_link : Body → Option ℕ
 refused_for_link (File bytes) = None
@@ -45,14 +42,22 @@ remoded mode moment r = record r { mode = mode % 4096; ctime = moment }
 
 -- `set_mode`: the mode modulo 4096; a link's mode stays
 abbrev pub set_mode_of : Tree → ℕ → ℕ → Result (Unit {0} × Tree) ℕ
-set_mode_of t ino mode = changing tt (remoded mode t.moment) ino t (refused_at refused_for_link (body_at t.records ino))
+set_mode_of t ino mode =
+    unless_refused (refused_at refused_for_link (body_at t.records ino))
+    tt (with_changed (remoded mode t.moment) ino t)
 
 abbrev pub owned_by : Option ℕ → Option ℕ → Stamp → Record → Record
-owned_by uid gid moment r = record r { uid = unwrap_or uid r.uid; gid = unwrap_or gid r.gid; ctime = moment }
+owned_by uid gid moment r = record r {
+  uid = unwrap_or uid r.uid;
+  gid = unwrap_or gid r.gid;
+  ctime = moment;
+}
 
 -- `set_owner`: the owners that are given
 abbrev pub set_owner_of : Tree → ℕ → Option ℕ → Option ℕ → Result (Unit {0} × Tree) ℕ
-set_owner_of t ino uid gid = changing tt (owned_by uid gid t.moment) ino t (refused_at never (body_at t.records ino))
+set_owner_of t ino uid gid =
+    unless_refused (refused_at never (body_at t.records ino))
+    tt (with_changed (owned_by uid gid t.moment) ino t)
 
 -- a time that is given has its nanoseconds below a second
 abbrev pub is_timely : TimeSet → Bool
@@ -70,11 +75,17 @@ abbrev pub times_refused : TimeSet → TimeSet → Body → Option ℕ
 times_refused atime mtime b = if is_timely atime && is_timely mtime then None else Some EINVAL
 
 abbrev pub retimed : TimeSet → TimeSet → Stamp → Record → Record
-retimed atime mtime moment r = record r { atime = time_after atime moment r.atime; mtime = time_after mtime moment r.mtime; ctime = moment }
+retimed atime mtime moment r = record r {
+  atime = time_after atime moment r.atime;
+  mtime = time_after mtime moment r.mtime;
+  ctime = moment;
+}
 
 -- `set_times`: EINVAL for a given time whose nanoseconds are a second or more
 abbrev pub set_times_of : Tree → ℕ → TimeSet → TimeSet → Result (Unit {0} × Tree) ℕ
-set_times_of t ino atime mtime = changing tt (retimed atime mtime t.moment) ino t (refused_at (times_refused atime mtime) (body_at t.records ino))
+set_times_of t ino atime mtime =
+    unless_refused (refused_at (times_refused atime mtime) (body_at t.records ino))
+    tt (with_changed (retimed atime mtime t.moment) ino t)
 
 -- ---- bytes
 
@@ -105,7 +116,9 @@ len_refused limit len = refused_unless_file (if nat_lt limit len then Some EFBIG
 
 -- `set_len`: EFBIG above the limit
 abbrev pub set_len_of : Tree → ℕ → ℕ → Result (Unit {0} × Tree) ℕ
-set_len_of t ino len = changing tt (rewritten_at t.moment (resized len)) ino t (refused_at (len_refused t.limits.file len) (body_at t.records ino))
+set_len_of t ino len =
+    unless_refused (refused_at (len_refused t.limits.file len) (body_at t.records ino))
+    tt (with_changed (rewritten_at t.moment (resized len)) ino t)
 
 -- the bytes that end by a limit
 abbrev pub fitting : ℕ → ℕ → List ℕ → List ℕ
@@ -113,12 +126,17 @@ fitting limit offset bytes = take (limit - offset) bytes
 
 -- a record with bytes written over its own; no bytes change nothing
 abbrev pub overwritten_at : Stamp → ℕ → List ℕ → Record → Record
-overwritten_at moment offset new r = if length new == 0 then r else rewritten_at moment (written offset new) r
+overwritten_at moment offset new r =
+    if length new == 0 then r else rewritten_at moment (written offset new) r
 
 abbrev pub write_refused : ℕ → ℕ → List ℕ → Body → Option ℕ
-write_refused limit offset new = refused_unless_file (if not (length new == 0) && nat_le limit offset then Some EFBIG else None)
+write_refused limit offset new =
+    refused_unless_file (if not (length new == 0) && nat_le limit offset then Some EFBIG else None)
 
--- `write_at`: as many bytes as end by the limit, and how many; EFBIG where there are some and none does
+-- `write_at`: as many bytes as end by the limit, and how many; EFBIG where there are some and none
+-- does
 abbrev pub write_of : Tree → ℕ → ℕ → List ℕ → Result (ℕ × Tree) ℕ
 write_of t ino offset new =
-    changing (length (fitting t.limits.file offset new)) (overwritten_at t.moment offset (fitting t.limits.file offset new)) ino t (refused_at (write_refused t.limits.file offset new) (body_at t.records ino))
+    unless_refused (refused_at (write_refused t.limits.file offset new) (body_at t.records ino))
+    (length (fitting t.limits.file offset new))
+    (with_changed (overwritten_at t.moment offset (fitting t.limits.file offset new)) ino t)

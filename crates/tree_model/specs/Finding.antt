@@ -2,20 +2,20 @@
 use Rattle.std.specs.Prelude.{ℕ, ◌+◌, Bool, false, ◌&&◌, not, List, [], ◌∷◌, length, filter, find as first_where, Option, Some, None, Result, Ok, Err, option_and_then, if◌then◌else◌, ◌==◌, nat_le, bytes_eq, map, is_some}
 use Rattle.std.specs.List.{slice_split}
 use Rattle.port_base.specs.declared.errno.TheConstants.{ENOENT, ENOTDIR}
-use Rattle.tree_model.specs.Tree.{Tree, Records, Body, Entry, top, body_at, is_directory_at}
+use Rattle.tree_model.specs.Tree.{Tree, Records, Body, DirEntry, TOP, body_at, is_directory_at}
 use Rattle.tree_model.specs.Tree.Body.{File, Directory, Link}
 
 -- the entries, where it is a directory
-abbrev pub entries_of : Body → Option (List Entry)
+abbrev pub entries_of : Body → Option (List DirEntry)
 entries_of (File bytes) = None
 entries_of (Directory entries next above) = Some entries
 entries_of (Link target) = None
 
-abbrev pub entries_at : Records → ℕ → Option (List Entry)
+abbrev pub entries_at : Records → ℕ → Option (List DirEntry)
 entries_at rs dir = option_and_then entries_of (body_at rs dir)
 
 -- the entry with exactly this name
-abbrev pub entry_named : List ℕ → List Entry → Option Entry
+abbrev pub entry_named : List ℕ → List DirEntry → Option DirEntry
 entry_named name es = first_where (λ e. bytes_eq e.name name) es
 
 -- an ASCII letter in lower case, and every other byte as it is
@@ -27,20 +27,20 @@ abbrev pub same_folded : List ℕ → List ℕ → Bool
 same_folded a b = bytes_eq (map folded_byte a) (map folded_byte b)
 
 -- the first entry, in cookie order, whose name is the same but for case
-abbrev pub entry_folded : List ℕ → List Entry → Option Entry
+abbrev pub entry_folded : List ℕ → List DirEntry → Option DirEntry
 entry_folded name es = first_where (λ e. same_folded e.name name) es
 
-abbrev pub ino_or_missing : Option Entry → Result ℕ ℕ
+abbrev pub ino_or_missing : Option DirEntry → Result ℕ ℕ
 ino_or_missing None = Err ENOENT
 ino_or_missing (Some e) = Ok e.ino
 
 -- the exact name first; with case folded a name that differs in case alone
-abbrev pub found_among : Bool → List ℕ → List Entry → Option Entry
+abbrev pub found_among : Bool → List ℕ → List DirEntry → Option DirEntry
 found_among casefold name es =
     if is_some (entry_named name es) then entry_named name es else
     if casefold then entry_folded name es else None
 
-abbrev pub ino_among : Bool → List ℕ → Option (List Entry) → Result ℕ ℕ
+abbrev pub ino_among : Bool → List ℕ → Option (List DirEntry) → Result ℕ ℕ
 ino_among casefold name None = Err ENOTDIR
 ino_among casefold name (Some es) = ino_or_missing (found_among casefold name es)
 
@@ -77,4 +77,4 @@ walk_on t at (name ∷ names) = walk_on t (walk_step t name at) names
 
 -- the directory at the end of a path of names from the top
 abbrev pub root_of : Tree → List (List ℕ) → Result ℕ ℕ
-root_of t names = walk_on t (Ok top) names
+root_of t names = walk_on t (Ok TOP) names

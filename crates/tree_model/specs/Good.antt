@@ -6,7 +6,7 @@ use Rattle.std.specs.FinMap as map
 use Rattle.port_base.specs.Names.{name_fault}
 use Rattle.tree_model.specs.declared.attributes.Stamp.{Stamp}
 use Rattle.tree_model.specs.declared.attributes.Limits.{Limits}
-use Rattle.tree_model.specs.Tree.{Tree, Record, Records, Body, Entry, top, body_at, listed, is_directory, is_directory_at, names_in, name_count, is_linked}
+use Rattle.tree_model.specs.Tree.{Tree, Record, Records, Body, DirEntry, TOP, body_at, listed, is_directory, is_directory_at, names_in, name_count, is_linked}
 use Rattle.tree_model.specs.Tree.Body.{File, Directory, Link}
 
 -- nanoseconds are below a second
@@ -17,17 +17,21 @@ abbrev pub IsGoodLimits : Limits → Type 0
 IsGoodLimits l = (l.file ≤ 1073741824) × (l.entries ≤ 1048576) × (1 ≤ l.links) × (l.links ≤ 65000)
 
 -- cookies rise, from at least the one given, and stay below the end
-abbrev pub CookiesRise : ℕ → List Entry → ℕ → Type 0
+abbrev pub CookiesRise : ℕ → List DirEntry → ℕ → Type 0
 CookiesRise from [] end = from ≤ end
 CookiesRise from (e ∷ es) end = (from ≤ e.cookie) × CookiesRise (e.cookie + 1) es end
 
 -- a link's target: 1 to 4000 bytes of UTF-8 without a zero byte
 abbrev pub IsGoodTarget : List ℕ → Type 0
-IsGoodTarget target = (1 ≤ length target) × (length target ≤ 4000) × IsTrue (is_utf8 target) × IsTrue (not (list_any (λ b. b == 0) target))
+IsGoodTarget target =
+    (1 ≤ length target) × (length target ≤ 4000)
+    × IsTrue (is_utf8 target) × IsTrue (not (list_any (λ b. b == 0) target))
 
 abbrev pub IsGoodBody : Body → Type 0
 IsGoodBody (File bytes) = length bytes ≤ 1073741824
-IsGoodBody (Directory es next above) = CookiesRise 1 es next × All (λ e. name_fault e.name ≡ None) es × AllPairs (λ e f. e.name ≢ f.name) es
+IsGoodBody (Directory es next above) =
+    CookiesRise 1 es next × All (λ e. name_fault e.name ≡ None) es
+    × AllPairs (λ e f. e.name ≢ f.name) es
 IsGoodBody (Link target) = IsGoodTarget target
 
 pub record IsGoodRecord (r : Record) : Type 0 where
@@ -38,7 +42,8 @@ pub record IsGoodRecord (r : Record) : Type 0 where
   pub mtime : IsGoodStamp r.mtime
   pub ctime : IsGoodStamp r.ctime
 
--- the number of links of a record that so many entries name: of a directory 2 while it is linked, else 0
+-- the number of links of a record that so many entries name: of a directory 2 while it is linked,
+-- else 0
 abbrev pub links_of : Body → ℕ → Bool → ℕ
 links_of (File bytes) names linked = names
 links_of (Directory es next above) names linked = if linked then 2 else 0
@@ -50,21 +55,34 @@ IsAt rs i r = map.get rs i ≡ Some r
 
 -- from a directory up, the top is reached in n steps
 abbrev pub Climbs : Records → ℕ → ℕ → Type 0
-Climbs rs zero i = i ≡ top
-Climbs rs (suc n) i = (i ≡ top) ⊎ ((r : Record) × (es : List Entry) × (next : ℕ) × (above : ℕ) × IsAt rs i r × (r.body ≡ Directory es next above) × Climbs rs n above)
+Climbs rs zero i = i ≡ TOP
+Climbs rs (suc n) i =
+    (i ≡ TOP)
+    ⊎ ((r : Record) × (es : List DirEntry) × (next : ℕ) × (above : ℕ)
+    × IsAt rs i r × (r.body ≡ Directory es next above) × Climbs rs n above)
 
 pub record IsGoodTree (t : Tree) : Type 0 where
   pub limits : IsGoodLimits t.limits
   pub moment : IsGoodStamp t.moment
-  pub top_is_directory : IsTrue (is_directory_at (body_at t.records top))
+  pub top_is_directory : IsTrue (is_directory_at (body_at t.records TOP))
   pub numbers : (i : ℕ) (r : Record) → IsAt t.records i r → (1 ≤ i) × (i < t.next)
   pub records : (i : ℕ) (r : Record) → IsAt t.records i r → IsGoodRecord r
   -- entries name stored records, and none the top
-  pub entries : (i : ℕ) (r : Record) (e : Entry) → IsAt t.records i r → Contains (listed r.body) e → IsSome (map.get t.records e.ino) × (e.ino ≢ top)
-  pub links : (i : ℕ) (r : Record) → IsAt t.records i r → r.links ≡ links_of r.body (name_count t.records i) (is_linked t.records i)
+  pub entries : (i : ℕ) (r : Record) (e : DirEntry) → IsAt t.records i r → Contains (listed r.body) e
+      → IsSome (map.get t.records e.ino) × (e.ino ≢ TOP)
+  pub links : (i : ℕ) (r : Record) → IsAt t.records i r
+      → r.links ≡ links_of r.body (name_count t.records i) (is_linked t.records i)
   -- one entry at most names a directory, and it stands in the directory above
-  pub once : (i : ℕ) (r : Record) → IsAt t.records i r → IsTrue (is_directory r.body) → name_count t.records i ≤ 1
-  pub above : (i : ℕ) (r : Record) (es : List Entry) (next up : ℕ) → IsAt t.records i r → r.body ≡ Directory es next up → IsTrue (is_linked t.records i) → i ≢ top → IfSome (map.get t.records up) (λ d. 1 ≤ names_in i d)
-  pub climbs : (i : ℕ) (r : Record) → IsAt t.records i r → IsTrue (is_directory r.body) → IsTrue (is_linked t.records i) → ∥ ((n : ℕ) × Climbs t.records n i) ∥₁
+  pub once : (i : ℕ) (r : Record) → IsAt t.records i r → IsTrue (is_directory r.body)
+      → name_count t.records i ≤ 1
+  pub above : (i : ℕ) (r : Record) (es : List DirEntry) (next up : ℕ) → IsAt t.records i r
+      → r.body ≡ Directory es next up → IsTrue (is_linked t.records i) → i ≢ TOP
+      → IsSome (map.get t.records up) × IfSome (map.get t.records up) (λ d. 1 ≤ names_in i d)
+  -- the top is above itself
+  pub top_above : (r : Record) (es : List DirEntry) (next up : ℕ) → IsAt t.records TOP r
+      → r.body ≡ Directory es next up → up ≡ TOP
+  pub climbs : (i : ℕ) (r : Record) → IsAt t.records i r → IsTrue (is_directory r.body)
+      → IsTrue (is_linked t.records i) → ∥ ((n : ℕ) × Climbs t.records n i) ∥₁
   -- a directory that no entry names has no entries
-  pub emptied : (i : ℕ) (r : Record) → IsAt t.records i r → is_linked t.records i ≡ false → listed r.body ≡ []
+  pub emptied : (i : ℕ) (r : Record) → IsAt t.records i r → is_linked t.records i ≡ false
+      → listed r.body ≡ []

@@ -2,11 +2,11 @@
 use Rattle.std.specs.Prelude.{ℕ, ◌+◌, List, [], ◌∷◌}
 use Rattle.std.specs.Coded.{×_prop, le_prop}
 use Rattle.std.proofs.Props.{props}
-use Rattle.tree_model.specs.Tree.{Tree, Body, Entry}
+use Rattle.tree_model.specs.Tree.{Tree, Body, DirEntry}
 use Rattle.tree_model.specs.Tree.Body.{File, Directory, Link}
 use Rattle.tree_model.specs.Good.{CookiesRise, IsGoodBody, IsGoodTree}
 
-pub CookiesRise-prop : (from : ℕ) (es : List Entry) (end : ℕ) → IsProp (CookiesRise from es end)
+pub CookiesRise-prop : (from : ℕ) (es : List DirEntry) (end : ℕ) → IsProp (CookiesRise from es end)
 CookiesRise-prop from [] end = le_prop
 CookiesRise-prop from (e ∷ es) end = ×_prop le_prop (CookiesRise-prop (e.cookie + 1) es end)
 

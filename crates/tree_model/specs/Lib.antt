@@ -14,3 +14,4 @@ pub mod Attributing
 pub mod Unlinking
 pub mod Creating
 pub mod Renaming
+pub mod Chains

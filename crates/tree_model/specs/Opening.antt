@@ -1,20 +1,21 @@
 -- What is opened, and what is read of it.
-use Rattle.std.specs.Prelude.{ℕ, ◌%◌, Bool, true, false, not, ◌&&◌, ◌||◌, List, [], ◌∷◌, Option, Some, None, Result, Ok, Err, if◌then◌else◌, ◌==◌, option_map, unwrap_or}
-use Rattle.std.specs.Int.RustNames.{bit_and}
+use Rattle.std.specs.Prelude.{ℕ, Bool, true, false, ◌&&◌, ◌||◌, List, [], ◌∷◌, Option, Some, None, Result, Ok, Err, if◌then◌else◌, ◌==◌, option_map, unwrap_or}
+use Rattle.std.specs.Result.{result_ok}
 use Rattle.port_base.specs.declared.errno.TheConstants.{ENOENT, EEXIST, ENOTDIR, EISDIR, EINVAL, ELOOP}
-use Rattle.port_base.specs.declared.oflag.TheConstants.{CREATE, EXCL, TRUNC, DIRECTORY}
+use Rattle.port_base.specs.declared.oflag.TheConstants.{O_WRONLY, O_RDWR, O_ACCMODE, O_CREAT, O_EXCL, O_TRUNC, O_DIRECTORY}
+use Rattle.port_base.specs.OpenFlags.{access, has_flag}
 use Rattle.tree_model.specs.declared.attributes.Kind.{Kind}
 use Rattle.tree_model.specs.declared.attributes.Kind.TheVariants as kind
-use Rattle.tree_model.specs.Tree.{Tree, Body, body_at, top}
+use Rattle.tree_model.specs.Tree.{Tree, Body, body_at, TOP}
 use Rattle.tree_model.specs.Tree.Body.{File, Directory, Link}
 use Rattle.tree_model.specs.Attributes.{kind_of}
 use Rattle.tree_model.specs.Finding.{walk_step}
 use Rattle.tree_model.specs.Reading.{part}
 
--- what is asked of the body at an inode; an inode that is held has one
-abbrev pub asked : {A : Type 0} → (Body → Result A ℕ) → Option Body → Result A ℕ
-asked ask None = Err ENOENT
-asked ask (Some b) = ask b
+-- what the body at an inode answers; an inode that is held has one
+abbrev pub body_answer : {A : Type 0} → (Body → Result A ℕ) → Option Body → Result A ℕ
+body_answer ask None = Err ENOENT
+body_answer ask (Some b) = ask b
 
 -- an answer of nothing, or the refusal
 abbrev pub unless : Option ℕ → Result (Unit {0}) ℕ
@@ -23,31 +24,28 @@ unless (Some e) = Err e
 
 -- ---- opening
 
--- 0 to read, 1 to write, 2 for both
-abbrev pub access : ℕ → ℕ
-access flags = flags % 4
-
-abbrev pub has_flag : ℕ → ℕ → Bool
-has_flag flag flags = not (bit_and flags flag == 0)
-
+-- opened to write, or made, or cut to nothing
 abbrev pub opens_to_change : ℕ → Bool
-opens_to_change flags = access flags == 1 || access flags == 2 || has_flag TRUNC flags || has_flag CREATE flags
+opens_to_change flags =
+    access flags == O_WRONLY || access flags == O_RDWR
+    || has_flag O_TRUNC flags || has_flag O_CREAT flags
 
 -- a link is never opened, a file not as a directory, and a directory only to be read
 abbrev pub kind_refused : ℕ → Kind → Option ℕ
-kind_refused flags kind.File = if has_flag DIRECTORY flags then Some ENOTDIR else None
+kind_refused flags kind.File = if has_flag O_DIRECTORY flags then Some ENOTDIR else None
 kind_refused flags kind.Directory = if opens_to_change flags then Some EISDIR else None
 kind_refused flags kind.Link = Some ELOOP
 
 -- the first refusal of an open of what is there
 abbrev pub open_refused : ℕ → Kind → Option ℕ
 open_refused flags k =
-    if access flags == 3 then Some EINVAL else
-    if has_flag CREATE flags && has_flag EXCL flags then Some EEXIST else kind_refused flags k
+    if access flags == O_ACCMODE then Some EINVAL else
+    if has_flag O_CREAT flags && has_flag O_EXCL flags then Some EEXIST else kind_refused flags k
 
 -- `open_check`: nothing, or the first refusal
 abbrev pub open_check_of : Tree → ℕ → ℕ → Result (Unit {0}) ℕ
-open_check_of t ino flags = asked (λ b. unless (open_refused flags (kind_of b))) (body_at t.records ino)
+open_check_of t ino flags =
+    body_answer (λ b. unless (open_refused flags (kind_of b))) (body_at t.records ino)
 
 -- ---- reading
 
@@ -58,7 +56,7 @@ read_body offset size (Link target) = Err EINVAL
 
 -- `read_at`: the bytes of a file from an offset on, as many as there are, at most so many
 abbrev pub read_of : Tree → ℕ → ℕ → ℕ → Result (List ℕ) ℕ
-read_of t ino offset size = asked (read_body offset size) (body_at t.records ino)
+read_of t ino offset size = body_answer (read_body offset size) (body_at t.records ino)
 
 -- ---- links
 
@@ -84,7 +82,7 @@ readlink_body (Link target) = Ok target
 
 -- `readlink`: the target, or EINVAL for what is no link
 abbrev pub readlink_of : Tree → ℕ → Result (List ℕ) ℕ
-readlink_of t ino = asked readlink_body (body_at t.records ino)
+readlink_of t ino = body_answer readlink_body (body_at t.records ino)
 
 -- ---- paths
 
@@ -93,10 +91,6 @@ abbrev pub walk_to : Tree → Result ℕ ℕ → List (List ℕ) → Result ℕ 
 walk_to t at [] = at
 walk_to t at (name ∷ names) = walk_to t (walk_step t name at) names
 
-abbrev pub if_told : Result ℕ ℕ → Option ℕ
-if_told (Ok i) = Some i
-if_told (Err e) = None
-
 -- the inode at the end of a path of names from the top, if there is one
 abbrev pub found_at : Tree → List (List ℕ) → Option ℕ
-found_at t names = if_told (walk_to t (Ok top) names)
+found_at t names = result_ok (walk_to t (Ok TOP) names)

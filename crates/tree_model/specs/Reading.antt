@@ -4,7 +4,7 @@ use Rattle.std.specs.FinMap as map
 use Rattle.port_base.specs.Tables.{next_after}
 use Rattle.port_base.specs.declared.errno.TheConstants.{ENOTDIR}
 use Rattle.tree_model.specs.declared.attributes.Attr.{Attr}
-use Rattle.tree_model.specs.Tree.{Tree, Record, Records, Body, Entry, body_at}
+use Rattle.tree_model.specs.Tree.{Tree, Record, Records, Body, DirEntry, body_at}
 use Rattle.tree_model.specs.Tree.Body.{File, Directory, Link}
 use Rattle.tree_model.specs.Finding.{entries_at}
 use Rattle.tree_model.specs.Making.{next_cookie}
@@ -29,28 +29,31 @@ abbrev pub next_cookie_of : Tree → ℕ → ℕ
 next_cookie_of t dir = unwrap_or (option_map next_cookie (body_at t.records dir)) 0
 
 -- the first entry whose cookie is above the given one
-abbrev pub entry_above : ℕ → List Entry → Option Entry
+abbrev pub entry_above : ℕ → List DirEntry → Option DirEntry
 entry_above cookie es = find (λ e. nat_lt cookie e.cookie) es
 
-abbrev pub peek_entry_of : Tree → ℕ → ℕ → Option Entry
+abbrev pub peek_entry_of : Tree → ℕ → ℕ → Option DirEntry
 peek_entry_of t dir cookie = option_and_then (entry_above cookie) (entries_at t.records dir)
 
 -- an entry with what is told of the inode that it names
-pub record ShownEntry : Type 0 where
+pub record Entry : Type 0 where
   pub cookie : ℕ
   pub name : List ℕ
   pub attr : Attr
 
 -- in a good tree what an entry names is stored
-abbrev pub shown_entry : Records → Entry → Option ShownEntry
-shown_entry rs e = option_map (λ (r : Record). record { cookie = e.cookie; name = e.name; attr = attr_of e.ino r }) (map.get rs e.ino)
+abbrev pub shown_entry : Records → DirEntry → Option Entry
+shown_entry rs e =
+    option_map (λ (r : Record). record { cookie = e.cookie; name = e.name; attr = attr_of e.ino r })
+    (map.get rs e.ino)
 
-abbrev pub entry_after_among : Records → ℕ → Option (List Entry) → Result (Option ShownEntry) ℕ
+abbrev pub entry_after_among : Records → ℕ → Option (List DirEntry) → Result (Option Entry) ℕ
 entry_after_among rs cookie None = Err ENOTDIR
-entry_after_among rs cookie (Some es) = Ok (option_and_then (shown_entry rs) (entry_above cookie es))
+entry_after_among rs cookie (Some es) =
+    Ok (option_and_then (shown_entry rs) (entry_above cookie es))
 
 -- `entry_after`: the first entry above a cookie, or ENOTDIR
-abbrev pub entry_after_of : Tree → ℕ → ℕ → Result (Option ShownEntry) ℕ
+abbrev pub entry_after_of : Tree → ℕ → ℕ → Result (Option Entry) ℕ
 entry_after_of t dir cookie = entry_after_among t.records cookie (entries_at t.records dir)
 
 -- ---- files

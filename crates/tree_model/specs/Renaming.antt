@@ -1,13 +1,13 @@
 -- A name that moves.
 use Rattle.std.specs.Prelude.{ℕ, zero, suc, ◌^◌, ◌-◌, Bool, true, false, not, ◌&&◌, ◌||◌, List, length, Option, None, Some, Result, Ok, Err, if◌then◌else◌, ◌==◌, nat_le, option_map, unwrap_or, is_some}
+use Rattle.std.specs.Result.{result_ok}
 use Rattle.port_base.specs.declared.errno.TheConstants.{ENOENT, ENOTDIR, EISDIR, EINVAL, ENOSPC, ENOTEMPTY}
 use Rattle.tree_model.specs.declared.attributes.Stamp.{Stamp}
-use Rattle.tree_model.specs.Tree.{Tree, Record, Records, Body, top, body_at, listed, is_directory_at, is_linked, keep}
+use Rattle.tree_model.specs.Tree.{Tree, Record, Records, Body, TOP, body_at, listed, is_directory_at, is_linked, keep}
 use Rattle.tree_model.specs.Tree.Body.{File, Directory, Link}
 use Rattle.tree_model.specs.Finding.{lookup_of}
-use Rattle.tree_model.specs.Making.{joined_by, next_cookie}
+use Rattle.tree_model.specs.Making.{joined_by, next_cookie, unless_refused}
 use Rattle.tree_model.specs.Reading.{above}
-use Rattle.tree_model.specs.Opening.{if_told}
 use Rattle.tree_model.specs.Attributing.{with_changed}
 use Rattle.tree_model.specs.Creating.{stamped}
 use Rattle.tree_model.specs.Unlinking.{parted_by, without_entry, is_empty_at}
@@ -22,15 +22,18 @@ abbrev pub climbs_past : Records → ℕ → ℕ → ℕ → Bool
 climbs_past rs ino zero at = false
 climbs_past rs ino (suc steps) at =
     if at == ino then false else
-    if at == top then true else climbs_past rs ino steps (above_at rs at)
+    if at == TOP then true else climbs_past rs ino steps (above_at rs at)
 
--- an inode that is a directory, and a directory at or below it; a climb has fewer steps than there are numbers
+-- an inode that is a directory, and a directory at or below it; a climb has fewer steps than there
+-- are numbers
 abbrev pub is_at_or_below : Tree → ℕ → ℕ → Bool
-is_at_or_below t ino dir = is_directory_at (body_at t.records ino) && not (climbs_past t.records ino t.next dir)
+is_at_or_below t ino dir =
+    is_directory_at (body_at t.records ino) && not (climbs_past t.records ino t.next dir)
 
 -- ---- what refuses a move
 
--- a directory takes the place of an empty directory alone, and what is no directory that of no directory
+-- a directory takes the place of an empty directory alone, and what is no directory that of no
+-- directory
 abbrev pub place_refused : Option Body → Option Body → Option ℕ
 place_refused moved replaced =
     if is_directory_at moved && not (is_directory_at replaced) then Some ENOTDIR else
@@ -41,9 +44,11 @@ abbrev pub replace_refused : Records → ℕ → Option ℕ → Option ℕ
 replace_refused rs ino None = None
 replace_refused rs ino (Some replaced) = place_refused (body_at rs ino) (body_at rs replaced)
 
--- there is no room for the entry: no cookie is left, or the directory has one entry more than before and is full
+-- there is no room for the entry: no cookie is left, or the directory has one entry more than
+-- before and is full
 abbrev pub has_no_room : ℕ → Bool → Body → Bool
-has_no_room limit more b = (more && nat_le limit (length (listed b))) || nat_le (2 ^ 64 - 1) (next_cookie b)
+has_no_room limit more b =
+    (more && nat_le limit (length (listed b))) || nat_le (2 ^ 64 - 1) (next_cookie b)
 
 abbrev pub room_refused : ℕ → Bool → Option Body → Option ℕ
 room_refused limit more None = Some ENOTDIR
@@ -57,7 +62,9 @@ first_of (Some d) e = Some d
 abbrev pub move_refused : Tree → ℕ → ℕ → ℕ → Option ℕ → Option ℕ
 move_refused t olddir newdir ino replaced =
     if is_at_or_below t ino newdir then Some EINVAL else
-    first_of (replace_refused t.records ino replaced) (room_refused t.limits.entries (not (is_some replaced) && not (olddir == newdir)) (body_at t.records newdir))
+    first_of (replace_refused t.records ino replaced)
+    (room_refused t.limits.entries (not (is_some replaced) && not (olddir == newdir))
+    (body_at t.records newdir))
 
 -- ---- what a move leaves
 
@@ -67,13 +74,13 @@ placed_below dir (Directory es next up) = Directory es next dir
 placed_below dir (Link target) = Link target
 
 -- what is moved: ctime becomes the moment, and a directory stands below the new one
-abbrev pub settled : Stamp → ℕ → Record → Record
-settled moment dir r = record r { body = placed_below dir r.body; ctime = moment }
+abbrev pub moved_below : Stamp → ℕ → Record → Record
+moved_below moment dir r = record r { body = placed_below dir r.body; ctime = moment }
 
 -- without the old entry, with one of the new name
 abbrev pub with_moved : Tree → ℕ → List ℕ → ℕ → List ℕ → ℕ → Tree
 with_moved t olddir oldname newdir newname ino =
-    with_changed (settled t.moment newdir) ino
+    with_changed (moved_below t.moment newdir) ino
     (with_changed (stamped t.moment) newdir
     (with_changed (joined_by newname ino) newdir
     (with_changed (parted_by oldname t.moment) olddir t)))
@@ -85,28 +92,32 @@ without_replaced t newdir newname (Some replaced) = without_entry t newdir newna
 
 -- ---- the call
 
-abbrev pub moved_unless : Option ℕ → (ℕ → Bool) → Tree → Result (Unit {0} × Tree) ℕ
-moved_unless (Some e) held t = Err e
-moved_unless None held t = Ok (tt, keep held t)
-
 -- the inode that the new name names is there: the same, or another that is replaced, or none
 abbrev pub same_ino : ℕ → Option ℕ → Bool
 same_ino ino None = false
 same_ino ino (Some i) = i == ino
 
-abbrev pub move_to : (ℕ → Bool) → Tree → ℕ → List ℕ → ℕ → List ℕ → ℕ → Option ℕ → Result (Unit {0} × Tree) ℕ
+abbrev pub move_to : (ℕ → Bool) → Tree → ℕ → List ℕ → ℕ → List ℕ → ℕ → Option ℕ
+    → Result (Unit {0} × Tree) ℕ
 move_to held t olddir oldname newdir newname ino there =
     if same_ino ino there then Ok (tt, t) else
-    moved_unless (move_refused t olddir newdir ino there) held (with_moved (without_replaced t newdir newname there) olddir oldname newdir newname ino)
+    unless_refused (move_refused t olddir newdir ino there) tt
+    (keep held
+    (with_moved (without_replaced t newdir newname there) olddir oldname newdir newname ino))
 
-abbrev pub renamed_at : (ℕ → Bool) → Tree → ℕ → List ℕ → ℕ → List ℕ → Result ℕ ℕ → Result (Unit {0} × Tree) ℕ
+abbrev pub renamed_at : (ℕ → Bool) → Tree → ℕ → List ℕ → ℕ → List ℕ → Result ℕ ℕ
+    → Result (Unit {0} × Tree) ℕ
 renamed_at held t olddir oldname newdir newname (Err e) = Err e
 renamed_at held t olddir oldname newdir newname (Ok ino) =
     if not (is_linked t.records newdir) then Err ENOENT else
-    move_to held t olddir oldname newdir newname ino (if_told (lookup_of t newdir newname))
+    move_to held t olddir oldname newdir newname ino (result_ok (lookup_of t newdir newname))
 
--- `rename`: ENOTDIR where either is no directory, ENOENT where no entry has the old name or no entry names the new directory; nothing changes where the new name names the same inode; EINVAL for a directory into itself or below, then what refuses that one takes the place of another, and ENOSPC
+-- `rename`: ENOTDIR where either is no directory, ENOENT where no entry has the old name or no
+-- entry names the new directory; nothing changes where the new name names the same inode; EINVAL
+-- for a directory into itself or below, then what refuses that one takes the place of another, and
+-- ENOSPC
 abbrev pub rename_of : (ℕ → Bool) → Tree → ℕ → List ℕ → ℕ → List ℕ → Result (Unit {0} × Tree) ℕ
 rename_of held t olddir oldname newdir newname =
-    if not (is_directory_at (body_at t.records olddir)) || not (is_directory_at (body_at t.records newdir)) then Err ENOTDIR else
+    if not (is_directory_at (body_at t.records olddir))
+    || not (is_directory_at (body_at t.records newdir)) then Err ENOTDIR else
     renamed_at held t olddir oldname newdir newname (lookup_of t olddir oldname)

@@ -2,7 +2,7 @@
 use Rattle.std.specs.Prelude.{ℕ, List, codes}
 use Rattle.tree_model.specs.declared.attributes.Stamp.{Stamp}
 use Rattle.tree_model.specs.declared.attributes.Limits.{Limits}
-use Rattle.tree_model.specs.Tree.{Tree, top}
+use Rattle.tree_model.specs.Tree.{Tree, TOP}
 use Rattle.tree_model.specs.Making.{new_tree, NewFile, with_file}
 
 abbrev pub born : Stamp
@@ -23,4 +23,4 @@ world = record { mode = 420; uid = 5; gid = 6; bytes = codes "world" }
 
 -- the top directory with one file, `hello`, which is inode 2
 abbrev pub sample : Tree
-sample = with_file born alone top hello world
+sample = with_file born alone TOP hello world

@@ -10,7 +10,8 @@ use Rattle.tree_model.specs.Attributes.{type_bits}
 abbrev pub IdMap : Type 0
 IdMap = FinMap nat_cmp ℕ
 
--- the root's path, the maps of owners, whether names are found without regard to case, and how many fids there may be
+-- the root's path, the maps of owners, whether names are found without regard to case, and how
+-- many fids there may be
 pub record Settings : Type 0 where
   pub root : List (List ℕ)
   pub uid_map : IdMap
@@ -24,7 +25,11 @@ mapped ids id = unwrap_or (map.get ids id) id
 
 -- what is shown of an inode: its mode has the type bits, its owners are mapped
 abbrev pub shown_of : Settings → Attr → Attr
-shown_of s a = record a { mode = type_bits a.kind + a.mode; uid = mapped s.uid_map a.uid; gid = mapped s.gid_map a.gid }
+shown_of s a = record a {
+  mode = type_bits a.kind + a.mode;
+  uid = mapped s.uid_map a.uid;
+  gid = mapped s.gid_map a.gid;
+}
 
 abbrev pub shown_told : Settings → Result Attr ℕ → Result Attr ℕ
 shown_told s (Ok a) = Ok (shown_of s a)

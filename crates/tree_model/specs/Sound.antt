@@ -1,7 +1,7 @@
 -- What is stored: what is linked or held, and nothing else.
 use Rattle.std.specs.Prelude.{◌≡◌, ◌≢◌, ◌||◌, ◌&&◌, not, ℕ, ◌<◌, Bool, true, false, [], ◌==◌, if◌then◌else◌, Option, Some, None, IsSome, IsTrue}
 use Rattle.std.specs.FinMap as map
-use Rattle.tree_model.specs.Tree.{Record, Records, listed, is_directory, name_count, is_linked, top}
+use Rattle.tree_model.specs.Tree.{Record, Records, listed, is_directory, name_count, is_linked, TOP}
 use Rattle.tree_model.specs.Good.{IsAt, links_of}
 
 -- each stored record is linked or held
@@ -14,9 +14,10 @@ AreStored rs held = (i : ℕ) → held i ≡ true → IsSome (map.get rs i)
 
 -- links are counted, and what is named or held is stored
 pub record IsCounted (rs : Records) (next : ℕ) (held : ℕ → Bool) : Type 0 where
-  pub top_is_directory : (r : Record) → IsAt rs top r → IsTrue (is_directory r.body)
+  pub top_is_directory : (r : Record) → IsAt rs TOP r → IsTrue (is_directory r.body)
   pub numbers : (i : ℕ) (r : Record) → IsAt rs i r → i < next
-  pub links : (i : ℕ) (r : Record) → IsAt rs i r → r.links ≡ links_of r.body (name_count rs i) (is_linked rs i)
+  pub links : (i : ℕ) (r : Record) → IsAt rs i r
+      → r.links ≡ links_of r.body (name_count rs i) (is_linked rs i)
   pub emptied : (i : ℕ) (r : Record) → IsAt rs i r → is_linked rs i ≡ false → listed r.body ≡ []
   pub named : (i : ℕ) → 0 < name_count rs i → IsSome (map.get rs i)
   pub holds : AreStored rs held

@@ -3,19 +3,22 @@ use Rattle.std.specs.Prelude.{ℕ, ◌+◌, Bool, true, false, cond, ◌||◌, L
 use Rattle.std.specs.Ordering.{nat_cmp}
 use Rattle.std.specs.FinMap as map
 use Rattle.std.specs.FinMap.{FinMap}
+pub use Rattle.tree_model.specs.declared.attributes.TheConstants.{TOP}
 use Rattle.tree_model.specs.declared.attributes.Stamp.{Stamp}
 use Rattle.tree_model.specs.declared.attributes.Limits.{Limits}
 
--- a name in a directory: a cookie that no other entry of the directory ever has, the name, and the inode that it names
-pub record Entry : Type 0 where
+-- a name in a directory: a cookie that no other entry of the directory ever has, the name, and the
+-- inode that it names
+pub record DirEntry : Type 0 where
   pub cookie : ℕ
   pub name : List ℕ
   pub ino : ℕ
 
--- what a record holds: a file its bytes; a directory its entries in rising cookie order, the next cookie and the number of the directory above; a link its target
+-- what a record holds: a file its bytes; a directory its entries in rising cookie order, the next
+-- cookie and the number of the directory above; a link its target
 pub data Body : Type 0 where
   File : (bytes : List ℕ) → Body
-  Directory : (entries : List Entry) (next_cookie above : ℕ) → Body
+  Directory : (entries : List DirEntry) (next_cookie above : ℕ) → Body
   Link : (target : List ℕ) → Body
 
 pub record Record : Type 0 where
@@ -31,22 +34,19 @@ pub record Record : Type 0 where
 abbrev pub Records : Type 0
 Records = FinMap nat_cmp Record
 
--- the records, the next inode number, what the tree may hold, and the moment that changes are stamped with
+-- the records, the next inode number, what the tree may hold, and the moment that changes are
+-- stamped with
 pub record Tree : Type 0 where
   pub records : Records
   pub next : ℕ
   pub limits : Limits
   pub moment : Stamp
 
--- the top directory
-abbrev pub top : ℕ
-top = 1
-
 abbrev pub body_at : Records → ℕ → Option Body
 body_at rs i = option_map (λ (r : Record). r.body) (map.get rs i)
 
 -- the entries of a body, none for a file or a link
-abbrev pub listed : Body → List Entry
+abbrev pub listed : Body → List DirEntry
 listed (File bytes) = []
 listed (Directory entries next above) = entries
 listed (Link target) = []
@@ -63,7 +63,7 @@ is_directory_at (Some b) = is_directory b
 -- ---- who names an inode
 
 -- how many of the entries name i
-abbrev pub count_names : ℕ → List Entry → ℕ
+abbrev pub count_names : ℕ → List DirEntry → ℕ
 count_names i [] = 0
 count_names i (e ∷ es) = cond (e.ino == i) 1 0 + count_names i es
 
@@ -87,7 +87,7 @@ name_count rs i = weigh (names_in i) (map.entries rs)
 
 -- i is the top, or an entry names it
 abbrev pub is_linked : Records → ℕ → Bool
-is_linked rs i = (i == top) || nat_lt 0 (name_count rs i)
+is_linked rs i = (i == TOP) || nat_lt 0 (name_count rs i)
 
 -- ---- what stays
 
@@ -97,4 +97,6 @@ linked t = record t { records = map.retain_keys t.records (is_linked t.records) 
 
 -- the tree with the records that are linked or held
 abbrev pub keep : (ℕ → Bool) → Tree → Tree
-keep held t = record t { records = map.retain_keys t.records (λ i. is_linked t.records i || held i) }
+keep held t = record t {
+  records = map.retain_keys t.records (λ i. is_linked t.records i || held i);
+}

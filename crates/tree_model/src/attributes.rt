@@ -1,4 +1,23 @@
 //! What is told of a file, and the bounds of a tree.
+ghost use Rattle.std.specs.Prelude.{Some};
+ghost use Rattle.tree_model.specs.Attributes.{host_error_text};
+
+use std::fmt;
+
+/// The inode number of the top directory.
+pub const TOP: u64 = 1;
+
+/// The size of a block in bytes, which 9P and FUSE both tell.
+pub const BLOCK_SIZE: u32 = 4096;
+
+/// The type byte of a directory's qid (9P2000.L).
+pub const QTDIR: u8 = 0x80;
+
+/// The type byte of a symbolic link's qid (9P2000.L).
+pub const QTSYMLINK: u8 = 0x02;
+
+/// The type byte of a regular file's qid (9P2000.L).
+pub const QTFILE: u8 = 0x00;
 
 /// A moment: seconds since 1970 and nanoseconds, which are below 1000000000.
 #[derive(Clone, Copy, Debug, PartialEq, Eq)]
@@ -23,7 +42,8 @@ pub enum Kind {
     Link,
 }
 
-/// What a host tells of an inode. The mode is without its type bits; the size is in bytes, of a link that
+/// What a host tells of an inode. The mode is without its type bits; the size is in bytes, of a
+/// link that
 /// of its target, of a directory 0.
 #[derive(Clone, Copy, Debug, PartialEq, Eq)]
 pub struct Attr {
@@ -47,7 +67,8 @@ pub enum TimeSet {
     At(Stamp),
 }
 
-/// What is told of a whole tree: the blocks of 4096 bytes that a file may have, and the entries that a
+/// What is told of a whole tree: the blocks of 4096 bytes that a file may have, and the entries
+/// that a
 /// directory may have.
 #[derive(Clone, Copy, Debug, PartialEq, Eq)]
 pub struct Statfs {
@@ -55,11 +76,25 @@ pub struct Statfs {
     pub files: u64,
 }
 
-/// Why a call of a host failed: a refusal with its error number, a fault of what it stands on, or want of
-/// memory.
+/// Why a call of a host failed.
 #[derive(Clone, Copy, Debug, PartialEq, Eq)]
 pub enum HostError {
+    /// The call was refused, with an error number of Linux.
     Errno(u32),
+    /// What the host stands on failed; the host counted it.
     Fault,
+    /// There was no memory.
     NoMemory,
+}
+
+impl fmt::Display for HostError {
+    ghost output = { λ error. Some (host_error_text error) };
+
+    fn fmt<W: fmt::Write>(&self, f: &mut fmt::Formatter<W>) -> fmt::Result {
+        match self {
+            HostError::Errno(errno) => write!(f, "refused with error number {}", errno),
+            HostError::Fault => f.write_str("the host failed"),
+            HostError::NoMemory => f.write_str("out of memory"),
+        }
+    }
 }

@@ -1,4 +1,5 @@
-//! Definitions computed on a small tree: a top directory with the file `hello`, inode 2, of five bytes.
+//! Definitions computed on a small tree: a top directory with the file `hello`, inode 2, of five
+//! bytes.
 ghost use Rattle.std.specs.Prelude.{◌≡◌, ℕ, Bool, true, false, Ok, Err, Some, None, [], ◌∷◌, codes};
 ghost use Rattle.std.specs.FinMap.{insert, empty};
 ghost use Rattle.port_base.specs.declared.errno.TheConstants.{EPERM, ENOENT, EEXIST, ENOTDIR, EISDIR, EINVAL, EFBIG, ENOTEMPTY, ELOOP, EOPNOTSUPP};
@@ -40,7 +41,24 @@ pub fn reading()
     ensures directory { read_of sample 1 0 8 ≡ Err EISDIR }
     ensures no_link { readlink_of sample 2 ≡ Err EINVAL }
     ensures link { readlink_body (Link hello) ≡ Ok hello }
-    ensures first { entry_after_of sample 1 0 ≡ Ok (Some (record { cookie = 1; name = hello; attr = record { ino = 2; kind = kind.File; mode = 420; uid = 5; gid = 6; links = 1; size = 5; atime = born; mtime = born; ctime = born } })) }
+    ensures first { entry_after_of sample 1 0 ≡ Ok
+        (Some (record {
+          cookie = 1;
+          name = hello;
+          attr = record {
+            ino = 2;
+            kind = kind.File;
+            mode = 420;
+            uid = 5;
+            gid = 6;
+            links = 1;
+            size = 5;
+            atime =
+                born;
+            mtime = born;
+            ctime = born;
+          };
+        })) }
     ensures none_after { entry_after_of sample 1 1 ≡ Ok None }
     ensures no_entries { entry_after_of sample 2 0 ≡ Err ENOTDIR }
     ensures bounds { statfs_of sample ≡ record { blocks = 1; files = 2 } }
@@ -54,7 +72,8 @@ pub fn finding()
     ensures below { found_at sample (hello ∷ hello ∷ []) ≡ None }
 {}
 
-/// Names with and without regard to case, the root of a share, and what a directory knows of itself.
+/// Names with and without regard to case, the root of a share, and what a directory knows of
+/// itself.
 #[tactic(auto, using(crate::proofs::Sampling::found, crate::proofs::Sampling::not_found, crate::proofs::Telling::folded_case, crate::proofs::Telling::root_top, crate::proofs::Telling::root_file, crate::proofs::Telling::root_missing, crate::proofs::Telling::above_top, crate::proofs::Telling::next_in_top, crate::proofs::Telling::next_in_file))]
 pub fn looking_up()
     ensures exact { lookup_of sample 1 hello ≡ Ok 2 }
@@ -71,8 +90,32 @@ pub fn looking_up()
 /// What is told of the file: by `stat`, as a qid, and with the owner that a map gives.
 #[tactic(auto, using(crate::proofs::Sampling::told, crate::proofs::Telling::owner_mapped, crate::proofs::Telling::owner_stays))]
 pub fn telling()
-    ensures told { stat_of sample 2 ≡ Ok (record { ino = 2; kind = kind.File; mode = 420; uid = 5; gid = 6; links = 1; size = 5; atime = born; mtime = born; ctime = born }) }
-    ensures qid { qid_of (record { ino = 2; kind = kind.Directory; mode = 420; uid = 5; gid = 6; links = 1; size = 5; atime = born; mtime = record { sec = 4294967303; nsec = 1 }; ctime = born }) ≡ (128, (7, 2)) }
+    ensures told { stat_of sample 2 ≡ Ok (record {
+      ino = 2;
+      kind = kind.File;
+      mode = 420;
+      uid = 5;
+      gid = 6;
+      links = 1;
+      size = 5;
+      atime =
+          born;
+      mtime = born;
+      ctime = born;
+    }) }
+    ensures qid { qid_of (record {
+      ino = 2;
+      kind = kind.Directory;
+      mode = 420;
+      uid = 5;
+      gid = 6;
+      links = 1;
+      size = 5;
+      atime = born;
+      mtime = record { sec = 4294967303; nsec = 1 };
+      ctime =
+          born;
+    }) ≡ (128, (7, 2)) }
     ensures mapped { mapped (insert empty 5 50) 5 ≡ 50 }
     ensures unmapped { mapped empty 5 ≡ 5 }
 {}
@@ -80,21 +123,28 @@ pub fn telling()
 /// Modes, owners and ctimes that are set, and what isn't there.
 #[tactic(auto, using(crate::proofs::Telling::mode_set, crate::proofs::Telling::mode_missing, crate::proofs::Telling::owner_set, crate::proofs::Telling::owner_missing, crate::proofs::Telling::ctime_set, crate::proofs::Telling::ctime_missing))]
 pub fn stamping()
-    ensures mode { remoded 33206 (record { sec = 9; nsec = 0 }) (top_record born 493 1 2) ≡ record (top_record born 493 1 2) { mode = 438; ctime = record { sec = 9; nsec = 0 } } }
-    ensures file_mode { set_mode_of sample 2 384 ≡ Ok (tt, with_changed (remoded 384 born) 2 sample) }
+    ensures mode { remoded 33206 (record { sec = 9; nsec = 0 }) (top_record born 493 1 2) ≡ record
+        (top_record born 493 1 2) { mode = 438; ctime = record { sec = 9; nsec = 0 } } }
+    ensures file_mode { set_mode_of sample 2 384 ≡ Ok
+        (tt, with_changed (remoded 384 born) 2 sample) }
     ensures missing_mode { set_mode_of sample 3 384 ≡ Err ENOENT }
-    ensures owner { owned_by (Some 8) None (record { sec = 9; nsec = 0 }) (top_record born 493 1 2) ≡ record (top_record born 493 1 2) { uid = 8; ctime = record { sec = 9; nsec = 0 } } }
-    ensures file_owner { set_owner_of sample 2 None (Some 8) ≡ Ok (tt, with_changed (owned_by None (Some 8) born) 2 sample) }
+    ensures owner { owned_by (Some 8) None (record { sec = 9; nsec = 0 }) (top_record born 493 1 2)
+        ≡ record (top_record born 493 1 2) { uid = 8; ctime = record { sec = 9; nsec = 0 } } }
+    ensures file_owner { set_owner_of sample 2 None (Some 8) ≡ Ok
+        (tt, with_changed (owned_by None (Some 8) born) 2 sample) }
     ensures missing_owner { set_owner_of sample 3 None None ≡ Err ENOENT }
-    ensures ctime { restamped (record { sec = 9; nsec = 0 }) (top_record born 493 1 2) ≡ record (top_record born 493 1 2) { ctime = record { sec = 9; nsec = 0 } } }
+    ensures ctime { restamped (record { sec = 9; nsec = 0 }) (top_record born 493 1 2) ≡ record
+        (top_record born 493 1 2) { ctime = record { sec = 9; nsec = 0 } } }
     ensures file_ctime { touch_ctime_of sample 2 ≡ Ok (tt, with_changed (restamped born) 2 sample) }
     ensures missing_ctime { touch_ctime_of sample 3 ≡ Err ENOENT }
 {}
 
 /// Records and names that are added beside the file, and what is refused.
 pub fn adding()
-    ensures directory { add_directory_of born sample 1 (codes "d") 493 0 0 ≡ Ok (3, with_record sample 1 (codes "d") (directory_record born 493 0 0 1)) }
-    ensures link { add_link_of born sample 1 (codes "l") 0 0 hello ≡ Ok (3, with_record sample 1 (codes "l") (link_record born 0 0 hello)) }
+    ensures directory { add_directory_of born sample 1 (codes "d") 493 0 0 ≡ Ok
+        (3, with_record sample 1 (codes "d") (directory_record born 493 0 0 1)) }
+    ensures link { add_link_of born sample 1 (codes "l") 0 0 hello ≡ Ok
+        (3, with_record sample 1 (codes "l") (link_record born 0 0 hello)) }
     ensures there { add_directory_of born sample 1 hello 493 0 0 ≡ Err EEXIST }
     ensures below_file { add_directory_of born sample 2 (codes "d") 493 0 0 ≡ Err ENOTDIR }
     ensures name { add_hard_of sample 1 (codes "b") 2 ≡ Ok (2, with_link sample 1 (codes "b") 2) }
@@ -114,16 +164,22 @@ pub fn changing()
     ensures beyond { write_of sample 2 8 (codes "z") ≡ Err EFBIG }
     ensures nothing { write_of sample 2 9 [] ≡ Ok (0, sample) }
     ensures fits { fitting 8 6 (codes "xyz") ≡ codes "xy" }
-    ensures over_file { write_of sample 2 6 (codes "xyz") ≡ Ok (2, with_changed (rewritten_at born (written 6 (codes "xy"))) 2 sample) }
+    ensures over_file { write_of sample 2 6 (codes "xyz") ≡ Ok
+        (2, with_changed (rewritten_at born (written 6 (codes "xy"))) 2 sample) }
     ensures onto_directory { write_of sample 1 0 (codes "z") ≡ Err EISDIR }
-    ensures times { set_times_of sample 2 Keep Now ≡ Ok (tt, with_changed (retimed Keep Now born) 2 sample) }
-    ensures late { set_times_of sample 2 Keep (At (record { sec = 0; nsec = 1000000000 })) ≡ Err EINVAL }
+    ensures times { set_times_of sample 2 Keep Now ≡ Ok
+        (tt, with_changed (retimed Keep Now born) 2 sample) }
+    ensures late { set_times_of sample 2 Keep (At (record { sec = 0; nsec = 1000000000 })) ≡ Err
+        EINVAL }
 {}
 
 /// Names that are taken away, whatever is held, and what is refused.
 pub fn unlinking()
-    ensures rest { without hello (record { cookie = 1; name = hello; ino = 2 } ∷ record { cookie = 2; name = codes "b"; ino = 3 } ∷ []) ≡ record { cookie = 2; name = codes "b"; ino = 3 } ∷ [] }
-    ensures file { (held : ℕ → Bool) → unlink_of held sample 1 hello ≡ Ok (tt, keep held (without_entry sample 1 hello 2)) }
+    ensures rest { without hello (record { cookie = 1; name = hello; ino = 2 } ∷ record
+        { cookie = 2; name = codes "b"; ino = 3 } ∷ []) ≡ record
+        { cookie = 2; name = codes "b"; ino = 3 } ∷ [] }
+    ensures file { (held : ℕ → Bool) → unlink_of held sample 1 hello ≡ Ok
+        (tt, keep held (without_entry sample 1 hello 2)) }
     ensures missing { (held : ℕ → Bool) → unlink_of held sample 1 (codes "b") ≡ Err ENOENT }
     ensures below_file { (held : ℕ → Bool) → unlink_of held sample 2 hello ≡ Err ENOTDIR }
     ensures directory { unless_directory sample.records (Ok 1) ≡ Err EISDIR }
@@ -131,15 +187,37 @@ pub fn unlinking()
 
 /// What is created, made or linked beside the file, and what is refused.
 pub fn creating()
-    ensures file { create_of sample 1 (codes "b") 33261 ≡ Ok (3, with_new sample 1 (codes "b") (empty_file born 493)) }
+    ensures file { create_of sample 1 (codes "b") 33261 ≡ Ok
+        (3, with_new sample 1 (codes "b") (empty_file born 493)) }
     ensures there { create_of sample 1 hello 420 ≡ Err EEXIST }
     ensures below_file { create_of sample 2 (codes "b") 420 ≡ Err ENOTDIR }
-    ensures directory { mkdir_of sample 1 (codes "d") 493 ≡ Ok (record { ino = 3; kind = kind.Directory; mode = 493; uid = 0; gid = 0; links = 2; size = 0; atime = born; mtime = born; ctime = born }, with_new sample 1 (codes "d") (empty_directory born 493 1)) }
+    ensures directory { mkdir_of sample 1 (codes "d") 493 ≡ Ok (
+      record {
+        ino = 3;
+        kind = kind.Directory;
+        mode = 493;
+        uid = 0;
+        gid = 0;
+        links = 2;
+        size =
+            0;
+        atime = born;
+        mtime = born;
+        ctime = born;
+      },
+      with_new sample 1 (codes "d")
+          (empty_directory born 493 1),
+    ) }
     ensures directory_there { mkdir_of sample 1 hello 493 ≡ Err EEXIST }
     ensures name { link_of sample 2 1 (codes "b") ≡ Ok (tt, with_name sample 1 (codes "b") 2) }
     ensures name_there { link_of sample 2 1 hello ≡ Err EEXIST }
     ensures name_of_directory { link_of sample 1 1 (codes "b") ≡ Err EPERM }
-    ensures stamps { stamped (record { sec = 9; nsec = 0 }) (top_record born 493 1 2) ≡ record (top_record born 493 1 2) { mtime = record { sec = 9; nsec = 0 }; ctime = record { sec = 9; nsec = 0 } } }
+    ensures stamps { stamped (record { sec = 9; nsec = 0 }) (top_record born 493 1 2) ≡ record
+        (top_record born 493 1 2) {
+          mtime = record { sec = 9; nsec = 0 };
+          ctime = record
+              { sec = 9; nsec = 0 };
+        } }
 {}
 
 /// Directories that are taken away, whatever is held, and what is refused.
@@ -155,8 +233,11 @@ pub fn removing()
 
 /// Names that move, whatever is held, and what is refused.
 pub fn renaming()
-    ensures file { (held : ℕ → Bool) → rename_of held sample 1 hello 1 (codes "b") ≡ Ok (tt, keep held (with_moved sample 1 hello 1 (codes "b") 2)) }
-    ensures new_cookie { (joined_by (codes "b") 2 (parted_by hello born (joined_by hello 2 (top_record born 493 1 2)))).body ≡ Directory (record { cookie = 2; name = codes "b"; ino = 2 } ∷ []) 3 1 }
+    ensures file { (held : ℕ → Bool) → rename_of held sample 1 hello 1 (codes "b") ≡ Ok
+        (tt, keep held (with_moved sample 1 hello 1 (codes "b") 2)) }
+    ensures new_cookie { (joined_by (codes "b") 2
+        (parted_by hello born (joined_by hello 2 (top_record born 493 1 2)))).body ≡ Directory
+        (record { cookie = 2; name = codes "b"; ino = 2 } ∷ []) 3 1 }
     ensures same { (held : ℕ → Bool) → rename_of held sample 1 hello 1 hello ≡ Ok (tt, sample) }
     ensures missing { (held : ℕ → Bool) → rename_of held sample 1 (codes "b") 1 hello ≡ Err ENOENT }
     ensures from_file { (held : ℕ → Bool) → rename_of held sample 2 hello 1 hello ≡ Err ENOTDIR }
@@ -166,7 +247,8 @@ pub fn renaming()
     ensures climb { climbs_past sample.records 2 1 1 ≡ true }
     ensures onto_file { place_refused (Some (Directory [] 1 1)) (Some (File [])) ≡ Some ENOTDIR }
     ensures onto_directory { place_refused (Some (File [])) (Some (Directory [] 1 1)) ≡ Some EISDIR }
-    ensures onto_filled { place_refused (Some (Directory [] 1 1)) (Some (Directory (record { cookie = 1; name = hello; ino = 2 } ∷ []) 2 1)) ≡ Some ENOTEMPTY }
+    ensures onto_filled { place_refused (Some (Directory [] 1 1))
+        (Some (Directory (record { cookie = 1; name = hello; ino = 2 } ∷ []) 2 1)) ≡ Some ENOTEMPTY }
     ensures onto_empty { place_refused (Some (Directory [] 1 1)) (Some (Directory [] 1 1)) ≡ None }
     ensures full { has_no_room 0 true (Directory [] 1 1) ≡ true }
     ensures as_many { has_no_room 0 false (Directory [] 1 1) ≡ false }

@@ -12,7 +12,8 @@ impl TreeHost {
     ghost use Rattle.tree_model.specs.Tree.{body_at, is_linked};
     ghost use Rattle.tree_model.specs.Good.{IsGoodTarget};
     ghost use Rattle.tree_model.specs.Making.{add_file_of};
-    ghost use Rattle.tree_model.specs.Placing.{IsNew, create_refused, with_record, placed, add_directory_of, add_link_of, add_hard_of, link_refused};
+    ghost use Rattle.tree_model.specs.Placing.{IsNew, with_record, placed, add_directory_of, add_link_of, add_hard_of, link_refused};
+    ghost use Rattle.tree_model.specs.Making.{create_refused};
     ghost use Rattle.tree_host.specs.Host.{Leaves};
     ghost use Rattle.tree_host.specs.TreeHosts.{tree, birth, new_file, KeepsRest};
 
@@ -28,8 +29,10 @@ impl TreeHost {
         requires named { name_fault name.now ≡ None }
         requires free { create_refused (tree self.old) dir name.now ≡ None }
         requires new { IsNew dir node }
-        ensures ok { IfOk result (λ ino. (ino ≡ (tree self.old).next) × (tree self.new ≡ with_record (tree self.old) dir name.now node)) }
-        ensures err { IfErr result (λ e. (e ≡ HostError.NoMemory) × (tree self.new ≡ tree self.old)) }
+        ensures ok { IfOk result (λ ino. (ino ≡ (tree self.old).next) ×
+            (tree self.new ≡ with_record (tree self.old) dir name.now node)) }
+        ensures err { IfErr result (λ e. (e ≡ HostError.NoMemory) ×
+            (tree self.new ≡ tree self.old)) }
         ensures rest { KeepsRest self.old self.new }
     {
         let ino = self.next;
@@ -46,7 +49,8 @@ impl TreeHost {
     fn add_record(&mut self, dir: u64, name: &[u8], node: Node) -> Result<u64, HostError>
         requires named { name_fault name.now ≡ None }
         requires new { IsNew dir node }
-        ensures leaves { Leaves (placed (tree self.old) dir name.now node) (tree self.old) (tree self.new) result }
+        ensures leaves { Leaves (placed (tree self.old) dir name.now node)
+            (tree self.old) (tree self.new) result }
         ensures fault { result ≢ Err HostError.Fault }
         ensures rest { KeepsRest self.old self.new }
     {
@@ -66,7 +70,8 @@ impl TreeHost {
     ) -> Result<u64, HostError>
         requires named { name_fault name.now ≡ None }
         requires mode { mode < 4096 }
-        ensures leaves { Leaves (add_directory_of (birth self.old) (tree self.old) dir name.now mode uid gid) (tree self.old) (tree self.new) result }
+        ensures leaves { Leaves (add_directory_of (birth self.old) (tree self.old) dir name.now
+            mode uid gid) (tree self.old) (tree self.new) result }
         ensures fault { result ≢ Err HostError.Fault }
         ensures rest { KeepsRest self.old self.new }
     {
@@ -85,7 +90,8 @@ impl TreeHost {
     ) -> Result<u64, HostError>
         requires named { name_fault name.now ≡ None }
         requires mode { mode < 4096 }
-        ensures leaves { Leaves (add_file_of (birth self.old) (tree self.old) dir name.now (new_file mode uid gid bytes.now)) (tree self.old) (tree self.new) result }
+        ensures leaves { Leaves (add_file_of (birth self.old) (tree self.old) dir name.now
+            (new_file mode uid gid bytes.now)) (tree self.old) (tree self.new) result }
         ensures fault { result ≢ Err HostError.Fault }
         ensures rest { KeepsRest self.old self.new }
     {
@@ -111,7 +117,8 @@ impl TreeHost {
     ) -> Result<u64, HostError>
         requires named { name_fault name.now ≡ None }
         requires target { IsGoodTarget target.now }
-        ensures leaves { Leaves (add_link_of (birth self.old) (tree self.old) dir name.now uid gid target.now) (tree self.old) (tree self.new) result }
+        ensures leaves { Leaves (add_link_of (birth self.old) (tree self.old) dir name.now uid gid
+            target.now) (tree self.old) (tree self.new) result }
         ensures fault { result ≢ Err HostError.Fault }
         ensures rest { KeepsRest self.old self.new }
     {
@@ -123,14 +130,17 @@ impl TreeHost {
 
     // The first refusal of one more name of a record.
     pub(super) fn name_refusal(&self, dir: u64, name: &[u8], ino: u64) -> Option<u32>
-        ensures { result ≡ link_refused (is_linked (tree self.now).records dir) (tree self.now).limits name.now (body_at (tree self.now).records dir) (map.get (tree self.now).records ino) }
+        ensures { result ≡ link_refused (is_linked (tree self.now).records dir)
+            (tree self.now).limits name.now (body_at (tree self.now).records dir)
+            (map.get (tree self.now).records ino) }
     {
         link_refusal(&self.nodes, dir, name, ino, self.limits)
     }
 
     pub(super) fn add_hard(&mut self, dir: u64, name: &[u8], ino: u64) -> Result<u64, HostError>
         requires named { name_fault name.now ≡ None }
-        ensures leaves { Leaves (add_hard_of (tree self.old) dir name.now ino) (tree self.old) (tree self.new) result }
+        ensures leaves { Leaves (add_hard_of (tree self.old) dir name.now ino)
+            (tree self.old) (tree self.new) result }
         ensures fault { result ≢ Err HostError.Fault }
         ensures rest { KeepsRest self.old self.new }
     {

@@ -10,15 +10,16 @@ impl TreeHost {
     ghost use Rattle.tree_model.specs.Creating.{create_of, mkdir_of, link_of};
     ghost use Rattle.tree_host.specs.Holds.{held_more};
     ghost use Rattle.tree_host.specs.Host.{Leaves};
-    ghost use Rattle.tree_host.specs.TreeHosts.{tree, holds, KeepsPlan, KeepsRest};
+    ghost use Rattle.tree_host.specs.TreeHosts.{tree, holds, KeepsCalls, KeepsRest};
 
     pub(super) fn create_file(&mut self, dir: u64, name: &[u8], mode: u32) -> Result<u64, HostError>
         requires { name_fault name.now ≡ None }
-        ensures leaves { Leaves (create_of (tree self.old) dir name.now mode) (tree self.old) (tree self.new) result }
+        ensures leaves { Leaves (create_of (tree self.old) dir name.now mode)
+            (tree self.old) (tree self.new) result }
         ensures fault { result ≢ Err HostError.Fault }
         ensures held { IfOk result (λ ino. holds self.new ≡ held_more (holds self.old) ino) }
         ensures refused { OnErr result (holds self.new ≡ holds self.old) }
-        ensures rest { KeepsPlan self.old self.new }
+        ensures rest { KeepsCalls self.old self.new }
     {
         if let Some(errno) = self.create_refusal(dir, name) {
             return Err(HostError::Errno(errno));
@@ -50,7 +51,8 @@ impl TreeHost {
         mode: u32,
     ) -> Result<Attr, HostError>
         requires { name_fault name.now ≡ None }
-        ensures leaves { Leaves (mkdir_of (tree self.old) dir name.now mode) (tree self.old) (tree self.new) result }
+        ensures leaves { Leaves (mkdir_of (tree self.old) dir name.now mode)
+            (tree self.old) (tree self.new) result }
         ensures fault { result ≢ Err HostError.Fault }
         ensures rest { KeepsRest self.old self.new }
     {
@@ -79,7 +81,8 @@ impl TreeHost {
 
     pub(super) fn link_name(&mut self, ino: u64, dir: u64, name: &[u8]) -> Result<(), HostError>
         requires { name_fault name.now ≡ None }
-        ensures leaves { Leaves (link_of (tree self.old) ino dir name.now) (tree self.old) (tree self.new) result }
+        ensures leaves { Leaves (link_of (tree self.old) ino dir name.now)
+            (tree self.old) (tree self.new) result }
         ensures fault { result ≢ Err HostError.Fault }
         ensures rest { KeepsRest self.old self.new }
     {

@@ -10,7 +10,8 @@ use crate::nodes::find;
 use tree_model::Attr;
 
 fn peek(node: &Node, cookie: u64) -> Option<(u64, u64, &[u8])>
-    ensures { option_map entry_from result ≡ option_and_then (entry_above cookie) (entries_of node.now.body) }
+    ensures { option_map entry_from result ≡ option_and_then (entry_above cookie)
+        (entries_of node.now.body) }
 {
     match node.entry_above(cookie) {
         Some(entry) => Some((entry.cookie(), entry.ino(), entry.name())),
@@ -65,7 +66,8 @@ impl TreeHost {
         }
     }
 
-    /// The first entry of a directory above a cookie: its cookie, the inode that it names, and its name.
+    /// The first entry of a directory above a cookie: its cookie, the inode that it names, and its
+    /// name.
     pub fn peek_entry(&self, dir: u64, cookie: u64) -> Option<(u64, u64, &[u8])>
         requires { IsTrue (is_directory_at (body_at (tree self.now).records dir)) }
         ensures { option_map entry_from result ≡ peek_entry_of (tree self.now) dir cookie }
@@ -76,11 +78,14 @@ impl TreeHost {
         }
     }
 
-    /// Copies the bytes of a file from an offset on, as many as there are and fit, and returns how many.
+    /// Copies the bytes of a file from an offset on, as many as there are and fit, and returns how
+    /// many.
     pub fn peek_bytes(&self, ino: u64, offset: u64, buf: &mut [u8]) -> usize
         requires { IsTrue (is_file_at (body_at (tree self.now).records ino)) }
-        ensures count { result ≡ length (part (bytes_at (tree self.now) ino) offset (length buf.old)) }
-        ensures bytes { buf.new ≡ part (bytes_at (tree self.now) ino) offset (length buf.old) ++ drop result buf.old }
+        ensures count { result ≡ length (part (bytes_at (tree self.now) ino) offset
+            (length buf.old)) }
+        ensures bytes { buf.new ≡ part (bytes_at (tree self.now) ino) offset (length buf.old) ++
+            drop result buf.old }
     {
         match self.nodes.get(ino) {
             Some(node) => node.read(offset, buf),
@@ -99,8 +104,8 @@ impl TreeHost {
         }
     }
 
-    /// The inode at the end of a path from the top by exact names, whatever its kind; empty parts between
-    /// slashes lead nowhere else.
+    /// The inode at the end of a path from the top by exact names, whatever its kind; empty parts
+    /// between slashes lead nowhere else.
     pub fn find(&self, path: &[u8]) -> Option<u64>
         ensures { result ≡ found_at (tree self.now) (path_names path.now) }
     {

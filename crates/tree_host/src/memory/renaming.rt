@@ -23,7 +23,7 @@ impl TreeHost {
     ghost use Rattle.port_base.specs.Names.{name_fault};
     ghost use Rattle.tree_model.specs.Tree.{body_at, is_directory_at, is_linked, keep};
     ghost use Rattle.tree_model.specs.Finding.{lookup_of};
-    ghost use Rattle.tree_model.specs.Opening.{if_told};
+    ghost use Rattle.std.specs.Result.{result_ok};
     ghost use Rattle.tree_model.specs.Renaming.{move_refused, with_moved, without_replaced, move_to, rename_of};
     ghost use Rattle.tree_host.specs.Holds.{is_held};
     ghost use Rattle.tree_host.specs.Host.{Leaves};
@@ -41,13 +41,16 @@ impl TreeHost {
     ) -> Result<(), HostError>
         requires named { name_fault newname.now ≡ None }
         requires old { lookup_of (tree self.old) olddir oldname.now ≡ Ok ino }
-        requires new { there ≡ if_told (lookup_of (tree self.old) newdir newname.now) }
+        requires new { there ≡ result_ok (lookup_of (tree self.old) newdir newname.now) }
         requires directory { is_directory_at (body_at (tree self.old).records newdir) ≡ true }
         requires live { is_linked (tree self.old).records newdir ≡ true }
         requires other { same_ino ino there ≡ false }
         requires free { move_refused (tree self.old) olddir newdir ino there ≡ None }
-        ensures ok { OnOk result (tree self.new ≡ keep (is_held (holds self.old)) (with_moved (without_replaced (tree self.old) newdir newname.now there) olddir oldname.now newdir newname.now ino)) }
-        ensures err { IfErr result (λ e. (e ≡ HostError.NoMemory) × (tree self.new ≡ tree self.old)) }
+        ensures ok { OnOk result (tree self.new ≡ keep (is_held (holds self.old))
+            (with_moved (without_replaced (tree self.old) newdir newname.now there) olddir
+            oldname.now newdir newname.now ino)) }
+        ensures err { IfErr result (λ e. (e ≡ HostError.NoMemory) ×
+            (tree self.new ≡ tree self.old)) }
         ensures rest { KeepsRest self.old self.new }
     {
         match move_entry(
@@ -83,7 +86,10 @@ impl TreeHost {
         requires old { lookup_of (tree self.old) olddir oldname.now ≡ Ok ino }
         requires directory { is_directory_at (body_at (tree self.old).records newdir) ≡ true }
         requires live { is_linked (tree self.old).records newdir ≡ true }
-        ensures leaves { Leaves (move_to (is_held (holds self.old)) (tree self.old) olddir oldname.now newdir newname.now ino (if_told (lookup_of (tree self.old) newdir newname.now))) (tree self.old) (tree self.new) result }
+        ensures leaves { Leaves (move_to (is_held (holds self.old)) (tree self.old) olddir
+            oldname.now newdir newname.now ino
+            (result_ok (lookup_of (tree self.old) newdir newname.now))) (tree self.old)
+            (tree self.new) result }
         ensures fault { result ≢ Err HostError.Fault }
         ensures rest { KeepsRest self.old self.new }
     {
@@ -121,7 +127,8 @@ impl TreeHost {
         newname: &[u8],
     ) -> Result<(), HostError>
         requires { name_fault newname.now ≡ None }
-        ensures leaves { Leaves (rename_of (is_held (holds self.old)) (tree self.old) olddir oldname.now newdir newname.now) (tree self.old) (tree self.new) result }
+        ensures leaves { Leaves (rename_of (is_held (holds self.old)) (tree self.old) olddir
+            oldname.now newdir newname.now) (tree self.old) (tree self.new) result }
         ensures fault { result ≢ Err HostError.Fault }
         ensures rest { KeepsRest self.old self.new }
     {

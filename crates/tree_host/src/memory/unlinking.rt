@@ -14,7 +14,8 @@ impl TreeHost {
     pub(super) fn remove(&mut self, dir: u64, name: &[u8], ino: u64)
         requires found { lookup_of (tree self.old) dir name.now ≡ Ok ino }
         requires empty { is_empty_at (body_at (tree self.old).records ino) ≡ true }
-        ensures tree { tree self.new ≡ keep (is_held (holds self.old)) (without_entry (tree self.old) dir name.now ino) }
+        ensures tree { tree self.new ≡ keep (is_held (holds self.old))
+            (without_entry (tree self.old) dir name.now ino) }
         ensures rest { KeepsRest self.old self.new }
     {
         remove_entry(&mut self.nodes, dir, name, ino, self.moment);

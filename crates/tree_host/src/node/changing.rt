@@ -41,7 +41,8 @@ pub fn fitting(new: &[u8], offset: u64, limit: u64) -> &[u8]
 
 // Fills up to a length with zeros. What is as long stays, and without memory nothing changes.
 fn lengthen(bytes: &mut Vec<u8>, len: usize) -> Result<(), AllocError>
-    ensures ok { OnOk result (bytes.new.items ≡ bytes.old.items ++ replicate (len - length bytes.old.items) 0) }
+    ensures ok { OnOk result (bytes.new.items ≡ bytes.old.items ++ replicate
+        (len - length bytes.old.items) 0) }
     ensures err { OnErr result (bytes.new.items ≡ bytes.old.items) }
 {
     if len <= bytes.len() {
@@ -52,7 +53,8 @@ fn lengthen(bytes: &mut Vec<u8>, len: usize) -> Result<(), AllocError>
 
 fn put_at(bytes: &mut [u8], offset: usize, new: &[u8])
     requires { offset + length new.now ≤ length bytes.old }
-    ensures { bytes.new ≡ take offset bytes.old ++ new.now ++ drop (offset + length new.now) bytes.old }
+    ensures { bytes.new ≡ take offset bytes.old ++ new.now ++ drop (offset + length new.now)
+        bytes.old }
 {
     let end = offset + new.len();
     bytes[offset..end].copy_from_slice(new);
@@ -70,7 +72,8 @@ fn write_over(bytes: &mut Vec<u8>, offset: usize, new: &[u8]) -> Result<(), Allo
 }
 
 impl Node {
-    // Why the bytes of a file can't change, where it is no file or `long` says that they would be too many.
+    // Why the bytes of a file can't change, where it is no file or `long` says that they would be
+    // too many.
     fn bytes_refusal(&self, long: bool) -> Option<u32>
         ensures { result ≡ refused_unless_file (if long then Some EFBIG else None) self.now.body }
     {
@@ -145,7 +148,8 @@ impl Node {
 
     /// Makes a change, where nothing refuses it.
     pub fn change(&mut self, change: Change, moment: Stamp, limit: u64) -> Result<(), HostError>
-        ensures made { Makes (change_refused change limit self.old.body) (changed_by change moment self.old) self.old self.new result }
+        ensures made { Makes (change_refused change limit self.old.body)
+            (changed_by change moment self.old) self.old self.new result }
         ensures small { IsTrue (is_small change) → result ≢ Err HostError.NoMemory }
     {
         if let Some(errno) = self.change_refusal(change, limit) {
@@ -182,7 +186,9 @@ impl Node {
         moment: Stamp,
         limit: u64,
     ) -> Result<(), HostError>
-        ensures { Makes (write_refused limit offset new.now self.old.body) (overwritten_at moment offset (fitting limit offset new.now) self.old) self.old self.new result }
+        ensures { Makes (write_refused limit offset new.now self.old.body)
+            (overwritten_at moment offset (fitting limit offset new.now) self.old) self.old
+            self.new result }
     {
         if let Some(errno) = self.bytes_refusal(!new.is_empty() && limit <= offset) {
             return Err(HostError::Errno(errno));

@@ -3,9 +3,10 @@ ghost use Rattle.std.specs.Prelude.{◌≡◌, ◌-◌, ◌^◌, ◌<◌, not, �
 ghost use Rattle.tree_model.specs.Making.{file_record, top_record};
 ghost use Rattle.tree_model.specs.Placing.{directory_record, link_record, link_refused, one_link_more};
 
-use super::{Node, Stored, TOP, find_name};
+use super::{Node, Stored, find_name};
 use port_base::errno::{EEXIST, EMLINK, ENOENT, ENOSPC, ENOTDIR, EPERM};
 use std::alloc::{AllocError, Global};
+use tree_model::attributes::TOP;
 use tree_model::{Limits, Stamp};
 
 impl Node {
@@ -45,7 +46,8 @@ impl Node {
         bytes: &[u8],
         born: Stamp,
     ) -> Result<Self, AllocError>
-        ensures { IfOk result (λ node. node ≡ file_record born (record { mode = mode; uid = uid; gid = gid; bytes = bytes.now })) }
+        ensures { IfOk result (λ node. node ≡ file_record born
+            (record { mode = mode; uid = uid; gid = gid; bytes = bytes.now })) }
     {
         let bytes = Vec::from_slice(alloc, bytes)?;
         Ok(Node {
@@ -85,7 +87,8 @@ impl Node {
 
     /// The first refusal of one more name of `node` in this directory.
     pub fn link_refusal(&self, name: &[u8], node: &Node, limits: Limits) -> Option<u32>
-        ensures { result ≡ link_refused (not (self.now.links == 0)) limits name.now (Some self.now.body) (Some node.now) }
+        ensures { result ≡ link_refused (not (self.now.links == 0)) limits name.now
+            (Some self.now.body) (Some node.now) }
     {
         let Stored::Names { entries, next, .. } = &self.body else {
             return Some(ENOTDIR);

@@ -2,7 +2,7 @@
 ghost use Rattle.std.specs.Prelude.{◌≡◌};
 ghost use Rattle.tree_model.specs.Attributing.{restamped};
 ghost use Rattle.tree_model.specs.Creating.{stamped, empty_file, empty_directory};
-ghost use Rattle.tree_model.specs.Renaming.{placed_below, settled, has_no_room};
+ghost use Rattle.tree_model.specs.Renaming.{placed_below, moved_below, has_no_room};
 
 use super::{Node, Stored};
 use std::alloc::Global;
@@ -27,7 +27,8 @@ impl Node {
         }
     }
 
-    /// A directory without entries below the directory `above`, of the owners 0 and 0, the mode modulo 4096.
+    /// A directory without entries below the directory `above`, of the owners 0 and 0, the mode
+    /// modulo 4096.
     pub fn empty_directory(alloc: Global, mode: u32, above: u64, moment: Stamp) -> Self
         ensures { result ≡ empty_directory moment mode above }
     {
@@ -51,7 +52,7 @@ impl Node {
 
     /// It was moved into the directory `dir`.
     pub fn settle(&mut self, moment: Stamp, dir: u64)
-        ensures { self.new ≡ settled moment dir self.old }
+        ensures { self.new ≡ moved_below moment dir self.old }
     {
         if let Stored::Names { above, .. } = &mut self.body {
             *above = dir;

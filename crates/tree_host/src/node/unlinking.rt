@@ -3,17 +3,17 @@ ghost use Rattle.std.specs.Prelude.{◌≡◌, ◌<◌, Some, IfSome, length};
 ghost use Rattle.tree_model.specs.Unlinking.{without, parted_by, links_left, one_name_less, is_empty_at};
 ghost use Rattle.tree_host.specs.Stored.{place_among};
 
-use super::{Name, Node, Stored};
+use super::{DirEntry, Node, Stored};
 use tree_model::Stamp;
 
-fn place_of(entries: &[Name], name: &[u8]) -> Option<usize>
+fn place_of(entries: &[DirEntry], name: &[u8]) -> Option<usize>
     ensures found { result ≡ place_among name.now entries.now }
     ensures bound { IfSome result (λ k. k < length entries.now) }
 {
     entries.iter().position(|e| e.is_named(name))
 }
 
-fn remove_name(entries: &mut Vec<Name>, name: &[u8])
+fn remove_name(entries: &mut Vec<DirEntry>, name: &[u8])
     ensures { entries.new.items ≡ without name.now entries.old.items }
 {
     match place_of(entries, name) {

@@ -35,7 +35,8 @@ fn touch(nodes: &mut Table<Node>, ino: u64, moment: Stamp)
     }
 }
 
-/// Adds a record with an entry for it, in a directory that is stamped. Without memory nothing changes.
+/// Adds a record with an entry for it, in a directory that is stamped. Without memory nothing
+/// changes.
 pub fn make_node(
     alloc: Global,
     nodes: &mut Table<Node>,
@@ -48,7 +49,8 @@ pub fn make_node(
     requires room { unwrap_or (option_map next_cookie (body_at nodes.old dir)) 0 < 2 ^ 64 - 1 }
     requires apart { dir ≢ ino }
     requires fresh { map.get nodes.old ino ≡ None }
-    ensures ok { OnOk result (nodes.new ≡ change (stamped moment) (change (joined_by name.now ino) (map.insert nodes.old ino node) dir) dir) }
+    ensures ok { OnOk result (nodes.new ≡ change (stamped moment)
+        (change (joined_by name.now ino) (map.insert nodes.old ino node) dir) dir) }
     ensures err { OnErr result (nodes.new ≡ nodes.old) }
 {
     add_node(alloc, nodes, dir, name, ino, node)?;
@@ -71,7 +73,8 @@ pub fn create_node(
     requires apart { dir ≢ ino }
     requires fresh { map.get nodes.old ino ≡ None }
     requires unheld { map.get holds.old ino ≡ None }
-    ensures ok { OnOk result (nodes.new ≡ change (stamped moment) (change (joined_by name.now ino) (map.insert nodes.old ino node) dir) dir) }
+    ensures ok { OnOk result (nodes.new ≡ change (stamped moment)
+        (change (joined_by name.now ino) (map.insert nodes.old ino node) dir) dir) }
     ensures err { OnErr result (nodes.new ≡ nodes.old) }
     ensures held { OnOk result (holds.new ≡ held_more holds.old ino) }
     ensures let_go { OnErr result (holds.new ≡ holds.old) }
@@ -86,7 +89,8 @@ pub fn create_node(
     }
 }
 
-/// Adds an entry for a record that is there, which is stamped as its directory is. Without memory nothing changes.
+/// Adds an entry for a record that is there, which is stamped as its directory is. Without memory
+/// nothing changes.
 pub fn link_node(
     alloc: Global,
     nodes: &mut Table<Node>,
@@ -98,7 +102,9 @@ pub fn link_node(
     requires room { unwrap_or (option_map next_cookie (body_at nodes.old dir)) 0 < 2 ^ 64 - 1 }
     requires apart { dir ≢ ino }
     requires few { unwrap_or (option_map links (map.get nodes.old ino)) 0 < 2 ^ 64 - 1 }
-    ensures ok { OnOk result (nodes.new ≡ change (stamped moment) (change (restamped moment) (change (joined_by name.now ino) (change one_link_more nodes.old ino) dir) ino) dir) }
+    ensures ok { OnOk result (nodes.new ≡ change (stamped moment)
+        (change (restamped moment) (change (joined_by name.now ino)
+        (change one_link_more nodes.old ino) dir) ino) dir) }
     ensures err { OnErr result (nodes.new ≡ nodes.old) }
 {
     add_name(alloc, nodes, dir, name, ino)?;

@@ -4,20 +4,21 @@ ghost use Rattle.tree_model.specs.declared.attributes.Stamp.{Stamp};
 ghost use Rattle.tree_model.specs.Tree.{body_at, is_directory_at};
 ghost use Rattle.tree_model.specs.Finding.{entries_at, ino_among};
 ghost use Rattle.tree_model.specs.Making.{change, joined_by, next_cookie};
-ghost use Rattle.tree_model.specs.Opening.{if_told};
+ghost use Rattle.std.specs.Result.{result_ok};
 ghost use Rattle.tree_model.specs.Creating.{stamped};
 ghost use Rattle.tree_model.specs.Unlinking.{parted_by};
-ghost use Rattle.tree_model.specs.Renaming.{above_at, climbs_past, place_refused, replace_refused, room_refused, move_refused, settled};
+ghost use Rattle.tree_model.specs.Renaming.{above_at, climbs_past, place_refused, replace_refused, room_refused, move_refused, moved_below};
 ghost use Rattle.tree_host.specs.Holds.{is_held};
 ghost use Rattle.tree_host.specs.Kept.{tree_from, replaced_in, swept_of};
 
 use super::creating::stamp;
 use super::unlinking::{is_empty, part_from, remove_entry};
 use super::{find_in, is_directory, push_into, sweep};
-use crate::node::{Node, TOP};
+use crate::node::Node;
 use port_base::errno::{EINVAL, EISDIR, ENOSPC, ENOTDIR, ENOTEMPTY};
 use port_base::table::Table;
 use std::alloc::{AllocError, Global};
+use tree_model::attributes::TOP;
 use tree_model::{Limits, Stamp};
 
 fn above_at(nodes: &Table<Node>, ino: u64) -> u64
@@ -29,7 +30,8 @@ fn above_at(nodes: &Table<Node>, ino: u64) -> u64
     }
 }
 
-// Whether a climb from a directory comes to the top in fewer steps than given, and never to an inode.
+// Whether a climb from a directory comes to the top in fewer steps than given, and never to an
+// inode.
 fn climbs_past(nodes: &Table<Node>, ino: u64, steps: u64, dir: u64) -> bool
     ensures { result ≡ climbs_past nodes.now ino steps dir }
 {
@@ -48,7 +50,8 @@ fn climbs_past(nodes: &Table<Node>, ino: u64, steps: u64, dir: u64) -> bool
 
 // Whether an inode is a directory, and the directory `dir` at or below it.
 fn is_at_or_below(nodes: &Table<Node>, ino: u64, steps: u64, dir: u64) -> bool
-    ensures { result ≡ is_directory_at (body_at nodes.now ino) && not (climbs_past nodes.now ino steps dir) }
+    ensures { result ≡ is_directory_at (body_at nodes.now ino) && not
+        (climbs_past nodes.now ino steps dir) }
 {
     let directory = is_directory(nodes, ino);
     directory && !climbs_past(nodes, ino, steps, dir)
@@ -99,7 +102,8 @@ pub fn move_refusal(
     steps: u64,
     limits: Limits,
 ) -> Option<u32>
-    ensures { (moment : Stamp) → result ≡ move_refused (tree_from nodes.now steps limits moment) olddir newdir ino there }
+    ensures { (moment : Stamp) → result ≡ move_refused (tree_from nodes.now steps limits moment)
+        olddir newdir ino there }
 {
     let below = is_at_or_below(nodes, ino, steps, newdir);
     if below {
@@ -114,7 +118,7 @@ pub fn move_refusal(
 
 /// The inode that a name of a directory names, if there is one.
 pub fn found(nodes: &Table<Node>, dir: u64, name: &[u8]) -> Option<u64>
-    ensures { result ≡ if_told (ino_among false name.now (entries_at nodes.now dir)) }
+    ensures { result ≡ result_ok (ino_among false name.now (entries_at nodes.now dir)) }
 {
     match find_in(nodes, dir, name) {
         Ok(ino) => Some(ino),
@@ -138,7 +142,7 @@ fn remove_replaced(
 }
 
 fn settle(nodes: &mut Table<Node>, ino: u64, moment: Stamp, dir: u64)
-    ensures { nodes.new ≡ change (settled moment dir) nodes.old ino }
+    ensures { nodes.new ≡ change (moved_below moment dir) nodes.old ino }
 {
     match nodes.get_mut(ino) {
         Some(node) => node.settle(moment, dir),
@@ -146,8 +150,8 @@ fn settle(nodes: &mut Table<Node>, ino: u64, moment: Stamp, dir: u64)
     }
 }
 
-/// Adds an entry of the new name, and takes away the one that it replaces and the old one. Without memory for it
-/// nothing changes.
+/// Adds an entry of the new name, and takes away the one that it replaces and the old one. Without
+/// memory for it nothing changes.
 pub fn move_entry(
     alloc: Global,
     nodes: &mut Table<Node>,
@@ -160,7 +164,10 @@ pub fn move_entry(
     moment: Stamp,
 ) -> Result<(), AllocError>
     requires room { unwrap_or (option_map next_cookie (body_at nodes.old newdir)) 0 < 2 ^ 64 - 1 }
-    ensures ok { OnOk result (nodes.new ≡ change (settled moment newdir) (change (stamped moment) (change (parted_by oldname.now moment) (replaced_in moment newdir newname.now there (change (joined_by newname.now ino) nodes.old newdir)) olddir) newdir) ino) }
+    ensures ok { OnOk result (nodes.new ≡ change (moved_below moment newdir)
+        (change (stamped moment) (change (parted_by oldname.now moment)
+        (replaced_in moment newdir newname.now there
+        (change (joined_by newname.now ino) nodes.old newdir)) olddir) newdir) ino) }
     ensures err { OnErr result (nodes.new ≡ nodes.old) }
 {
     push_into(alloc, nodes, newdir, newname, ino)?;

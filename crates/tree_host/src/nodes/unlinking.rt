@@ -14,7 +14,8 @@ use tree_model::{HostError, Stamp};
 
 /// The inode that a name of a directory names, where it is no directory.
 pub fn find_file(nodes: &Table<Node>, dir: u64, name: &[u8]) -> Result<u64, HostError>
-    ensures { result ≡ as_errno (unless_directory nodes.now (ino_among false name.now (entries_at nodes.now dir))) }
+    ensures { result ≡ as_errno (unless_directory nodes.now
+        (ino_among false name.now (entries_at nodes.now dir))) }
 {
     let ino = find_in(nodes, dir, name)?;
     let directory = is_directory(nodes, ino);
@@ -36,7 +37,8 @@ pub fn is_empty(nodes: &Table<Node>, ino: u64) -> bool
 
 /// The inode that a name of a directory names, where it is a directory without entries.
 pub fn find_empty(nodes: &Table<Node>, dir: u64, name: &[u8]) -> Result<u64, HostError>
-    ensures { result ≡ as_errno (if_empty nodes.now (ino_among false name.now (entries_at nodes.now dir))) }
+    ensures { result ≡ as_errno (if_empty nodes.now
+        (ino_among false name.now (entries_at nodes.now dir))) }
 {
     let ino = find_in(nodes, dir, name)?;
     let directory = is_directory(nodes, ino);
@@ -71,7 +73,8 @@ pub fn part_from(nodes: &mut Table<Node>, dir: u64, name: &[u8], moment: Stamp)
 
 /// Takes an entry away, and a name of the record that it names.
 pub fn remove_entry(nodes: &mut Table<Node>, dir: u64, name: &[u8], ino: u64, moment: Stamp)
-    ensures { nodes.new ≡ change (parted_by name.now moment) (change (one_name_less moment) nodes.old ino) dir }
+    ensures { nodes.new ≡ change (parted_by name.now moment)
+        (change (one_name_less moment) nodes.old ino) dir }
 {
     name_less(nodes, ino, moment);
     part_from(nodes, dir, name, moment);

@@ -1,5 +1,5 @@
 -- The lemma on a record more.
-use Rattle.tree_model.specs.Placing.{create_refused}
+use Rattle.tree_model.specs.Making.{create_refused}
 use Rattle.tree_model.specs.Creating.{with_new, empty_file}
 use Rattle.tree_model.proofs.Creating.{made_good, new_file, with_new_good}
 use Rattle.tree_model.proofs.laws.trees_with_a_created_file_are_good.Goals as goal

@@ -1,6 +1,7 @@
 -- The lemma on added records.
 use Rattle.std.proofs.Common.{refl}
-use Rattle.tree_model.specs.Placing.{create_refused, directory_record}
+use Rattle.tree_model.specs.Making.{create_refused}
+use Rattle.tree_model.specs.Placing.{directory_record}
 use Rattle.tree_model.proofs.Placing.{placed_good, new_directory}
 use Rattle.tree_model.proofs.laws.trees_with_a_directory_are_good.Goals as goal
 

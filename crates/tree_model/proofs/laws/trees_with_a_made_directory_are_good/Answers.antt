@@ -1,6 +1,6 @@
 -- The lemma on a record more.
 use Rattle.tree_model.specs.Attributes.{attr_of}
-use Rattle.tree_model.specs.Placing.{create_refused}
+use Rattle.tree_model.specs.Making.{create_refused}
 use Rattle.tree_model.specs.Creating.{with_new, empty_directory}
 use Rattle.tree_model.proofs.Creating.{made_good, new_empty_directory, with_new_good}
 use Rattle.tree_model.proofs.laws.trees_with_a_made_directory_are_good.Goals as goal

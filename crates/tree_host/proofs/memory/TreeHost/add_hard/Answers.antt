@@ -19,5 +19,4 @@ invariant_of-self c =
       good = either_way c.add_name.result (λ (rs : Records). IsGoodTree (tree_from rs s.next s.limits s.moment)) c.add_name.new.nodes made s.nodes c.add_name.ensures.ok c.add_name.ensures.err (with_name_good t s.holds s.good s.stored c.args.dir c.args.name.now c.args.ino free made refl c.requires.named) s.good;
       stored = either_way c.add_name.result (λ (rs : Records). IsHeldIn (tree_from rs s.next s.limits s.moment) s.holds) c.add_name.new.nodes made s.nodes c.add_name.ensures.ok c.add_name.ensures.err (with_name_held t s.holds s.good s.stored c.args.dir c.args.name.now c.args.ino free made refl) s.stored;
       timed = s.timed;
-      quiet = s.quiet;
     }

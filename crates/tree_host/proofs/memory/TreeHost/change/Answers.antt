@@ -2,7 +2,6 @@
 use Rattle.tree_host.specs.Changing.{change_refused, changed_by}
 use Rattle.tree_host.specs.Kept.{tree_from}
 use Rattle.tree_host.proofs.Making.{change_amends, made_good, made_held}
-use Rattle.tree_host.proofs.Striking.{still_quiet}
 use Rattle.tree_host.proofs.memory.TreeHost.change.Goals as goal
 
 pub invariant_of-self-2 : goal.invariant_of-self-2
@@ -16,5 +15,4 @@ invariant_of-self-2 c =
       good = made_good t s.holds s.good s.stored c.args.ino refused f amends c.change_node.new.nodes c.change_node.result c.change_node.ensures.made;
       stored = made_held t s.holds s.good s.stored c.args.ino refused f amends c.change_node.new.nodes c.change_node.result c.change_node.ensures.made;
       timed = s.timed;
-      quiet = still_quiet s.steady s.script c.strikes.new.self s.quiet c.strikes.ensures.after;
     }

@@ -21,5 +21,4 @@ invariant_of-self c =
       good = with_new_it_good t s.holds s.good s.stored a.dir n free r new c.requires c.create_node.new.nodes made;
       stored = with_new_it_held t s.holds s.good s.stored a.dir n free r new c.requires c.create_node.new.nodes made c.create_node.new.holds c.in-Ok.ensures.held;
       timed = s.timed;
-      quiet = s.quiet;
     }

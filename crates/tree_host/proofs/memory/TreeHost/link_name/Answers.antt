@@ -22,5 +22,4 @@ invariant_of-self c =
       good = either_way c.link_node.result (λ (rs : Records). IsGoodTree (tree_from rs s.next s.limits s.moment)) c.link_node.new.nodes made s.nodes e.ok e.err (with_name_it_good t s.holds s.good s.stored a.dir n a.ino free c.requires) s.good;
       stored = either_way c.link_node.result (λ (rs : Records). IsHeldIn (tree_from rs s.next s.limits s.moment) s.holds) c.link_node.new.nodes made s.nodes e.ok e.err (with_name_it_held t s.holds s.good s.stored a.dir n a.ino free c.requires) s.stored;
       timed = s.timed;
-      quiet = s.quiet;
     }

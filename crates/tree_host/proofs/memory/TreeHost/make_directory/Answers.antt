@@ -21,5 +21,4 @@ invariant_of-self c =
       good = with_new_it_good t s.holds s.good s.stored a.dir n free r new c.requires c.make_node.new.nodes made;
       stored = with_new_it_same t s.holds s.good s.stored a.dir n free r new c.requires c.make_node.new.nodes made;
       timed = s.timed;
-      quiet = s.quiet;
     }

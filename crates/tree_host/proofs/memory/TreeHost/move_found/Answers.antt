@@ -1,7 +1,7 @@
 -- What refuses the move, or what it leaves.
 use Rattle.std.proofs.Common.{refl, sym, ◌∙◌}
 use Rattle.tree_model.specs.Finding.{lookup_of}
-use Rattle.tree_model.specs.Opening.{if_told}
+use Rattle.std.specs.Result.{result_ok}
 use Rattle.tree_host.specs.Holds.{is_held}
 use Rattle.tree_host.specs.Kept.{tree_from}
 use Rattle.tree_host.proofs.Moving.{told_refused, told_moved}
@@ -14,7 +14,7 @@ returns-in-Some-clause-leaves c =
     let t = tree_from s.nodes s.next s.limits s.moment in
     record {
       exactly = (
-        told_refused (is_held s.holds) t a.olddir a.oldname.now a.newdir a.newname.now a.ino c.found-there.result (if_told (lookup_of t a.newdir a.newname.now)) c.found-there.ensures (sym c.is_same.ensures ∙ c.if-is_same.false) c.in-Some.errno
+        told_refused (is_held s.holds) t a.olddir a.oldname.now a.newdir a.newname.now a.ino c.found-there.result (result_ok (lookup_of t a.newdir a.newname.now)) c.found-there.ensures (sym c.is_same.ensures ∙ c.if-is_same.false) c.in-Some.errno
             (sym (c.move_refusal-refusal.ensures s.moment) ∙ c.in-Some.is),
         refl,
       );
@@ -28,5 +28,5 @@ returns-clause-leaves c =
     let a = c.args in
     let s = a.self.now in
     let t = tree_from s.nodes s.next s.limits s.moment in
-    told_moved (is_held s.holds) t a.olddir a.oldname.now a.newdir a.newname.now a.ino c.found-there.result (if_told (lookup_of t a.newdir a.newname.now)) c.found-there.ensures (sym c.is_same.ensures ∙ c.if-is_same.false)
+    told_moved (is_held s.holds) t a.olddir a.oldname.now a.newdir a.newname.now a.ino c.found-there.result (result_ok (lookup_of t a.newdir a.newname.now)) c.found-there.ensures (sym c.is_same.ensures ∙ c.if-is_same.false)
     (sym (c.move_refusal-refusal.ensures s.moment) ∙ c.in_default.is) _ c.move_free.result c.move_free.ensures.ok c.move_free.ensures.err

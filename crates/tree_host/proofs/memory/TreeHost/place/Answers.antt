@@ -11,5 +11,4 @@ invariant_of-self c =
       good = with_it_good t s.holds s.good s.stored c.args.dir c.args.name.now c.requires.free c.args.node c.requires.new c.add_node.new.nodes c.in-Ok.ensures.ok c.requires.named;
       stored = with_it_held t s.holds s.good s.stored c.args.dir c.args.name.now c.requires.free c.args.node c.requires.new c.add_node.new.nodes c.in-Ok.ensures.ok;
       timed = s.timed;
-      quiet = s.quiet;
     }

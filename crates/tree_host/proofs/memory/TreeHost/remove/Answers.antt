@@ -17,7 +17,6 @@ invariant_of-self c =
       good = gone_good t s.holds s.good s.stored a.dir a.name.now a.ino c.requires.found c.requires.empty c.sweep.new.nodes made;
       stored = gone_held t s.holds s.good s.stored a.dir a.name.now a.ino c.requires.found c.requires.empty c.sweep.new.nodes made;
       timed = s.timed;
-      quiet = s.quiet;
     }
 
 pub returns-clause-tree : goal.returns-clause-tree

@@ -3,7 +3,6 @@ use Rattle.tree_model.specs.Attributing.{write_refused, overwritten_at, fitting}
 use Rattle.tree_model.proofs.Rewriting.{overwritten_good}
 use Rattle.tree_host.specs.Kept.{tree_from}
 use Rattle.tree_host.proofs.Making.{made_good, made_held}
-use Rattle.tree_host.proofs.Striking.{still_quiet}
 use Rattle.tree_host.proofs.memory.TreeHost.write.Goals as goal
 
 pub invariant_of-self-2 : goal.invariant_of-self-2
@@ -18,5 +17,4 @@ invariant_of-self-2 c =
       good = made_good t s.holds s.good s.stored a.ino refused f amends c.write_node.new.nodes c.write_node.result c.write_node.ensures;
       stored = made_held t s.holds s.good s.stored a.ino refused f amends c.write_node.new.nodes c.write_node.result c.write_node.ensures;
       timed = s.timed;
-      quiet = still_quiet s.steady s.script c.strikes.new.self s.quiet c.strikes.ensures.after;
     }

@@ -5,7 +5,6 @@ use Rattle.tree_model.proofs.Naming.{found_is_named, named_is_stored}
 use Rattle.tree_host.specs.Kept.{tree_from}
 use Rattle.tree_host.proofs.Held.{either_held}
 use Rattle.tree_host.proofs.Results.{told_ok}
-use Rattle.tree_host.proofs.Striking.{still_quiet}
 use Rattle.tree_host.proofs.memory.TreeHostHost.lookup.Goals as goal
 
 pub invariant_of-self-2 : goal.invariant_of-self-2
@@ -18,5 +17,4 @@ invariant_of-self-2 c =
       good = s.good;
       stored = either_held t s.holds c.hold.new.holds i s.stored (named_is_stored t s.good i named) c.hold.result c.hold.ensures.ok c.hold.ensures.err;
       timed = s.timed;
-      quiet = still_quiet s.steady s.script c.strikes.new.self s.quiet c.strikes.ensures.after;
     }

@@ -18,7 +18,6 @@ invariant_of-self c =
       good = subst (λ (rs : Records). IsGoodTree (tree_from rs s.next s.limits s.moment)) (sym left) (keep_good t s.good (is_held c.lower.new.holds));
       stored = subst (λ (rs : Records). IsHeldIn (tree_from rs s.next s.limits s.moment) c.lower.new.holds) (sym left) (less_held t s.holds c.lower.new.holds c.args.ino s.good s.stored c.requires c.lower.ensures);
       timed = s.timed;
-      quiet = s.quiet;
     }
 
 pub returns-clause-tree : goal.returns-clause-tree

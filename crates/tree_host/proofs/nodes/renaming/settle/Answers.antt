@@ -2,7 +2,7 @@
 use Rattle.std.proofs.Common.{◌≡◌, ap, ◌∙◌, subst, OnSome}
 use Rattle.std.specs.FinMap as map
 use Rattle.tree_model.specs.Making.{changed}
-use Rattle.tree_model.specs.Renaming.{settled}
+use Rattle.tree_model.specs.Renaming.{moved_below}
 use Rattle.tree_host.proofs.nodes.renaming.settle.Goals as goal
 
 pub returns-in-Some : goal.returns-in-Some
@@ -12,4 +12,4 @@ returns-in-Some c =
     let w = c.settle.new.self in
     subst (λ o. OnSome o (c.get_mut.follows.lender w ≡ map.insert rs i w)) c.in-Some.is (c.get_mut.follows.holds w)
     ∙ ap (λ r. map.insert rs i r) c.settle.ensures
-    ∙ ap (λ o. changed (settled c.args.moment c.args.dir) o rs i) c.in-Some.ensures.value
+    ∙ ap (λ o. changed (moved_below c.args.moment c.args.dir) o rs i) c.in-Some.ensures.value

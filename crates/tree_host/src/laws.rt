@@ -1,1 +1,0 @@
-//! Laws on hosts. There are none yet beyond those of the trait.
