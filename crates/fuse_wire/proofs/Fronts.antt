@@ -1,5 +1,6 @@
 -- What stands at the front of bytes.
-use Rattle.std.proofs.Common.{◌≡◌, ℕ, ◌≤◌, ◌<◌, true, false, List, ◌++◌, length, ap, ◌∙◌, arith, eq-eqb, ne_eqb, le-ltb, lt-ltb, length-append, drop_at, refl}
+use Rattle.std.proofs.Common.{◌≡◌, ℕ, ◌≤◌, ◌<◌, true, false, List, ◌++◌, length, ap, ◌∙◌, arith}
+use Rattle.std.proofs.Common.{eq-eqb, ne_eqb, le-ltb, lt-ltb, length-append, drop_at, refl}
 use Rattle.std.proofs.lemmas.Bool.Decides.{nat_tests}
 use Rattle.std.proofs.lemmas.List.{take-append-le}
 use Rattle.std.specs.Int.{w32, from_le_bytes}
@@ -19,18 +20,24 @@ front-nil bytes none = rw (eq-eqb (length bytes) 0 none) refl
 
 pub front-few : (bytes : List ℕ) → 0 < length bytes → length bytes < 4 → front bytes ≡ part
 unfolding front
-front-few bytes some few = rw (ne_eqb (length bytes) 0 (omega arith), lt-ltb (length bytes) 4 few) refl
+front-few bytes some few = rw (ne_eqb (length bytes) 0 (omega arith), lt-ltb (length bytes) 4 few)
+    refl
 
 -- from four bytes on, the length that they tell decides
-front-told : (bytes : List ℕ) → 4 ≤ length bytes → front bytes ≡ front_of_length bytes (u32_at bytes 0)
+front-told : (bytes : List ℕ) → 4 ≤ length bytes → front bytes
+    ≡ front_of_length bytes (u32_at bytes 0)
 unfolding front
-front-told bytes long = rw (ne_eqb (length bytes) 0 (omega arith), le-ltb (length bytes) 4 long) refl
+front-told bytes long = rw (ne_eqb (length bytes) 0 (omega arith), le-ltb (length bytes) 4 long)
+    refl
 
-pub front-odd_length : (bytes : List ℕ) → 4 ≤ length bytes → is_allowed (u32_at bytes 0) ≡ false → front bytes ≡ odd_length
+pub front-odd_length : (bytes : List ℕ) → 4 ≤ length bytes → is_allowed (u32_at bytes 0) ≡ false
+    → front bytes ≡ odd_length
 front-odd_length bytes long odd = front-told bytes long ∙ (rw odd refl)
 
-pub front-part : (bytes : List ℕ) → 4 ≤ length bytes → is_allowed (u32_at bytes 0) ≡ true → length bytes < u32_at bytes 0 → front bytes ≡ part
-front-part bytes long allowed few = front-told bytes long ∙ (rw (allowed, lt-ltb (length bytes) (u32_at bytes 0) few) refl)
+pub front-part : (bytes : List ℕ) → 4 ≤ length bytes → is_allowed (u32_at bytes 0) ≡ true
+    → length bytes < u32_at bytes 0 → front bytes ≡ part
+front-part bytes long allowed few = front-told bytes long
+    ∙ (rw (allowed, lt-ltb (length bytes) (u32_at bytes 0) few) refl)
 
 pub is_allowed-range : (len : ℕ) → is_allowed len ≡ true → (40 ≤ len) × (len ≤ 69632)
 unfolding is_allowed
@@ -39,7 +46,15 @@ is_allowed-range len h = (grind (arith, nat_tests), grind (arith, nat_tests))
 pub front-whole : (frame rest : List ℕ) → IsFrame frame → front (frame ++ rest) ≡ whole frame rest
 front-whole frame rest h =
     let long : 40 ≤ length frame = (is_allowed-range (length frame) h.allowed).0 in
-    let len : u32_at (frame ++ rest) 0 ≡ length frame = u32_at-append frame rest (omega arith) ∙ h.tells in
+    let len : u32_at (frame ++ rest) 0 ≡ length frame = u32_at-append frame rest (omega arith)
+    ∙ h.tells in
     front-told (frame ++ rest) (omega (arith, length-append frame rest))
     ∙ ap (front_of_length (frame ++ rest)) len
-    ∙ (rw (h.allowed, le-ltb (length (frame ++ rest)) (length frame) (omega (arith, length-append frame rest)), take-append_seam frame rest, drop_at frame rest (length frame) refl) refl)
+    ∙ (rw (
+      h.allowed,
+      le-ltb (length (frame ++ rest)) (length frame)
+          (omega (arith, length-append frame rest)),
+      take-append_seam frame rest,
+      drop_at frame rest
+          (length frame) refl,
+    ) refl)

@@ -1,9 +1,13 @@
 -- Worked examples: requests, replies and cuts, byte for byte.
 use Rattle.std.proofs.Common.{◌≡◌, [], ◌∷◌, ◌++◌, replicate, Some, None, Ok, Err, codes, refl}
 use Rattle.fuse_wire.specs.Fields.{u32_at, u64_at}
-use Rattle.fuse_wire.specs.Request.{request_of, request_in, name_at, only_name, init_of, lookup_of, getattr_of, open_of, read_of, handle_of, forget_of, batch_forget_of}
-use Rattle.fuse_wire.specs.Request.Request.{init, lookup, getattr, open_file, read, flush, release, forget, batch_forget}
-use Rattle.fuse_wire.specs.Reply.{u32s, u64s, reply, reply_head, attr_bytes, entry_body, attr_body, init_body, opened_body}
+use Rattle.fuse_wire.specs.Request.{request_of, request_in, name_at, only_name, init_of, lookup_of}
+use Rattle.fuse_wire.specs.Request.{getattr_of, open_of, read_of, handle_of, forget_of}
+use Rattle.fuse_wire.specs.Request.{batch_forget_of}
+use Rattle.fuse_wire.specs.Request.Request.{init, lookup, getattr, open_file, read, flush, release}
+use Rattle.fuse_wire.specs.Request.Request.{forget, batch_forget}
+use Rattle.fuse_wire.specs.Reply.{u32s, u64s, reply, reply_head, attr_bytes, entry_body, attr_body}
+use Rattle.fuse_wire.specs.Reply.{init_body, opened_body}
 use Rattle.fuse_wire.specs.Samples.{file, framed, least, init_bytes, entry_bytes, attr_reply}
 use Rattle.fuse_wire.specs.Cuts.{cut, front, is_allowed}
 use Rattle.fuse_wire.specs.Cuts.End.{done, turns_spent, torn, bad_length}
@@ -23,13 +27,15 @@ unfolding reply reply_head attr_body attr_bytes u32s u64s
 shown = refl
 
 -- ENOENT is told as its negative in 32 bits
-pub refused : reply 7 2 [] ≡ 16 ∷ 0 ∷ 0 ∷ 0 ∷ 254 ∷ 255 ∷ 255 ∷ 255 ∷ 7 ∷ 0 ∷ 0 ∷ 0 ∷ 0 ∷ 0 ∷ 0 ∷ 0 ∷ []
+pub refused : reply 7 2 [] ≡ 16 ∷ 0 ∷ 0 ∷ 0 ∷ 254 ∷ 255 ∷ 255 ∷ 255 ∷ 7 ∷ 0 ∷ 0 ∷ 0 ∷ 0 ∷ 0 ∷ 0 ∷ 0
+    ∷ []
 unfolding reply reply_head u32s u64s
 refused = refl
 
 -- ---- requests
 
-pub asks_init : request_of (framed 26 (u32s (7 ∷ 31 ∷ 131072 ∷ 3 ∷ []) ++ replicate 48 0)) ≡ Ok (init 7 31 131072 3)
+pub asks_init : request_of (framed 26 (u32s (7 ∷ 31 ∷ 131072 ∷ 3 ∷ []) ++ replicate 48 0))
+    ≡ Ok (init 7 31 131072 3)
 unfolding framed request_of request_in init_of u32_at u64_at u32s u64s
 asks_init = refl
 
@@ -45,7 +51,8 @@ pub asks_getattr : request_of (framed 3 (replicate 8 0 ++ u64s (5 ∷ []))) ≡ 
 unfolding framed request_of request_in getattr_of u32_at u64_at u32s u64s
 asks_getattr = refl
 
-pub asks_getattr_of_handle : request_of (framed 3 (u32s (1 ∷ 0 ∷ []) ++ u64s (5 ∷ []))) ≡ Ok (getattr (Some 5))
+pub asks_getattr_of_handle : request_of (framed 3 (u32s (1 ∷ 0 ∷ []) ++ u64s (5 ∷ [])))
+    ≡ Ok (getattr (Some 5))
 unfolding framed request_of request_in getattr_of u32_at u64_at u32s u64s
 asks_getattr_of_handle = refl
 
@@ -66,7 +73,8 @@ pub asks_open : request_of (framed 14 (u32s (32768 ∷ 0 ∷ []))) ≡ Ok (open_
 unfolding framed request_of request_in open_of u32_at u64_at u32s u64s
 asks_open = refl
 
-pub asks_read : request_of (framed 15 (u64s (2 ∷ 4 ∷ []) ++ (u32s (9 ∷ 2 ∷ []) ++ (u64s (7 ∷ []) ++ u32s (1 ∷ 0 ∷ []))))) ≡ Ok (read 2 4 9 1 (Some 7))
+pub asks_read : request_of (framed 15 (u64s (2 ∷ 4 ∷ [])
+    ++ (u32s (9 ∷ 2 ∷ []) ++ (u64s (7 ∷ []) ++ u32s (1 ∷ 0 ∷ []))))) ≡ Ok (read 2 4 9 1 (Some 7))
 unfolding framed request_of request_in read_of u32_at u64_at u32s u64s
 asks_read = refl
 
@@ -82,7 +90,8 @@ pub asks_forget : request_of (framed 2 (u64s (3 ∷ []))) ≡ Ok (forget 3)
 unfolding framed request_of request_in forget_of u32_at u64_at u32s u64s
 asks_forget = refl
 
-pub asks_batch_forget : request_of (framed 42 (u32s (1 ∷ 0 ∷ []) ++ u64s (2 ∷ 3 ∷ []))) ≡ Ok (batch_forget (u64s (2 ∷ 3 ∷ [])))
+pub asks_batch_forget : request_of (framed 42 (u32s (1 ∷ 0 ∷ []) ++ u64s (2 ∷ 3 ∷ [])))
+    ≡ Ok (batch_forget (u64s (2 ∷ 3 ∷ [])))
 unfolding framed request_of request_in batch_forget_of u32_at u64_at u32s u64s
 asks_batch_forget = refl
 
@@ -91,7 +100,8 @@ pub batch_too_short : request_of (framed 42 (u32s (2 ∷ 0 ∷ []) ++ u64s (2 �
 unfolding framed request_of request_in batch_forget_of u32_at u64_at u32s u64s
 batch_too_short = refl
 
-pub opened : reply 4 0 (opened_body 2) ≡ 32 ∷ 0 ∷ 0 ∷ 0 ∷ 0 ∷ 0 ∷ 0 ∷ 0 ∷ 4 ∷ 0 ∷ 0 ∷ 0 ∷ 0 ∷ 0 ∷ 0 ∷ 0 ∷ 2 ∷ 0 ∷ 0 ∷ 0 ∷ 0 ∷ 0 ∷ 0 ∷ 0 ∷ 0 ∷ 0 ∷ 0 ∷ 0 ∷ 0 ∷ 0 ∷ 0 ∷ 0 ∷ []
+pub opened : reply 4 0 (opened_body 2) ≡ 32 ∷ 0 ∷ 0 ∷ 0 ∷ 0 ∷ 0 ∷ 0 ∷ 0 ∷ 4 ∷ 0 ∷ 0 ∷ 0 ∷ 0 ∷ 0 ∷ 0
+    ∷ 0 ∷ 2 ∷ 0 ∷ 0 ∷ 0 ∷ 0 ∷ 0 ∷ 0 ∷ 0 ∷ 0 ∷ 0 ∷ 0 ∷ 0 ∷ 0 ∷ 0 ∷ 0 ∷ 0 ∷ []
 unfolding reply reply_head opened_body u32s u64s
 opened = refl
 

@@ -1,7 +1,8 @@
 -- How long the bodies of replies are.
 use Rattle.std.proofs.Common.{◌≡◌, ℕ, length, refl}
 use Rattle.fuse_wire.specs.declared.attr.FileAttr.{FileAttr}
-use Rattle.fuse_wire.specs.Reply.{u32s, u64s, attr_bytes, entry_body, attr_body, init_body, opened_body}
+use Rattle.fuse_wire.specs.Reply.{u32s, u64s, attr_bytes, entry_body, attr_body, init_body}
+use Rattle.fuse_wire.specs.Reply.{opened_body}
 
 pub length-attr_bytes : (attr : FileAttr) → length (attr_bytes attr) ≡ 88
 unfolding attr_bytes u32s u64s

@@ -1,7 +1,8 @@
 -- A request that was read, without where its bytes lie.
 use Rattle.std.specs.Prelude.{◌≡◌, ℕ, List, Result, Ok, Err}
 use Rattle.fuse_wire.specs.Head.{head_of}
-use Rattle.fuse_wire.specs.Request.{Request, init, lookup, getattr, open_file, read, flush, release, forget, batch_forget, request_of}
+use Rattle.fuse_wire.specs.Request.{Request, init, lookup, getattr, open_file, read, flush, release}
+use Rattle.fuse_wire.specs.Request.{forget, batch_forget, request_of}
 use Rattle.fuse_wire.specs.declared.ids.Errno.{Errno}
 use Rattle.fuse_wire.specs.declared.request.Body.{Body}
 use Rattle.fuse_wire.specs.declared.request.Body.TheVariants as body

@@ -1,5 +1,6 @@
 -- The cut of the input into frames.
-use Rattle.std.specs.Prelude.{◌≡◌, ℕ, zero, suc, Bool, true, ◌&&◌, nat_le, nat_lt, ◌==◌, if◌then◌else◌, List, [], ◌∷◌, length, take, drop}
+use Rattle.std.specs.Prelude.{◌≡◌, ℕ, zero, suc, Bool, true, ◌&&◌, nat_le, nat_lt, ◌==◌}
+use Rattle.std.specs.Prelude.{if◌then◌else◌, List, [], ◌∷◌, length, take, drop}
 use Rattle.fuse_wire.specs.declared.frames.TheConstants.{FRAME_LIMIT}
 use Rattle.fuse_wire.specs.declared.head.TheConstants.{IN_HEADER_SIZE}
 use Rattle.fuse_wire.specs.Fields.{u32_at}
@@ -27,7 +28,8 @@ pub data Front : Type 0 where
 -- a length and the bytes that it is told in
 abbrev pub front_of_length : List ℕ → ℕ → Front
 front_of_length bytes len =
-    if is_allowed len then (if nat_lt (length bytes) len then part else whole (take len bytes) (drop len bytes)) else odd_length
+    if is_allowed len then (if nat_lt (length bytes) len then part else whole (take len bytes)
+    (drop len bytes)) else odd_length
 
 -- nothing; a part of a frame; a length that isn't allowed; or a whole frame and the rest
 unfoldable pub front : List ℕ → Front

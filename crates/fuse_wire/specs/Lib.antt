@@ -2,6 +2,7 @@ pub mod Body
 pub mod Cuts
 pub mod Fields
 pub mod Head
+pub mod Opcode
 pub mod Reply
 pub mod Request
 pub mod Taking

@@ -1,10 +1,13 @@
 -- Replies, by the layouts of fuse.h (protocol 7).
-use Rattle.std.specs.Prelude.{ℕ, ◌+◌, ◌-◌, ◌^◌, ◌==◌, if◌then◌else◌, List, [], ◌∷◌, ◌++◌, length, replicate}
+use Rattle.std.specs.Prelude.{ℕ, ◌+◌, ◌-◌, ◌^◌, ◌==◌, if◌then◌else◌, List, [], ◌∷◌, ◌++◌, length}
+use Rattle.std.specs.Prelude.{replicate}
 use Rattle.std.specs.Int.{w16, w32, w64, to_le_bytes}
 use Rattle.std.specs.List.{flat_map}
 use Rattle.fuse_wire.specs.declared.attr.FileAttr.{FileAttr}
-use Rattle.fuse_wire.specs.declared.opcode.TheConstants.{FUSE_KERNEL_VERSION}
-use Rattle.fuse_wire.specs.declared.reply.TheConstants.{OUT_HEADER_SIZE, MAX_BACKGROUND, CONGESTION_THRESHOLD, MAX_WRITE, TIME_GRAN, VALID_SECS}
+use Rattle.fuse_wire.specs.declared.protocol.TheConstants.{FUSE_KERNEL_VERSION}
+use Rattle.fuse_wire.specs.declared.reply.TheConstants.{OUT_HEADER_SIZE, MAX_BACKGROUND}
+use Rattle.fuse_wire.specs.declared.reply.TheConstants.{CONGESTION_THRESHOLD, MAX_WRITE, TIME_GRAN}
+use Rattle.fuse_wire.specs.declared.reply.TheConstants.{VALID_SECS}
 
 -- numbers of 4 bytes each, and of 8
 unfoldable pub u32s : List ℕ → List ℕ
@@ -19,7 +22,8 @@ negated errno = if errno == 0 then 0 else 2 ^ 32 - errno
 
 -- the length, the error and the request's number: `fuse_out_header`
 unfoldable pub reply_head : ℕ → ℕ → ℕ → List ℕ
-reply_head unique errno size = u32s ((OUT_HEADER_SIZE + size) ∷ negated errno ∷ []) ++ u64s (unique ∷ [])
+reply_head unique errno size = u32s ((OUT_HEADER_SIZE + size) ∷ negated errno ∷ [])
+    ++ u64s (unique ∷ [])
 
 unfoldable pub reply : ℕ → ℕ → List ℕ → List ℕ
 reply unique errno body = reply_head unique errno (length body) ++ body
@@ -28,11 +32,14 @@ reply unique errno body = reply_head unique errno (length body) ++ body
 unfoldable pub attr_bytes : FileAttr → List ℕ
 attr_bytes a =
     u64s (a.ino ∷ a.size ∷ a.blocks ∷ a.atime ∷ a.mtime ∷ a.ctime ∷ [])
-    ++ u32s (a.atimensec ∷ a.mtimensec ∷ a.ctimensec ∷ a.mode ∷ a.nlink ∷ a.uid ∷ a.gid ∷ a.rdev ∷ a.blksize ∷ a.flags ∷ [])
+    ++ u32s (a.atimensec ∷ a.mtimensec ∷ a.ctimensec ∷ a.mode ∷ a.nlink ∷ a.uid ∷ a.gid ∷ a.rdev
+    ∷ a.blksize ∷ a.flags ∷ [])
 
--- `fuse_entry_out`: the node, generation 0, how long entry and attributes are valid, in seconds and nanoseconds, and the attributes
+-- `fuse_entry_out`: the node, generation 0, how long entry and attributes are valid, in seconds
+-- and nanoseconds, and the attributes
 unfoldable pub entry_body : ℕ → FileAttr → List ℕ
-entry_body node attr = u64s (node ∷ 0 ∷ VALID_SECS ∷ VALID_SECS ∷ []) ++ (u32s (0 ∷ 0 ∷ []) ++ attr_bytes attr)
+entry_body node attr = u64s (node ∷ 0 ∷ VALID_SECS ∷ VALID_SECS ∷ [])
+    ++ (u32s (0 ∷ 0 ∷ []) ++ attr_bytes attr)
 
 -- `fuse_attr_out`: how long they are valid, 4 bytes, and the attributes
 unfoldable pub attr_body : FileAttr → List ℕ
@@ -42,7 +49,8 @@ attr_body attr = u64s (VALID_SECS ∷ []) ++ (u32s (0 ∷ 0 ∷ []) ++ attr_byte
 unfoldable pub init_body : ℕ → ℕ → List ℕ
 init_body minor max_readahead =
     u32s (FUSE_KERNEL_VERSION ∷ minor ∷ max_readahead ∷ 0 ∷ [])
-    ++ (to_le_bytes w16 MAX_BACKGROUND ++ (to_le_bytes w16 CONGESTION_THRESHOLD ++ (u32s (MAX_WRITE ∷ TIME_GRAN ∷ []) ++ replicate 36 0)))
+    ++ (to_le_bytes w16 MAX_BACKGROUND ++ (to_le_bytes w16 CONGESTION_THRESHOLD
+    ++ (u32s (MAX_WRITE ∷ TIME_GRAN ∷ []) ++ replicate 36 0)))
 
 -- `fuse_open_out`: the handle, no flags, and 4 bytes
 unfoldable pub opened_body : ℕ → List ℕ

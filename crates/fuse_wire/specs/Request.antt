@@ -1,10 +1,19 @@
 -- What a frame asks, by the bodies that fuse.h (protocol 7) lays out.
-use Rattle.std.specs.Prelude.{◌≡◌, ◌≢◌, ℕ, ◌+◌, ◌*◌, All, List, [], ◌∷◌, ◌++◌, length, take, drop, position, Option, Some, None, Result, Err, Bool, ◌==◌, nat_lt, if◌then◌else◌}
+use Rattle.std.specs.Prelude.{◌≡◌, ◌≢◌, ℕ, ◌+◌, ◌*◌, All, List, [], ◌∷◌, ◌++◌, length, take, drop}
+use Rattle.std.specs.Prelude.{position, Option, Some, None, Result, Err, Bool, ◌==◌, nat_lt}
+use Rattle.std.specs.Prelude.{if◌then◌else◌}
 use Rattle.std.specs.Option.{option_map, option_and_then, ok_or}
 use Rattle.port_base.specs.declared.errno.TheConstants.{EINVAL, ENOSYS}
 use Rattle.fuse_wire.specs.declared.head.TheConstants.{IN_HEADER_SIZE}
-use Rattle.fuse_wire.specs.declared.opcode.TheConstants.{FUSE_LOOKUP, FUSE_GETATTR, FUSE_INIT, FUSE_OPEN, FUSE_READ, FUSE_FLUSH, FUSE_RELEASE, FUSE_FORGET, FUSE_BATCH_FORGET, FUSE_GETATTR_FH, FUSE_READ_LOCKOWNER}
-use Rattle.fuse_wire.specs.declared.request.TheConstants.{INIT_IN_SIZE, GETATTR_IN_SIZE, OPEN_IN_SIZE, READ_IN_SIZE, RELEASE_IN_SIZE, FORGET_IN_SIZE, BATCH_FORGET_IN_SIZE, FORGET_ONE_SIZE}
+use Rattle.fuse_wire.specs.declared.opcode.TheConstants.{FUSE_LOOKUP, FUSE_GETATTR, FUSE_INIT}
+use Rattle.fuse_wire.specs.declared.opcode.TheConstants.{FUSE_OPEN, FUSE_READ, FUSE_FLUSH}
+use Rattle.fuse_wire.specs.declared.opcode.TheConstants.{FUSE_RELEASE, FUSE_FORGET}
+use Rattle.fuse_wire.specs.declared.opcode.TheConstants.{FUSE_BATCH_FORGET, FUSE_GETATTR_FH}
+use Rattle.fuse_wire.specs.declared.opcode.TheConstants.{FUSE_READ_LOCKOWNER}
+use Rattle.fuse_wire.specs.declared.request.TheConstants.{INIT_IN_SIZE, GETATTR_IN_SIZE}
+use Rattle.fuse_wire.specs.declared.request.TheConstants.{OPEN_IN_SIZE, READ_IN_SIZE}
+use Rattle.fuse_wire.specs.declared.request.TheConstants.{RELEASE_IN_SIZE, FORGET_IN_SIZE}
+use Rattle.fuse_wire.specs.declared.request.TheConstants.{BATCH_FORGET_IN_SIZE, FORGET_ONE_SIZE}
 use Rattle.fuse_wire.specs.Fields.{u32_at, u64_at, given}
 use Rattle.fuse_wire.specs.Head.{head_of}
 
@@ -45,22 +54,27 @@ pub record IsName (name body : List ℕ) : Type 0 where
 
 -- four numbers of 4 bytes, and then any bytes
 unfoldable pub init_of : List ℕ → Option Request
-init_of body = if nat_lt (length body) INIT_IN_SIZE then None else Some (init (u32_at body 0) (u32_at body 4) (u32_at body 8) (u32_at body 12))
+init_of body = if nat_lt (length body) INIT_IN_SIZE then None else Some
+    (init (u32_at body 0) (u32_at body 4) (u32_at body 8) (u32_at body 12))
 
 unfoldable pub lookup_of : List ℕ → Option Request
 lookup_of body = option_map lookup (only_name body)
 
 -- exactly flags of 4 bytes, 4 bytes that are ignored, and a handle of 8
 unfoldable pub getattr_of : List ℕ → Option Request
-getattr_of body = if length body == GETATTR_IN_SIZE then Some (getattr (given (u32_at body 0) FUSE_GETATTR_FH (u64_at body 8))) else None
+getattr_of body = if length body == GETATTR_IN_SIZE then Some
+    (getattr (given (u32_at body 0) FUSE_GETATTR_FH (u64_at body 8))) else None
 
 -- flags of 4 bytes, and 4 bytes that are ignored
 unfoldable pub open_of : List ℕ → Option Request
 open_of body = if length body == OPEN_IN_SIZE then Some (open_file (u32_at body 0)) else None
 
--- a handle and an offset of 8 bytes each, a size and flags of 4, the owner of a lock of 8, the file's flags of 4, and 4 bytes that are ignored
+-- a handle and an offset of 8 bytes each, a size and flags of 4, the owner of a lock of 8, the
+-- file's flags of 4, and 4 bytes that are ignored
 unfoldable pub read_of : List ℕ → Option Request
-read_of body = if length body == READ_IN_SIZE then Some (read (u64_at body 0) (u64_at body 8) (u32_at body 16) (u32_at body 32) (given (u32_at body 20) FUSE_READ_LOCKOWNER (u64_at body 24))) else None
+read_of body = if length body == READ_IN_SIZE then Some
+    (read (u64_at body 0) (u64_at body 8) (u32_at body 16) (u32_at body 32)
+    (given (u32_at body 20) FUSE_READ_LOCKOWNER (u64_at body 24))) else None
 
 -- a handle of 8 bytes, and 16 bytes that are ignored
 unfoldable pub handle_of : List ℕ → Option ℕ
@@ -70,11 +84,13 @@ handle_of body = if length body == RELEASE_IN_SIZE then Some (u64_at body 0) els
 unfoldable pub forget_of : List ℕ → Option Request
 forget_of body = if length body == FORGET_IN_SIZE then Some (forget (u64_at body 0)) else None
 
--- how many pairs there are, 4 bytes that are ignored, and pairs of a node id and a number of 8 bytes each
+-- how many pairs there are, 4 bytes that are ignored, and pairs of a node id and a number of 8
+-- bytes each
 unfoldable pub batch_forget_of : List ℕ → Option Request
 batch_forget_of body =
     if nat_lt (length body) BATCH_FORGET_IN_SIZE then None else
-    if length (drop BATCH_FORGET_IN_SIZE body) == u32_at body 0 * FORGET_ONE_SIZE then Some (batch_forget (drop BATCH_FORGET_IN_SIZE body)) else None
+    if length (drop BATCH_FORGET_IN_SIZE body) == u32_at body 0 * FORGET_ONE_SIZE then Some
+    (batch_forget (drop BATCH_FORGET_IN_SIZE body)) else None
 
 -- ENOSYS for an opcode that isn't served, EINVAL for a body outside its grammar
 unfoldable pub request_in : ℕ → List ℕ → Result Request ℕ

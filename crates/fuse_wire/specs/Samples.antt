@@ -26,7 +26,8 @@ file = record {
 
 -- a frame of node 1 with number 9
 unfoldable pub framed : ℕ → List ℕ → List ℕ
-framed opcode body = u32s ((40 + length body) ∷ opcode ∷ []) ++ (u64s (9 ∷ 1 ∷ []) ++ (replicate 16 0 ++ body))
+framed opcode body = u32s ((40 + length body) ∷ opcode ∷ [])
+    ++ (u64s (9 ∷ 1 ∷ []) ++ (replicate 16 0 ++ body))
 
 -- the shortest frame: a head alone
 unfoldable pub least : List ℕ

@@ -1,8 +1,11 @@
-//! Requests, replies and cuts, byte for byte. Each function makes no call: its contract is the example.
+//! Requests, replies and cuts, byte for byte. Each function makes no call: its contract is the
+//! example.
 ghost use Rattle.std.specs.Prelude.{◌≡◌, ◌++◌, [], ◌∷◌, replicate, codes, Some, None, Ok, Err};
 ghost use Rattle.fuse_wire.specs.Request.{request_of};
-ghost use Rattle.fuse_wire.specs.Request.Request.{init, lookup, getattr, open_file, read, flush, release, forget, batch_forget};
-ghost use Rattle.fuse_wire.specs.Reply.{u32s, u64s, reply, entry_body, attr_body, init_body, opened_body};
+ghost use Rattle.fuse_wire.specs.Request.Request.{init, lookup, getattr, open_file, read, flush};
+ghost use Rattle.fuse_wire.specs.Request.Request.{release, forget, batch_forget};
+ghost use Rattle.fuse_wire.specs.Reply.{u32s, u64s, reply, entry_body, attr_body, init_body};
+ghost use Rattle.fuse_wire.specs.Reply.{opened_body};
 ghost use Rattle.fuse_wire.specs.Samples.{file, framed, least, init_bytes, entry_bytes, attr_reply};
 ghost use Rattle.fuse_wire.specs.Cuts.{cut};
 ghost use Rattle.fuse_wire.specs.Cuts.End.{done, turns_spent, torn, bad_length};
@@ -13,33 +16,41 @@ pub fn replies()
     ensures begun { reply 1 0 (init_body 31 131072) ≡ init_bytes }
     ensures entered { reply 2 0 (entry_body 2 file) ≡ entry_bytes }
     ensures shown { reply 3 0 (attr_body file) ≡ attr_reply }
-    ensures refused { reply 7 2 [] ≡ 16 ∷ 0 ∷ 0 ∷ 0 ∷ 254 ∷ 255 ∷ 255 ∷ 255 ∷ 7 ∷ 0 ∷ 0 ∷ 0 ∷ 0 ∷ 0 ∷ 0 ∷ 0 ∷ [] }
+    ensures refused { reply 7 2 [] ≡ 16 ∷ 0 ∷ 0 ∷ 0 ∷ 254 ∷ 255 ∷ 255 ∷ 255 ∷ 7 ∷ 0 ∷ 0 ∷ 0 ∷ 0 ∷ 0
+        ∷ 0 ∷ 0 ∷ [] }
 {}
 
 /// What frames ask.
 #[tactic(auto, using(crate::proofs::Sampling::asks_init, crate::proofs::Sampling::asks_lookup, crate::proofs::Sampling::asks_lookup_empty, crate::proofs::Sampling::asks_getattr, crate::proofs::Sampling::asks_getattr_of_handle))]
 pub fn requests()
-    ensures init { request_of (framed 26 (u32s (7 ∷ 31 ∷ 131072 ∷ 3 ∷ []) ++ replicate 48 0)) ≡ Ok (init 7 31 131072 3) }
+    ensures init { request_of (framed 26 (u32s (7 ∷ 31 ∷ 131072 ∷ 3 ∷ []) ++ replicate 48 0))
+        ≡ Ok (init 7 31 131072 3) }
     ensures named { request_of (framed 1 (codes "hello" ++ 0 ∷ [])) ≡ Ok (lookup (codes "hello")) }
     ensures unnamed { request_of (framed 1 (0 ∷ [])) ≡ Ok (lookup []) }
     ensures node { request_of (framed 3 (replicate 8 0 ++ u64s (5 ∷ []))) ≡ Ok (getattr None) }
-    ensures handle { request_of (framed 3 (u32s (1 ∷ 0 ∷ []) ++ u64s (5 ∷ []))) ≡ Ok (getattr (Some 5)) }
+    ensures handle { request_of (framed 3 (u32s (1 ∷ 0 ∷ []) ++ u64s (5 ∷ [])))
+        ≡ Ok (getattr (Some 5)) }
 {}
 
 /// What frames ask on open files, and what forgets ask.
 #[tactic(auto, using(crate::proofs::Sampling::asks_open, crate::proofs::Sampling::asks_read, crate::proofs::Sampling::asks_flush, crate::proofs::Sampling::asks_release, crate::proofs::Sampling::asks_forget, crate::proofs::Sampling::asks_batch_forget, crate::proofs::Sampling::batch_too_short, crate::proofs::Sampling::opened))]
 pub fn files_and_forgets()
     ensures open { request_of (framed 14 (u32s (32768 ∷ 0 ∷ []))) ≡ Ok (open_file 32768) }
-    ensures read { request_of (framed 15 (u64s (2 ∷ 4 ∷ []) ++ (u32s (9 ∷ 2 ∷ []) ++ (u64s (7 ∷ []) ++ u32s (1 ∷ 0 ∷ []))))) ≡ Ok (read 2 4 9 1 (Some 7)) }
+    ensures read { request_of (framed 15 (u64s (2 ∷ 4 ∷ [])
+        ++ (u32s (9 ∷ 2 ∷ []) ++ (u64s (7 ∷ []) ++ u32s (1 ∷ 0 ∷ [])))))
+        ≡ Ok (read 2 4 9 1 (Some 7)) }
     ensures flush { request_of (framed 25 (u64s (2 ∷ 0 ∷ 0 ∷ []))) ≡ Ok (flush 2) }
     ensures release { request_of (framed 18 (u64s (2 ∷ 0 ∷ 0 ∷ []))) ≡ Ok (release 2) }
     ensures forget { request_of (framed 2 (u64s (3 ∷ []))) ≡ Ok (forget 3) }
-    ensures batch { request_of (framed 42 (u32s (1 ∷ 0 ∷ []) ++ u64s (2 ∷ 3 ∷ []))) ≡ Ok (batch_forget (u64s (2 ∷ 3 ∷ []))) }
+    ensures batch { request_of (framed 42 (u32s (1 ∷ 0 ∷ []) ++ u64s (2 ∷ 3 ∷ [])))
+        ≡ Ok (batch_forget (u64s (2 ∷ 3 ∷ []))) }
     ensures short { request_of (framed 42 (u32s (2 ∷ 0 ∷ []) ++ u64s (2 ∷ 3 ∷ []))) ≡ Err 22 }
-    ensures opened { reply 4 0 (opened_body 2) ≡ 32 ∷ 0 ∷ 0 ∷ 0 ∷ 0 ∷ 0 ∷ 0 ∷ 0 ∷ 4 ∷ 0 ∷ 0 ∷ 0 ∷ 0 ∷ 0 ∷ 0 ∷ 0 ∷ 2 ∷ 0 ∷ 0 ∷ 0 ∷ 0 ∷ 0 ∷ 0 ∷ 0 ∷ 0 ∷ 0 ∷ 0 ∷ 0 ∷ 0 ∷ 0 ∷ 0 ∷ 0 ∷ [] }
+    ensures opened { reply 4 0 (opened_body 2) ≡ 32 ∷ 0 ∷ 0 ∷ 0 ∷ 0 ∷ 0 ∷ 0 ∷ 0 ∷ 4 ∷ 0 ∷ 0 ∷ 0 ∷ 0
+        ∷ 0 ∷ 0 ∷ 0 ∷ 2 ∷ 0 ∷ 0 ∷ 0 ∷ 0 ∷ 0 ∷ 0 ∷ 0 ∷ 0 ∷ 0 ∷ 0 ∷ 0 ∷ 0 ∷ 0 ∷ 0 ∷ 0 ∷ [] }
 {}
 
-/// A name without its zero byte, one with a zero byte inside and a body that is too long are EINVAL; an opcode that
+/// A name without its zero byte, one with a zero byte inside and a body that is too long are
+/// EINVAL; an opcode that
 /// isn't served is ENOSYS.
 #[tactic(auto, using(crate::proofs::Sampling::name_unended, crate::proofs::Sampling::name_ended_twice, crate::proofs::Sampling::getattr_too_long, crate::proofs::Sampling::unserved))]
 pub fn refused_requests()
@@ -49,11 +60,13 @@ pub fn refused_requests()
     ensures unserved { request_of (framed 77 []) ≡ Err 38 }
 {}
 
-/// How the cut of an input ends: within a frame, at a frame's end, at the last turn, or at a length that no frame has.
+/// How the cut of an input ends: within a frame, at a frame's end, at the last turn, or at a
+/// length that no frame has.
 #[tactic(auto, using(crate::proofs::Sampling::ends_torn, crate::proofs::Sampling::ends_short, crate::proofs::Sampling::ends_done, crate::proofs::Sampling::ends_spent, crate::proofs::Sampling::ends_bad))]
 pub fn cuts()
     ensures torn { cut 9 (least ++ 1 ∷ 2 ∷ 3 ∷ []) ≡ record { frames = least ∷ []; end = torn } }
-    ensures short { cut 9 (least ++ (46 ∷ replicate 44 0)) ≡ record { frames = least ∷ []; end = torn } }
+    ensures short { cut 9 (least ++ (46 ∷ replicate 44 0))
+        ≡ record { frames = least ∷ []; end = torn } }
     ensures done { cut 9 (least ++ least) ≡ record { frames = least ∷ least ∷ []; end = done } }
     ensures spent { cut 1 (least ++ 1 ∷ []) ≡ record { frames = least ∷ []; end = turns_spent } }
     ensures bad { cut 9 (39 ∷ replicate 38 0) ≡ record { frames = []; end = bad_length } }

@@ -2,6 +2,8 @@
 ghost use Rattle.std.specs.Prelude.{◌≡◌, ◌+◌, ◌≤◌, length};
 ghost use Rattle.fuse_wire.specs.Fields.{u32_at, u64_at, given};
 
+use port_base::oflag::has_flag;
+
 /// The number in the 4 bytes from `at` on.
 #[tactic(auto, unfolding(crate::specs::Fields::u32_at))]
 pub(crate) fn u32_at(bytes: &[u8], at: usize) -> u32
@@ -28,5 +30,9 @@ pub(crate) fn u64_at(bytes: &[u8], at: usize) -> u64
 pub(crate) fn given(flags: u32, flag: u32, value: u64) -> Option<u64>
     ensures { result ≡ given flags flag value }
 {
-    if flags & flag != 0 { Some(value) } else { None }
+    if has_flag(flags, flag) {
+        Some(value)
+    } else {
+        None
+    }
 }

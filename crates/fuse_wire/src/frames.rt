@@ -6,6 +6,7 @@ ghost use Rattle.fuse_wire.specs.Taking.{Takes, Fills, TakesPiece};
 use crate::fields::u32_at;
 use crate::head::IN_HEADER_SIZE;
 use port_base::source::{Source, read_full};
+use std::fmt;
 
 /// The greatest length of a frame, in bytes. The least is that of its head.
 pub const FRAME_LIMIT: usize = 69632;
@@ -22,7 +23,7 @@ pub enum Next {
     AtEnd,
     /// A part of a frame, before the end.
     Part,
-    /// A length that no frame has.
+    /// A length that no frame has, of which just these four bytes were taken.
     OddLength,
 }
 
@@ -31,8 +32,17 @@ pub enum Next {
 pub enum NextError {
     /// The source failed.
     Read,
-    /// There was no memory.
+    /// Out of memory.
     NoMemory,
+}
+
+impl fmt::Display for NextError {
+    fn fmt<W: fmt::Write>(&self, f: &mut fmt::Formatter<W>) -> fmt::Result {
+        f.write_str(match self {
+            NextError::Read => "reading FUSE frames failed; see the source's own error",
+            NextError::NoMemory => "out of memory at a FUSE frame; free memory and start again",
+        })
+    }
 }
 
 #[tactic(auto, unfolding(crate::specs::Cuts::is_allowed))]
@@ -63,7 +73,8 @@ fn take_piece<S: Source>(
 ) -> Result<usize, NextError>
     requires some { 0 < count }
     requires most { count ≤ PIECE }
-    ensures piece { TakesPiece (S.left source.old) (S.left source.new) (S.faults source.old) (S.faults source.new) frame.old.items frame.new.items count result }
+    ensures piece { TakesPiece (S.left source.old) (S.left source.new) (S.faults source.old)
+        (S.faults source.new) frame.old.items frame.new.items count result }
     ensures kept { S.kept source.new ≡ S.kept source.old }
     ensures lender { S.lender source.new ≡ S.lender source.old }
 {
@@ -81,10 +92,12 @@ fn take_piece<S: Source>(
     }
 }
 
-// Puts the bytes that are missing behind those in the buffer, a piece at a time; false where the source ends before.
+// Puts the bytes that are missing behind those in the buffer, a piece at a time; false where the
+// source ends before.
 fn fill<S: Source>(source: &mut S, frame: &mut Vec<u8>, missing: usize) -> Result<bool, NextError>
     requires { 0 < missing }
-    ensures fills { Fills (S.left source.old) (S.left source.new) (S.faults source.old) (S.faults source.new) frame.old.items frame.new.items missing result }
+    ensures fills { Fills (S.left source.old) (S.left source.new) (S.faults source.old)
+        (S.faults source.new) frame.old.items frame.new.items missing result }
     ensures kept { S.kept source.new ≡ S.kept source.old }
     ensures lender { S.lender source.new ≡ S.lender source.old }
 {
@@ -104,10 +117,12 @@ fn fill<S: Source>(source: &mut S, frame: &mut Vec<u8>, missing: usize) -> Resul
     Ok(true)
 }
 
-/// Takes the frame at the front of a source into a buffer, if a whole one stands there. The buffer grows
+/// Takes the frame at the front of a source into a buffer, if a whole one stands there. The buffer
+/// grows
 /// with what comes in, and never by a length that was only told.
 pub fn next_frame<S: Source>(source: &mut S, frame: &mut Vec<u8>) -> Result<Next, NextError>
-    ensures takes { Takes (S.left source.old) (S.left source.new) (S.faults source.old) (S.faults source.new) frame.new.items result }
+    ensures takes { Takes (S.left source.old) (S.left source.new) (S.faults source.old)
+        (S.faults source.new) frame.new.items result }
     ensures kept { S.kept source.new ≡ S.kept source.old }
     ensures lender { S.lender source.new ≡ S.lender source.old }
 {

@@ -1,8 +1,16 @@
 //! Numbers that are told apart by their types.
+use std::fmt;
 
 /// An error number, as Linux has them (`errno(3)`).
 #[derive(Clone, Copy, Debug, PartialEq, Eq)]
 pub struct Errno(pub u32);
+
+impl fmt::Display for Errno {
+    fn fmt<W: fmt::Write>(&self, f: &mut fmt::Formatter<W>) -> fmt::Result {
+        let number = self.0;
+        write!(f, "errno {number}")
+    }
+}
 
 /// A node id, `nodeid` of `fuse.h`.
 #[derive(Clone, Copy, Debug, PartialEq, Eq)]

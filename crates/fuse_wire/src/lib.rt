@@ -1,14 +1,16 @@
-//! FUSE frames on the wire: requests by their grammar, replies by their layouts (Linux `fuse.h`, protocol 7).
+//! FUSE frames on the wire: requests by their grammar, replies by their layouts (Linux `fuse.h`,
+//! protocol 7).
 #![tactic(auto)]
 
 pub mod attr;
-pub mod examples;
+mod examples;
 mod fields;
 pub mod frames;
 pub mod head;
 pub mod ids;
-pub mod laws;
+mod laws;
 pub mod opcode;
+pub mod protocol;
 pub mod reply;
 pub mod request;
 #[cfg(test)]

@@ -1,4 +1,6 @@
-//! Numbers of the FUSE protocol, as Linux's `fuse.h` has them (protocol 7).
+//! What is asked, by numbers as Linux's `fuse.h` has them (protocol 7).
+ghost use Rattle.std.specs.Prelude.{◌≡◌};
+ghost use Rattle.fuse_wire.specs.Opcode.{is_silent};
 
 /// Looks a name up in a directory.
 pub const FUSE_LOOKUP: u32 = 1;
@@ -28,5 +30,9 @@ pub const FUSE_GETATTR_FH: u32 = 1;
 /// A flag of READ: the owner of a lock is given.
 pub const FUSE_READ_LOCKOWNER: u32 = 2;
 
-/// The protocol's major number.
-pub const FUSE_KERNEL_VERSION: u32 = 7;
+/// Whether a request never gets a reply: FORGET, INTERRUPT and BATCH_FORGET.
+pub fn is_silent(opcode: u32) -> bool
+    ensures { result ≡ is_silent opcode }
+{
+    opcode == FUSE_FORGET || opcode == FUSE_INTERRUPT || opcode == FUSE_BATCH_FORGET
+}

@@ -1,10 +1,12 @@
 //! Replies.
-ghost use Rattle.std.specs.Prelude.{◌≡◌, ◌+◌, ◌*◌, ◌≤◌, ◌<◌, ◌^◌, ◌++◌, [], length, vec_len, vec_capacity};
-ghost use Rattle.fuse_wire.specs.Reply.{u32s, u64s, negated, reply_head, reply, attr_bytes, entry_body, attr_body, init_body, opened_body};
+ghost use Rattle.std.specs.Prelude.{◌≡◌, ◌+◌, ◌*◌, ◌≤◌, ◌<◌, ◌^◌, ◌++◌, [], length, vec_len};
+ghost use Rattle.std.specs.Prelude.{vec_capacity};
+ghost use Rattle.fuse_wire.specs.Reply.{u32s, u64s, negated, reply_head, reply, attr_bytes};
+ghost use Rattle.fuse_wire.specs.Reply.{entry_body, attr_body, init_body, opened_body};
 
 use crate::attr::FileAttr;
 use crate::ids::{Errno, FileHandle, INodeNo, RequestId};
-use crate::opcode::FUSE_KERNEL_VERSION;
+use crate::protocol::{FUSE_KERNEL_VERSION, MAX_READ};
 
 /// The size of a reply's head (`fuse_out_header` of `fuse.h`), in bytes.
 pub const OUT_HEADER_SIZE: usize = 16;
@@ -17,8 +19,6 @@ pub const ATTR_OUT_SIZE: usize = 104;
 
 /// The size of a handle that is given (`fuse_open_out` of `fuse.h`), in bytes.
 pub const OPEN_OUT_SIZE: usize = 16;
-/// The most bytes that a reply has behind its head.
-pub const MAX_BYTES: usize = 131072;
 
 /// The most requests that run in the background, told by INIT.
 pub const MAX_BACKGROUND: u16 = 12;
@@ -170,9 +170,9 @@ pub fn reply_empty(out: &mut Vec<u8>, unique: RequestId)
     put_head(out, unique, 0, 0);
 }
 
-/// Appends the reply that has these bytes, at most 131072.
+/// Appends the reply that has these bytes, at most `MAX_READ`.
 pub fn reply_bytes(out: &mut Vec<u8>, unique: RequestId, bytes: &[u8])
-    requires short { length bytes.now ≤ MAX_BYTES }
+    requires short { length bytes.now ≤ MAX_READ }
     requires room { vec_len out.old + (OUT_HEADER_SIZE + length bytes.now) ≤ vec_capacity out.old }
     ensures { out.new.items ≡ out.old.items ++ reply unique.0 0 bytes.now }
 {

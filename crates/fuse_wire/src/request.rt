@@ -3,7 +3,10 @@ ghost use Rattle.std.specs.Prelude.{◌≡◌, ◌<◌, ◌≤◌, length, posit
 ghost use Rattle.std.specs.Option.{option_map};
 ghost use Rattle.fuse_wire.specs.Body.{plain, Gives, Reads};
 ghost use Rattle.fuse_wire.specs.Fields.{u64_at};
-ghost use Rattle.fuse_wire.specs.Request.{is_zero, name_at, only_name, init_of, lookup_of, getattr_of, open_of, read_of, handle_of, forget_of, batch_forget_of, flush, release, request_in, request_of};
+ghost use Rattle.fuse_wire.specs.Head.{head_of};
+ghost use Rattle.fuse_wire.specs.Request.{is_zero, name_at, only_name, init_of, lookup_of};
+ghost use Rattle.fuse_wire.specs.Request.{getattr_of, open_of, read_of, handle_of, forget_of};
+ghost use Rattle.fuse_wire.specs.Request.{batch_forget_of, flush, release, request_in, request_of};
 
 use crate::fields::{given, u32_at, u64_at};
 use crate::head::{Head, IN_HEADER_SIZE};
@@ -23,7 +26,8 @@ pub const GETATTR_IN_SIZE: usize = 16;
 pub const OPEN_IN_SIZE: usize = 8;
 /// The size of READ's body (`fuse_read_in` of `fuse.h`), in bytes.
 pub const READ_IN_SIZE: usize = 40;
-/// The size of RELEASE's and of FLUSH's body (`fuse_release_in`, `fuse_flush_in` of `fuse.h`), in bytes.
+/// The size of RELEASE's and of FLUSH's body (`fuse_release_in`, `fuse_flush_in` of `fuse.h`), in
+/// bytes.
 pub const RELEASE_IN_SIZE: usize = 24;
 /// The size of FORGET's body (`fuse_forget_in` of `fuse.h`), in bytes.
 pub const FORGET_IN_SIZE: usize = 8;
@@ -274,16 +278,22 @@ fn body_of(opcode: u32, body: &[u8]) -> Result<Body<'_>, Errno>
 impl<'a> FuseRequest<'a> {
     /// The request that a frame is. It takes no memory.
     ///
-    /// ENOSYS exactly for an opcode that isn't served; then EINVAL exactly for a body outside its grammar.
-    #[tactic(auto, unfolding(crate::specs::Request::request_of))]
+    /// ENOSYS exactly for an opcode that isn't served; then EINVAL exactly for a body outside its
+    /// grammar.
     pub fn read(frame: &'a [u8]) -> Result<FuseRequest<'a>, Errno>
         requires { IN_HEADER_SIZE ≤ length frame.now }
         ensures { Reads result frame.now }
     {
-        let head = Head::read(frame);
-        match body_of(head.opcode, &frame[IN_HEADER_SIZE..]) {
-            Ok(body) => Ok(FuseRequest { head, body }),
-            Err(errno) => Err(errno),
-        }
+        FuseRequest::read_behind(Head::read(frame), frame)
+    }
+
+    /// The request that a frame is whose head was read before. It is refused as by `read`.
+    pub fn read_behind(head: Head, frame: &'a [u8]) -> Result<FuseRequest<'a>, Errno>
+        requires long { IN_HEADER_SIZE ≤ length frame.now }
+        requires read { head ≡ head_of frame.now }
+        ensures { Reads result frame.now }
+    {
+        let body = body_of(head.opcode, &frame[IN_HEADER_SIZE..])?;
+        Ok(FuseRequest { head, body })
     }
 }

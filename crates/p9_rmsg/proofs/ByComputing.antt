@@ -10,6 +10,7 @@ unfolding frame
 rlerror_example = refl
 
 -- one directory
-pub rwalk_example : reply_frame 3 (walk ((128, (1, 2)) ∷ [])) ≡ 22 ∷ 0 ∷ 0 ∷ 0 ∷ 111 ∷ 3 ∷ 0 ∷ 1 ∷ 0 ∷ 128 ∷ 1 ∷ 0 ∷ 0 ∷ 0 ∷ 2 ∷ 0 ∷ 0 ∷ 0 ∷ 0 ∷ 0 ∷ 0 ∷ 0 ∷ []
+pub rwalk_example : reply_frame 3 (walk ((128, (1, 2)) ∷ [])) ≡ 22 ∷ 0 ∷ 0 ∷ 0 ∷ 111 ∷ 3 ∷ 0 ∷ 1
+    ∷ 0 ∷ 128 ∷ 1 ∷ 0 ∷ 0 ∷ 0 ∷ 2 ∷ 0 ∷ 0 ∷ 0 ∷ 0 ∷ 0 ∷ 0 ∷ 0 ∷ []
 unfolding frame
 rwalk_example = refl

@@ -4,7 +4,9 @@ use Rattle.p9_wire.specs.Reading.{Reads, Always, Lawful}
 use Rattle.p9_wire.specs.Fields.{pair_reading}
 use Rattle.p9_wire.specs.Numbers.{law8, law64}
 use Rattle.p9_wire.specs.Qids.{qid_of}
-use Rattle.p9_wire.specs.Values.{QidSpells, IsU64, IsU8, TextSpells, qid_spelling, le64, le8, text_spelling, qid_at, u64_at, u8_at, text_at, then_law, qid_law, text_law}
+use Rattle.p9_wire.specs.Values.{QidSpells, IsU64, IsU8, TextSpells, qid_spelling, le64, le8}
+use Rattle.p9_wire.specs.Values.{text_spelling, qid_at, u64_at, u8_at, text_at, then_law, qid_law}
+use Rattle.p9_wire.specs.Values.{text_law}
 use Rattle.p9_rmsg.specs.declared.dirent.Dirent.{Dirent}
 
 -- qid, offset, type and name

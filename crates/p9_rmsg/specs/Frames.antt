@@ -3,7 +3,8 @@ use Rattle.std.specs.Prelude.{ℕ, ◌-◌, ◌^◌, List}
 use Rattle.p9_wire.specs.Reading.{Reads}
 use Rattle.p9_wire.specs.Frames.{frame, sound_reading, FrameSpells, frame_spelling}
 use Rattle.p9_rmsg.specs.declared.frame.Rframe.{Rframe}
-use Rattle.p9_rmsg.specs.Replies.{Reply, reply_of, reply_kind, reply_spelling, ReplySpells, IsReadableReply, reply_reading}
+use Rattle.p9_rmsg.specs.Replies.{Reply, reply_of, reply_kind, reply_spelling, ReplySpells}
+use Rattle.p9_rmsg.specs.Replies.{IsReadableReply, reply_reading}
 
 -- the message behind its size, type and tag
 abbrev pub reply_frame : (tag : ℕ) → Reply → List ℕ

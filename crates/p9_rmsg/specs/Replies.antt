@@ -1,10 +1,14 @@
--- The messages that a server answers, without where they lie in memory, and how they are spelled and read.
+-- The messages that a server answers, without where they lie in memory, and how they are spelled
+-- and read.
 use Rattle.std.specs.Prelude.{ℕ, List, [], ◌++◌, ◌==◌, if◌then◌else◌, map}
 use Rattle.p9_wire.specs.declared.error.WireError.TheVariants.{InvalidData}
 use Rattle.p9_wire.specs.Reading.{Reads, give, refuse}
 use Rattle.p9_wire.specs.Fields.{pair_reading}
 use Rattle.p9_wire.specs.Qids.{qid_of}
-use Rattle.p9_wire.specs.Values.{DataSpells, IsU32, IsU64, IsU8, QidSpells, QidsSpell, TextSpells, IsReadableData, data_spelling, le32, le64, le8, qid_spelling, qids_spelling, text_spelling, data_at, qid_at, qids_at, text_at, u32_at, u64_at, u8_at}
+use Rattle.p9_wire.specs.Values.{DataSpells, IsU32, IsU64, IsU8, QidSpells, QidsSpell, TextSpells}
+use Rattle.p9_wire.specs.Values.{IsReadableData, data_spelling, le32, le64, le8, qid_spelling}
+use Rattle.p9_wire.specs.Values.{qids_spelling, text_spelling, data_at, qid_at, qids_at, text_at}
+use Rattle.p9_wire.specs.Values.{u32_at, u64_at, u8_at}
 use Rattle.p9_wire.specs.Kinds.{as_message}
 use Rattle.p9_rmsg.specs.declared.message.Rgetattr.{Rgetattr}
 use Rattle.p9_rmsg.specs.declared.message.Rmessage.{Rmessage}
@@ -14,22 +18,28 @@ use Rattle.p9_rmsg.specs.declared.message.Rmessage.TheVariants as r
 abbrev pub Qid : Type 0
 Qid = ℕ × (ℕ × ℕ)
 
--- valid, qid, mode, uid, gid, nlink
-abbrev pub Identity : Type 0
-Identity = ℕ × (Qid × (ℕ × (ℕ × (ℕ × ℕ))))
-
--- rdev, size, blksize, blocks
-abbrev pub Extent : Type 0
-Extent = ℕ × (ℕ × (ℕ × ℕ))
-
--- two times, each in seconds and nanoseconds
-abbrev pub Times : Type 0
-Times = ℕ × (ℕ × (ℕ × ℕ))
-
--- The fields of Rgetattr in the order of the wire, in groups: who and what, how large, atime and mtime,
--- ctime and btime, generation and data version.
-abbrev pub Attributes : Type 0
-Attributes = Identity × (Extent × (Times × (Times × (ℕ × ℕ))))
+-- the fields of Rgetattr in the order of the wire
+pub record Attributes : Type 0 where
+  pub valid : ℕ
+  pub qid : Qid
+  pub mode : ℕ
+  pub uid : ℕ
+  pub gid : ℕ
+  pub nlink : ℕ
+  pub rdev : ℕ
+  pub size : ℕ
+  pub blksize : ℕ
+  pub blocks : ℕ
+  pub atime_sec : ℕ
+  pub atime_nsec : ℕ
+  pub mtime_sec : ℕ
+  pub mtime_nsec : ℕ
+  pub ctime_sec : ℕ
+  pub ctime_nsec : ℕ
+  pub btime_sec : ℕ
+  pub btime_nsec : ℕ
+  pub generation : ℕ
+  pub data_version : ℕ
 
 -- the fields in the order of the wire
 pub data Reply : Type 0 where
@@ -64,11 +74,33 @@ pub data Reply : Type 0 where
   remove : Reply
 
 abbrev pub attributes_of : Rgetattr → Attributes
-attributes_of m = ((m.valid, (qid_of m.qid, (m.mode, (m.uid, (m.gid, m.nlink))))), ((m.rdev, (m.size, (m.blksize, m.blocks))), ((m.atime_sec, (m.atime_nsec, (m.mtime_sec, m.mtime_nsec))), ((m.ctime_sec, (m.ctime_nsec, (m.btime_sec, m.btime_nsec))), (m.generation, m.data_version)))))
+attributes_of m = record {
+  valid = m.valid;
+  qid = qid_of m.qid;
+  mode = m.mode;
+  uid = m.uid;
+  gid = m.gid;
+  nlink = m.nlink;
+  rdev = m.rdev;
+  size = m.size;
+  blksize = m.blksize;
+  blocks = m.blocks;
+  atime_sec = m.atime_sec;
+  atime_nsec = m.atime_nsec;
+  mtime_sec = m.mtime_sec;
+  mtime_nsec = m.mtime_nsec;
+  ctime_sec = m.ctime_sec;
+  ctime_nsec = m.ctime_nsec;
+  btime_sec = m.btime_sec;
+  btime_nsec = m.btime_nsec;
+  generation = m.generation;
+  data_version = m.data_version;
+}
 
 abbrev pub reply_of : Rmessage → Reply
 reply_of (r.Lerror m) = lerror m.ecode
-reply_of (r.Statfs m) = statfs m.ty m.bsize m.blocks m.bfree m.bavail m.files m.ffree m.fsid m.namelen
+reply_of (r.Statfs m) = statfs m.ty m.bsize m.blocks m.bfree m.bavail m.files m.ffree m.fsid
+    m.namelen
 reply_of (r.Lopen m) = lopen (qid_of m.qid) m.iounit
 reply_of (r.Lcreate m) = lcreate (qid_of m.qid) m.iounit
 reply_of (r.Symlink m) = symlink (qid_of m.qid)
@@ -129,19 +161,95 @@ reply_kind (write count) = 119
 reply_kind clunk = 121
 reply_kind remove = 123
 
+-- ---- attributes, which are read and written in groups
+
+-- valid, qid, mode, uid, gid, nlink
+abbrev pub Identity : Type 0
+Identity = ℕ × (Qid × (ℕ × (ℕ × (ℕ × ℕ))))
+
+-- four numbers: rdev, size, blksize, blocks, or two times in seconds and nanoseconds
+abbrev pub Four : Type 0
+Four = ℕ × (ℕ × (ℕ × ℕ))
+
+abbrev pub Groups : Type 0
+Groups = Identity × (Four × (Four × (Four × (ℕ × ℕ))))
+
+abbrev pub four_bytes : ℕ → ℕ → ℕ → ℕ → List ℕ
+four_bytes a b c d = le64 a ++ (le64 b ++ (le64 c ++ le64 d))
+
+abbrev pub FourSpell : ℕ → ℕ → ℕ → ℕ → Type 0
+FourSpell a b c d = IsU64 a × (IsU64 b × (IsU64 c × IsU64 d))
+
+abbrev pub four_at : Reads Four
+four_at = pair_reading u64_at (pair_reading u64_at (pair_reading u64_at u64_at))
+
+abbrev pub identity_spelling : Attributes → List ℕ
+identity_spelling a =
+    le64 a.valid
+    ++ (qid_spelling a.qid ++ (le32 a.mode ++ (le32 a.uid ++ (le32 a.gid ++ le64 a.nlink))))
+
 abbrev pub attributes_spelling : Attributes → List ℕ
-attributes_spelling a = (le64 a.0.0 ++ (qid_spelling a.0.1.0 ++ (le32 a.0.1.1.0 ++ (le32 a.0.1.1.1.0 ++ (le32 a.0.1.1.1.1.0 ++ le64 a.0.1.1.1.1.1))))) ++ ((le64 a.1.0.0 ++ (le64 a.1.0.1.0 ++ (le64 a.1.0.1.1.0 ++ le64 a.1.0.1.1.1))) ++ ((le64 a.1.1.0.0 ++ (le64 a.1.1.0.1.0 ++ (le64 a.1.1.0.1.1.0 ++ le64 a.1.1.0.1.1.1))) ++ ((le64 a.1.1.1.0.0 ++ (le64 a.1.1.1.0.1.0 ++ (le64 a.1.1.1.0.1.1.0 ++ le64 a.1.1.1.0.1.1.1))) ++ (le64 a.1.1.1.1.0 ++ le64 a.1.1.1.1.1))))
+attributes_spelling a =
+    identity_spelling a
+    ++ (four_bytes a.rdev a.size a.blksize a.blocks
+    ++ (four_bytes a.atime_sec a.atime_nsec a.mtime_sec a.mtime_nsec
+    ++ (four_bytes a.ctime_sec a.ctime_nsec a.btime_sec a.btime_nsec
+    ++ (le64 a.generation ++ le64 a.data_version))))
+
+abbrev pub IdentitySpells : Attributes → Type 0
+IdentitySpells a =
+    IsU64 a.valid × (QidSpells a.qid × (IsU32 a.mode
+    × (IsU32 a.uid × (IsU32 a.gid × IsU64 a.nlink))))
 
 abbrev pub AttributesSpell : Attributes → Type 0
-AttributesSpell a = (IsU64 a.0.0 × (QidSpells a.0.1.0 × (IsU32 a.0.1.1.0 × (IsU32 a.0.1.1.1.0 × (IsU32 a.0.1.1.1.1.0 × IsU64 a.0.1.1.1.1.1))))) × ((IsU64 a.1.0.0 × (IsU64 a.1.0.1.0 × (IsU64 a.1.0.1.1.0 × IsU64 a.1.0.1.1.1))) × ((IsU64 a.1.1.0.0 × (IsU64 a.1.1.0.1.0 × (IsU64 a.1.1.0.1.1.0 × IsU64 a.1.1.0.1.1.1))) × ((IsU64 a.1.1.1.0.0 × (IsU64 a.1.1.1.0.1.0 × (IsU64 a.1.1.1.0.1.1.0 × IsU64 a.1.1.1.0.1.1.1))) × (IsU64 a.1.1.1.1.0 × IsU64 a.1.1.1.1.1))))
+AttributesSpell a =
+    IdentitySpells a
+    × (FourSpell a.rdev a.size a.blksize a.blocks
+    × (FourSpell a.atime_sec a.atime_nsec a.mtime_sec a.mtime_nsec
+    × (FourSpell a.ctime_sec a.ctime_nsec a.btime_sec a.btime_nsec
+    × (IsU64 a.generation × IsU64 a.data_version))))
 
-abbrev pub attributes_at : Reads Attributes
-attributes_at = pair_reading (pair_reading u64_at (pair_reading qid_at (pair_reading u32_at (pair_reading u32_at (pair_reading u32_at u64_at))))) (pair_reading (pair_reading u64_at (pair_reading u64_at (pair_reading u64_at u64_at))) (pair_reading (pair_reading u64_at (pair_reading u64_at (pair_reading u64_at u64_at))) (pair_reading (pair_reading u64_at (pair_reading u64_at (pair_reading u64_at u64_at))) (pair_reading u64_at u64_at))))
+abbrev pub identity_at : Reads Identity
+identity_at =
+    pair_reading u64_at (pair_reading qid_at (pair_reading u32_at (pair_reading u32_at
+    (pair_reading u32_at u64_at))))
+
+abbrev pub groups_at : Reads Groups
+groups_at =
+    pair_reading identity_at (pair_reading four_at (pair_reading four_at (pair_reading four_at
+    (pair_reading u64_at u64_at))))
+
+-- the attributes whose groups these are
+abbrev pub attributes_in : Groups → Attributes
+attributes_in g = record {
+  valid = g.0.0;
+  qid = g.0.1.0;
+  mode = g.0.1.1.0;
+  uid = g.0.1.1.1.0;
+  gid = g.0.1.1.1.1.0;
+  nlink = g.0.1.1.1.1.1;
+  rdev = g.1.0.0;
+  size = g.1.0.1.0;
+  blksize = g.1.0.1.1.0;
+  blocks = g.1.0.1.1.1;
+  atime_sec = g.1.1.0.0;
+  atime_nsec = g.1.1.0.1.0;
+  mtime_sec = g.1.1.0.1.1.0;
+  mtime_nsec = g.1.1.0.1.1.1;
+  ctime_sec = g.1.1.1.0.0;
+  ctime_nsec = g.1.1.1.0.1.0;
+  btime_sec = g.1.1.1.0.1.1.0;
+  btime_nsec = g.1.1.1.0.1.1.1;
+  generation = g.1.1.1.1.0;
+  data_version = g.1.1.1.1.1;
+}
 
 -- the bytes of the fields
 abbrev pub reply_spelling : Reply → List ℕ
 reply_spelling (lerror ecode) = le32 ecode
-reply_spelling (statfs ty bsize blocks bfree bavail files ffree fsid namelen) = (le32 ty ++ (le32 bsize ++ (le64 blocks ++ (le64 bfree ++ le64 bavail)))) ++ (le64 files ++ (le64 ffree ++ (le64 fsid ++ le32 namelen)))
+reply_spelling (statfs ty bsize blocks bfree bavail files ffree fsid namelen) =
+    (le32 ty ++ (le32 bsize ++ (le64 blocks ++ (le64 bfree ++ le64 bavail))))
+    ++ (le64 files ++ (le64 ffree ++ (le64 fsid ++ le32 namelen)))
 reply_spelling (lopen qid iounit) = qid_spelling qid ++ le32 iounit
 reply_spelling (lcreate qid iounit) = qid_spelling qid ++ le32 iounit
 reply_spelling (symlink qid) = qid_spelling qid
@@ -155,7 +263,8 @@ reply_spelling xattrcreate = []
 reply_spelling (readdir payload) = data_spelling payload
 reply_spelling fsync = []
 reply_spelling (lock status) = le8 status
-reply_spelling (getlock kind_ start length proc_id client_id) = le8 kind_ ++ (le64 start ++ (le64 length ++ (le32 proc_id ++ text_spelling client_id)))
+reply_spelling (getlock kind_ start length proc_id client_id) = le8 kind_
+    ++ (le64 start ++ (le64 length ++ (le32 proc_id ++ text_spelling client_id)))
 reply_spelling link = []
 reply_spelling (mkdir qid) = qid_spelling qid
 reply_spelling renameat = []
@@ -173,7 +282,9 @@ reply_spelling remove = []
 -- each field fits its width
 abbrev pub ReplySpells : Reply → Type 0
 ReplySpells (lerror ecode) = IsU32 ecode
-ReplySpells (statfs ty bsize blocks bfree bavail files ffree fsid namelen) = (IsU32 ty × (IsU32 bsize × (IsU64 blocks × (IsU64 bfree × IsU64 bavail)))) × (IsU64 files × (IsU64 ffree × (IsU64 fsid × IsU32 namelen)))
+ReplySpells (statfs ty bsize blocks bfree bavail files ffree fsid namelen) =
+    (IsU32 ty × (IsU32 bsize × (IsU64 blocks × (IsU64 bfree × IsU64 bavail))))
+    × (IsU64 files × (IsU64 ffree × (IsU64 fsid × IsU32 namelen)))
 ReplySpells (lopen qid iounit) = QidSpells qid × IsU32 iounit
 ReplySpells (lcreate qid iounit) = QidSpells qid × IsU32 iounit
 ReplySpells (symlink qid) = QidSpells qid
@@ -187,7 +298,8 @@ ReplySpells xattrcreate = Unit {0}
 ReplySpells (readdir payload) = DataSpells payload
 ReplySpells fsync = Unit {0}
 ReplySpells (lock status) = IsU8 status
-ReplySpells (getlock kind_ start length proc_id client_id) = IsU8 kind_ × (IsU64 start × (IsU64 length × (IsU32 proc_id × TextSpells client_id)))
+ReplySpells (getlock kind_ start length proc_id client_id) = IsU8 kind_
+    × (IsU64 start × (IsU64 length × (IsU32 proc_id × TextSpells client_id)))
 ReplySpells link = Unit {0}
 ReplySpells (mkdir qid) = QidSpells qid
 ReplySpells renameat = Unit {0}
@@ -212,21 +324,28 @@ IsReadableReply m = Unit {0}
 abbrev pub reply_by : Reads (List ℕ) → ℕ → Reads Reply
 reply_by payload_at kind =
     if kind == 7 then as_message u32_at lerror else
-    if kind == 9 then as_message (pair_reading (pair_reading u32_at (pair_reading u32_at (pair_reading u64_at (pair_reading u64_at u64_at)))) (pair_reading u64_at (pair_reading u64_at (pair_reading u64_at u32_at)))) (λ x. statfs x.0.0 x.0.1.0 x.0.1.1.0 x.0.1.1.1.0 x.0.1.1.1.1 x.1.0 x.1.1.0 x.1.1.1.0 x.1.1.1.1) else
+    if kind == 9 then as_message (pair_reading
+    (pair_reading u32_at (pair_reading u32_at
+    (pair_reading u64_at (pair_reading u64_at u64_at))))
+    (pair_reading u64_at (pair_reading u64_at (pair_reading u64_at u32_at))))
+    (λ x. statfs x.0.0 x.0.1.0 x.0.1.1.0 x.0.1.1.1.0 x.0.1.1.1.1 x.1.0 x.1.1.0 x.1.1.1.0
+    x.1.1.1.1) else
     if kind == 13 then as_message (pair_reading qid_at u32_at) (λ x. lopen x.0 x.1) else
     if kind == 15 then as_message (pair_reading qid_at u32_at) (λ x. lcreate x.0 x.1) else
     if kind == 17 then as_message qid_at symlink else
     if kind == 19 then as_message qid_at mknod else
     if kind == 21 then give rename else
     if kind == 23 then as_message text_at readlink else
-    if kind == 25 then as_message attributes_at getattr else
+    if kind == 25 then as_message groups_at (λ x. getattr (attributes_in x)) else
     if kind == 27 then give setattr else
     if kind == 31 then as_message u64_at xattrwalk else
     if kind == 33 then give xattrcreate else
     if kind == 41 then as_message payload_at readdir else
     if kind == 51 then give fsync else
     if kind == 53 then as_message u8_at lock else
-    if kind == 55 then as_message (pair_reading u8_at (pair_reading u64_at (pair_reading u64_at (pair_reading u32_at text_at)))) (λ x. getlock x.0 x.1.0 x.1.1.0 x.1.1.1.0 x.1.1.1.1) else
+    if kind == 55 then as_message (pair_reading u8_at
+    (pair_reading u64_at (pair_reading u64_at (pair_reading u32_at text_at))))
+    (λ x. getlock x.0 x.1.0 x.1.1.0 x.1.1.1.0 x.1.1.1.1) else
     if kind == 71 then give link else
     if kind == 73 then as_message qid_at mkdir else
     if kind == 75 then give renameat else

@@ -1,6 +1,7 @@
 // Entries of a directory, as Rreaddir has them one after another.
 ghost use Rattle.p9_wire.specs.Reading.{Always};
-ghost use Rattle.p9_rmsg.specs.Dirents.{Entry, dirent_of, DirentSpells, dirent_spelling, dirent_at, dirent_law};
+ghost use Rattle.p9_rmsg.specs.Dirents.{Entry, dirent_of, DirentSpells, dirent_spelling, dirent_at};
+ghost use Rattle.p9_rmsg.specs.Dirents.{dirent_law};
 
 use p9_wire::error::WireError;
 use p9_wire::fields::Fields;
@@ -13,7 +14,8 @@ use std::alloc::Global;
 
 /// An entry of a directory: qid 13, offset 8, ty 1, name.
 ///
-/// `offset` is the cookie to read on from after this entry, `ty` the file's type as `d_type` of readdir(3) tells it.
+/// `offset` is the cookie to read on from after this entry, `ty` the file's type as `d_type` of
+/// readdir(3) tells it.
 #[derive(Debug, Drop)]
 pub struct Dirent {
     pub qid: Qid,

@@ -12,5 +12,6 @@ pub fn refused_with_enoent()
 /// One directory was walked to, inode 2 in version 1, under tag 3.
 #[tactic(auto, using(crate::proofs::ByComputing::rwalk_example))]
 pub fn walked_to_one_directory()
-    ensures { reply_frame 3 (walk ((128, (1, 2)) ∷ [])) ≡ 22 ∷ 0 ∷ 0 ∷ 0 ∷ 111 ∷ 3 ∷ 0 ∷ 1 ∷ 0 ∷ 128 ∷ 1 ∷ 0 ∷ 0 ∷ 0 ∷ 2 ∷ 0 ∷ 0 ∷ 0 ∷ 0 ∷ 0 ∷ 0 ∷ 0 ∷ [] }
+    ensures { reply_frame 3 (walk ((128, (1, 2)) ∷ [])) ≡ 22 ∷ 0 ∷ 0 ∷ 0 ∷ 111 ∷ 3 ∷ 0 ∷ 1 ∷ 0
+        ∷ 128 ∷ 1 ∷ 0 ∷ 0 ∷ 0 ∷ 2 ∷ 0 ∷ 0 ∷ 0 ∷ 0 ∷ 0 ∷ 0 ∷ 0 ∷ [] }
 {}

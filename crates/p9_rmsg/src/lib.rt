@@ -1,11 +1,12 @@
-//! The messages that a 9P2000.L server answers, the frames that they are sent in, and entries of directories.
+//! The messages that a 9P2000.L server answers, the frames that they are sent in, and entries of
+//! directories.
 #![tactic(auto)]
 
+mod body;
 pub mod dirent;
-pub mod examples;
+mod examples;
 mod fields;
 pub mod frame;
-mod framed;
 pub mod kind;
 pub mod message;
 #[cfg(test)]

@@ -1,4 +1,5 @@
-// The messages that a server answers, in the order of their types, with their fields in the order of the wire.
+// The messages that a server answers, in the order of their types, with their fields in the order
+// of the wire.
 use p9_wire::data::Data;
 use p9_wire::qid::Qid;
 use p9_wire::text::P9String;
@@ -55,7 +56,8 @@ pub struct Rreadlink {
     pub target: P9String,
 }
 
-/// A file's attributes; the bits of `valid` name those that are told. Times are in seconds and nanoseconds.
+/// A file's attributes; the bits of `valid` name those that are told. Times are in seconds and
+/// nanoseconds.
 #[derive(Debug, Drop)]
 pub struct Rgetattr {
     pub valid: u64,

@@ -4,6 +4,8 @@ use p9_wire::data::Data;
 use p9_wire::error::WireError;
 use p9_wire::format::WireFormat;
 use port_base::memory::{MemSink, SliceSource};
+use std::alloc::Global;
+use std::process::Abort;
 use std::test::Fail;
 
 // A frame of every type with the tag 0x0102, and its message.
@@ -93,22 +95,44 @@ const FRAMES: [(&[u8], &[u8]); 29] = [
     (b"\x07\0\0\0\x7b\x02\x01", b"Remove"),
 ];
 
-#[test]
-fn each_type_has_its_bytes(rt: HostRuntime) -> Result<(), Fail> {
-    let alloc = rt.alloc();
-    for (bytes, text) in FRAMES {
-        let mut source = SliceSource::new(bytes);
-        let frame = Rframe::decode(alloc, &mut source)?;
-        assert!(rt; source.is_at_end(), "{bytes:?}");
-        assert_eq!(rt; frame.tag, 0x0102, "{bytes:?}");
-        let message = &frame.msg;
-        assert_eq!(rt; format!(in alloc; "{message:?}")?.as_bytes(), text);
-        let mut sink = MemSink::new(alloc);
-        frame.encode(&mut sink)?;
-        assert_eq!(rt; sink.as_bytes(), bytes, "{bytes:?}");
-        assert_eq!(rt; frame.byte_size() as usize, bytes.len(), "{bytes:?}");
+// The frame that these bytes are, all of them.
+fn frame_of(rt: &impl Abort, alloc: Global, bytes: &[u8]) -> Result<Rframe, Fail> {
+    let mut source = SliceSource::new(bytes);
+    let frame = Rframe::decode(alloc, &mut source)?;
+    assert!(rt; source.is_at_end());
+    Ok(frame)
+}
+
+fn printed(alloc: Global, frame: &Rframe) -> Result<String, Fail> {
+    let message = &frame.msg;
+    Ok(format!(in alloc; "{message:?}")?)
+}
+
+fn spelled(alloc: Global, frame: &Rframe) -> Result<MemSink, Fail> {
+    let mut sink = MemSink::new(alloc);
+    frame.encode(&mut sink)?;
+    Ok(sink)
+}
+
+// The frame is read with the tag 0x0102, printed so and spelled by the same bytes.
+fn is_spelled(rt: &impl Abort, alloc: Global, bytes: &[u8], text: &[u8]) -> Result<(), Fail> {
+    let frame = frame_of(rt, alloc, bytes)?;
+    assert_eq!(rt; frame.tag, 0x0102);
+    assert!(rt; printed(alloc, &frame)?.as_bytes() == text);
+    assert!(rt; spelled(alloc, &frame)?.as_bytes() == bytes);
+    Ok(())
+}
+
+fn are_spelled(rt: &impl Abort, alloc: Global, rows: &[(&[u8], &[u8])]) -> Result<(), Fail> {
+    for (bytes, text) in rows {
+        is_spelled(rt, alloc, bytes, text)?;
     }
     Ok(())
+}
+
+#[test]
+fn each_type_has_its_bytes(rt: HostRuntime) -> Result<(), Fail> {
+    are_spelled(&rt, rt.alloc(), &FRAMES)
 }
 
 // Frames that are refused, and the fault that is told.
@@ -147,40 +171,36 @@ const MALFORMED: [(&[u8], WireError); 14] = [
     (b"\x07\0\0\0y\x01", WireError::UnexpectedEof),
 ];
 
-#[test]
-fn malformed_frames_are_refused_and_drained(rt: HostRuntime) -> Result<(), Fail> {
-    let alloc = rt.alloc();
-    for (bytes, want) in MALFORMED {
+fn are_refused(rt: &impl Abort, alloc: Global, rows: &[(&[u8], WireError)]) -> Result<(), Fail> {
+    for (bytes, want) in rows {
         let mut source = SliceSource::new(bytes);
-        assert_eq!(rt;
-            Rframe::decode(alloc, &mut source).err(),
-            Some(want),
-            "{bytes:?}"
-        );
-        assert!(rt; source.is_at_end(), "{bytes:?}");
+        assert!(rt; Rframe::decode(alloc, &mut source).err() == Some(*want));
+        assert!(rt; source.is_at_end());
     }
     Ok(())
 }
 
 #[test]
+fn malformed_frames_are_refused_and_drained(rt: HostRuntime) -> Result<(), Fail> {
+    are_refused(&rt, rt.alloc(), &MALFORMED)
+}
+
+// A frame that is longer than what is read at once.
+fn long_frame(alloc: Global) -> Result<Rframe, Fail> {
+    let payload = Data(vec![in alloc; 5u8; 200000]?);
+    Ok(Rframe {
+        tag: 3,
+        msg: Rmessage::Read(Rread { payload }),
+    })
+}
+
+#[test]
 fn a_long_frame_comes_in_pieces(rt: HostRuntime) -> Result<(), Fail> {
     let alloc = rt.alloc();
-    let message = Rmessage::Read(Rread {
-        payload: Data(vec![in alloc; 5u8; 200000]?),
-    });
-    let mut sink = MemSink::new(alloc);
-    Rframe {
-        tag: 3,
-        msg: message,
-    }
-    .encode(&mut sink)?;
-    assert_eq!(rt; sink.as_bytes().len(), 200011);
-    let mut source = SliceSource::new(sink.as_bytes());
-    let again = Rframe::decode(alloc, &mut source)?;
-    match &again.msg {
-        Rmessage::Read(read) => assert!(rt; read.payload == Data(vec![in alloc; 5u8; 200000]?)),
-        _ => assert!(rt; false),
-    }
+    let bytes = spelled(alloc, &long_frame(alloc)?)?;
+    assert_eq!(rt; bytes.as_bytes().len(), 200011);
+    let again = spelled(alloc, &frame_of(&rt, alloc, bytes.as_bytes())?)?;
+    assert!(rt; again.as_bytes() == bytes.as_bytes());
     Ok(())
 }
 

@@ -5,7 +5,8 @@ use Rattle.p9_tmsg.specs.Messages.Message.{walk, clunk}
 use Rattle.p9_tmsg.specs.Frames.{message_frame}
 
 -- fid 1, newfid 2, the one name `a`
-pub twalk_example : message_frame 3 (walk 1 2 ((97 ∷ []) ∷ [])) ≡ 20 ∷ 0 ∷ 0 ∷ 0 ∷ 110 ∷ 3 ∷ 0 ∷ 1 ∷ 0 ∷ 0 ∷ 0 ∷ 2 ∷ 0 ∷ 0 ∷ 0 ∷ 1 ∷ 0 ∷ 1 ∷ 0 ∷ 97 ∷ []
+pub twalk_example : message_frame 3 (walk 1 2 ((97 ∷ []) ∷ [])) ≡ 20 ∷ 0 ∷ 0 ∷ 0 ∷ 110 ∷ 3 ∷ 0 ∷ 1
+    ∷ 0 ∷ 0 ∷ 0 ∷ 2 ∷ 0 ∷ 0 ∷ 0 ∷ 1 ∷ 0 ∷ 1 ∷ 0 ∷ 97 ∷ []
 unfolding frame
 twalk_example = refl
 

@@ -2,9 +2,11 @@
 use Rattle.std.specs.Prelude.{ℕ, ◌-◌, ◌^◌, List, Result}
 use Rattle.p9_wire.specs.declared.error.WireError.{WireError}
 use Rattle.p9_wire.specs.Reading.{Reads}
-use Rattle.p9_wire.specs.Frames.{frame, framed_reading, result_view, FrameSpells, frame_spelling, IsWhole, whole_spelling}
+use Rattle.p9_wire.specs.Frames.{frame, framed_reading, result_view, FrameSpells, frame_spelling}
+use Rattle.p9_wire.specs.Frames.{IsWhole, whole_spelling}
 use Rattle.p9_tmsg.specs.declared.frame.Tframe.{Tframe}
-use Rattle.p9_tmsg.specs.Messages.{Message, message_of, message_kind, message_spelling, MessageSpells, IsReadableMessage, message_reading}
+use Rattle.p9_tmsg.specs.Messages.{Message, message_of, message_kind, message_spelling}
+use Rattle.p9_tmsg.specs.Messages.{MessageSpells, IsReadableMessage, message_reading}
 
 -- the message behind its size, type and tag
 abbrev pub message_frame : (tag : ℕ) → Message → List ℕ

@@ -1,9 +1,13 @@
--- The messages that a client sends, without where they lie in memory, and how they are spelled and read.
+-- The messages that a client sends, without where they lie in memory, and how they are spelled and
+-- read.
 use Rattle.std.specs.Prelude.{ℕ, List, ◌++◌, ◌==◌, if◌then◌else◌, map}
 use Rattle.p9_wire.specs.declared.error.WireError.TheVariants.{InvalidData}
 use Rattle.p9_wire.specs.Reading.{Reads, refuse}
 use Rattle.p9_wire.specs.Fields.{pair_reading}
-use Rattle.p9_wire.specs.Values.{DataSpells, IsU16, IsU32, IsU64, IsU8, TextSpells, TextsSpell, IsReadableData, data_spelling, le16, le32, le64, le8, text_spelling, texts_spelling, data_at, text_at, texts_at, u16_at, u32_at, u64_at, u8_at}
+use Rattle.p9_wire.specs.Values.{DataSpells, IsU16, IsU32, IsU64, IsU8, TextSpells, TextsSpell}
+use Rattle.p9_wire.specs.Values.{IsReadableData, data_spelling, le16, le32, le64, le8}
+use Rattle.p9_wire.specs.Values.{text_spelling, texts_spelling, data_at, text_at, texts_at, u16_at}
+use Rattle.p9_wire.specs.Values.{u32_at, u64_at, u8_at}
 use Rattle.p9_wire.specs.Kinds.{as_message}
 use Rattle.p9_tmsg.specs.declared.message.Tmessage.{Tmessage}
 use Rattle.p9_tmsg.specs.declared.message.Tmessage.TheVariants as t
@@ -48,7 +52,8 @@ message_of (t.Mknod m) = mknod m.dfid m.name m.mode m.major m.minor m.gid
 message_of (t.Rename m) = rename m.fid m.dfid m.name
 message_of (t.Readlink m) = readlink m.fid
 message_of (t.GetAttr m) = getattr m.fid m.request_mask
-message_of (t.SetAttr m) = setattr m.fid m.valid m.mode m.uid m.gid m.size m.atime_sec m.atime_nsec m.mtime_sec m.mtime_nsec
+message_of (t.SetAttr m) = setattr m.fid m.valid m.mode m.uid m.gid m.size m.atime_sec m.atime_nsec
+    m.mtime_sec m.mtime_nsec
 message_of (t.XattrWalk m) = xattrwalk m.fid m.newfid m.name
 message_of (t.XattrCreate m) = xattrcreate m.fid m.name m.attr_size m.flags
 message_of (t.Readdir m) = readdir m.fid m.offset m.count
@@ -104,26 +109,39 @@ message_kind (remove fid) = 122
 abbrev pub message_spelling : Message → List ℕ
 message_spelling (statfs fid) = le32 fid
 message_spelling (lopen fid flags) = le32 fid ++ le32 flags
-message_spelling (lcreate fid name flags mode gid) = le32 fid ++ (text_spelling name ++ (le32 flags ++ (le32 mode ++ le32 gid)))
-message_spelling (symlink fid name symtgt gid) = le32 fid ++ (text_spelling name ++ (text_spelling symtgt ++ le32 gid))
-message_spelling (mknod dfid name mode major minor gid) = le32 dfid ++ (text_spelling name ++ (le32 mode ++ (le32 major ++ (le32 minor ++ le32 gid))))
+message_spelling (lcreate fid name flags mode gid) = le32 fid
+    ++ (text_spelling name ++ (le32 flags ++ (le32 mode ++ le32 gid)))
+message_spelling (symlink fid name symtgt gid) = le32 fid
+    ++ (text_spelling name ++ (text_spelling symtgt ++ le32 gid))
+message_spelling (mknod dfid name mode major minor gid) = le32 dfid
+    ++ (text_spelling name ++ (le32 mode ++ (le32 major ++ (le32 minor ++ le32 gid))))
 message_spelling (rename fid dfid name) = le32 fid ++ (le32 dfid ++ text_spelling name)
 message_spelling (readlink fid) = le32 fid
 message_spelling (getattr fid request_mask) = le32 fid ++ le64 request_mask
-message_spelling (setattr fid valid mode uid gid size atime_sec atime_nsec mtime_sec mtime_nsec) = (le32 fid ++ (le32 valid ++ (le32 mode ++ (le32 uid ++ (le32 gid ++ le64 size))))) ++ (le64 atime_sec ++ (le64 atime_nsec ++ (le64 mtime_sec ++ le64 mtime_nsec)))
+message_spelling (setattr fid valid mode uid gid size atime_sec atime_nsec mtime_sec mtime_nsec) =
+    (le32 fid ++ (le32 valid ++ (le32 mode ++ (le32 uid ++ (le32 gid ++ le64 size)))))
+    ++ (le64 atime_sec ++ (le64 atime_nsec ++ (le64 mtime_sec ++ le64 mtime_nsec)))
 message_spelling (xattrwalk fid newfid name) = le32 fid ++ (le32 newfid ++ text_spelling name)
-message_spelling (xattrcreate fid name attr_size flags) = le32 fid ++ (text_spelling name ++ (le64 attr_size ++ le32 flags))
+message_spelling (xattrcreate fid name attr_size flags) = le32 fid
+    ++ (text_spelling name ++ (le64 attr_size ++ le32 flags))
 message_spelling (readdir fid offset count) = le32 fid ++ (le64 offset ++ le32 count)
 message_spelling (fsync fid datasync) = le32 fid ++ le32 datasync
-message_spelling (lock fid kind_ flags start length proc_id client_id) = (le32 fid ++ (le8 kind_ ++ le32 flags)) ++ (le64 start ++ (le64 length ++ (le32 proc_id ++ text_spelling client_id)))
-message_spelling (getlock fid kind_ start length proc_id client_id) = le32 fid ++ (le8 kind_ ++ (le64 start ++ (le64 length ++ (le32 proc_id ++ text_spelling client_id))))
+message_spelling (lock fid kind_ flags start length proc_id client_id) =
+    (le32 fid ++ (le8 kind_ ++ le32 flags))
+    ++ (le64 start ++ (le64 length ++ (le32 proc_id ++ text_spelling client_id)))
+message_spelling (getlock fid kind_ start length proc_id client_id) = le32 fid
+    ++ (le8 kind_ ++ (le64 start ++ (le64 length ++ (le32 proc_id ++ text_spelling client_id))))
 message_spelling (link dfid fid name) = le32 dfid ++ (le32 fid ++ text_spelling name)
-message_spelling (mkdir dfid name mode gid) = le32 dfid ++ (text_spelling name ++ (le32 mode ++ le32 gid))
-message_spelling (renameat olddirfid oldname newdirfid newname) = le32 olddirfid ++ (text_spelling oldname ++ (le32 newdirfid ++ text_spelling newname))
+message_spelling (mkdir dfid name mode gid) = le32 dfid
+    ++ (text_spelling name ++ (le32 mode ++ le32 gid))
+message_spelling (renameat olddirfid oldname newdirfid newname) = le32 olddirfid
+    ++ (text_spelling oldname ++ (le32 newdirfid ++ text_spelling newname))
 message_spelling (unlinkat dirfd name flags) = le32 dirfd ++ (text_spelling name ++ le32 flags)
 message_spelling (version msize protocol) = le32 msize ++ text_spelling protocol
-message_spelling (auth afid uname aname n_uname) = le32 afid ++ (text_spelling uname ++ (text_spelling aname ++ le32 n_uname))
-message_spelling (attach fid afid uname aname n_uname) = le32 fid ++ (le32 afid ++ (text_spelling uname ++ (text_spelling aname ++ le32 n_uname)))
+message_spelling (auth afid uname aname n_uname) = le32 afid
+    ++ (text_spelling uname ++ (text_spelling aname ++ le32 n_uname))
+message_spelling (attach fid afid uname aname n_uname) = le32 fid
+    ++ (le32 afid ++ (text_spelling uname ++ (text_spelling aname ++ le32 n_uname)))
 message_spelling (flush oldtag) = le16 oldtag
 message_spelling (walk fid newfid wnames) = le32 fid ++ (le32 newfid ++ texts_spelling wnames)
 message_spelling (read fid offset count) = le32 fid ++ (le64 offset ++ le32 count)
@@ -135,26 +153,38 @@ message_spelling (remove fid) = le32 fid
 abbrev pub MessageSpells : Message → Type 0
 MessageSpells (statfs fid) = IsU32 fid
 MessageSpells (lopen fid flags) = IsU32 fid × IsU32 flags
-MessageSpells (lcreate fid name flags mode gid) = IsU32 fid × (TextSpells name × (IsU32 flags × (IsU32 mode × IsU32 gid)))
-MessageSpells (symlink fid name symtgt gid) = IsU32 fid × (TextSpells name × (TextSpells symtgt × IsU32 gid))
-MessageSpells (mknod dfid name mode major minor gid) = IsU32 dfid × (TextSpells name × (IsU32 mode × (IsU32 major × (IsU32 minor × IsU32 gid))))
+MessageSpells (lcreate fid name flags mode gid) = IsU32 fid
+    × (TextSpells name × (IsU32 flags × (IsU32 mode × IsU32 gid)))
+MessageSpells (symlink fid name symtgt gid) = IsU32 fid
+    × (TextSpells name × (TextSpells symtgt × IsU32 gid))
+MessageSpells (mknod dfid name mode major minor gid) = IsU32 dfid
+    × (TextSpells name × (IsU32 mode × (IsU32 major × (IsU32 minor × IsU32 gid))))
 MessageSpells (rename fid dfid name) = IsU32 fid × (IsU32 dfid × TextSpells name)
 MessageSpells (readlink fid) = IsU32 fid
 MessageSpells (getattr fid request_mask) = IsU32 fid × IsU64 request_mask
-MessageSpells (setattr fid valid mode uid gid size atime_sec atime_nsec mtime_sec mtime_nsec) = (IsU32 fid × (IsU32 valid × (IsU32 mode × (IsU32 uid × (IsU32 gid × IsU64 size))))) × (IsU64 atime_sec × (IsU64 atime_nsec × (IsU64 mtime_sec × IsU64 mtime_nsec)))
+MessageSpells (setattr fid valid mode uid gid size atime_sec atime_nsec mtime_sec mtime_nsec) =
+    (IsU32 fid × (IsU32 valid × (IsU32 mode × (IsU32 uid × (IsU32 gid × IsU64 size)))))
+    × (IsU64 atime_sec × (IsU64 atime_nsec × (IsU64 mtime_sec × IsU64 mtime_nsec)))
 MessageSpells (xattrwalk fid newfid name) = IsU32 fid × (IsU32 newfid × TextSpells name)
-MessageSpells (xattrcreate fid name attr_size flags) = IsU32 fid × (TextSpells name × (IsU64 attr_size × IsU32 flags))
+MessageSpells (xattrcreate fid name attr_size flags) = IsU32 fid
+    × (TextSpells name × (IsU64 attr_size × IsU32 flags))
 MessageSpells (readdir fid offset count) = IsU32 fid × (IsU64 offset × IsU32 count)
 MessageSpells (fsync fid datasync) = IsU32 fid × IsU32 datasync
-MessageSpells (lock fid kind_ flags start length proc_id client_id) = (IsU32 fid × (IsU8 kind_ × IsU32 flags)) × (IsU64 start × (IsU64 length × (IsU32 proc_id × TextSpells client_id)))
-MessageSpells (getlock fid kind_ start length proc_id client_id) = IsU32 fid × (IsU8 kind_ × (IsU64 start × (IsU64 length × (IsU32 proc_id × TextSpells client_id))))
+MessageSpells (lock fid kind_ flags start length proc_id client_id) =
+    (IsU32 fid × (IsU8 kind_ × IsU32 flags))
+    × (IsU64 start × (IsU64 length × (IsU32 proc_id × TextSpells client_id)))
+MessageSpells (getlock fid kind_ start length proc_id client_id) = IsU32 fid
+    × (IsU8 kind_ × (IsU64 start × (IsU64 length × (IsU32 proc_id × TextSpells client_id))))
 MessageSpells (link dfid fid name) = IsU32 dfid × (IsU32 fid × TextSpells name)
 MessageSpells (mkdir dfid name mode gid) = IsU32 dfid × (TextSpells name × (IsU32 mode × IsU32 gid))
-MessageSpells (renameat olddirfid oldname newdirfid newname) = IsU32 olddirfid × (TextSpells oldname × (IsU32 newdirfid × TextSpells newname))
+MessageSpells (renameat olddirfid oldname newdirfid newname) = IsU32 olddirfid
+    × (TextSpells oldname × (IsU32 newdirfid × TextSpells newname))
 MessageSpells (unlinkat dirfd name flags) = IsU32 dirfd × (TextSpells name × IsU32 flags)
 MessageSpells (version msize protocol) = IsU32 msize × TextSpells protocol
-MessageSpells (auth afid uname aname n_uname) = IsU32 afid × (TextSpells uname × (TextSpells aname × IsU32 n_uname))
-MessageSpells (attach fid afid uname aname n_uname) = IsU32 fid × (IsU32 afid × (TextSpells uname × (TextSpells aname × IsU32 n_uname)))
+MessageSpells (auth afid uname aname n_uname) = IsU32 afid
+    × (TextSpells uname × (TextSpells aname × IsU32 n_uname))
+MessageSpells (attach fid afid uname aname n_uname) = IsU32 fid
+    × (IsU32 afid × (TextSpells uname × (TextSpells aname × IsU32 n_uname)))
 MessageSpells (flush oldtag) = IsU16 oldtag
 MessageSpells (walk fid newfid wnames) = IsU32 fid × (IsU32 newfid × TextsSpell wnames)
 MessageSpells (read fid offset count) = IsU32 fid × (IsU64 offset × IsU32 count)
@@ -172,30 +202,65 @@ abbrev pub message_by : Reads (List ℕ) → ℕ → Reads Message
 message_by payload_at kind =
     if kind == 8 then as_message u32_at statfs else
     if kind == 12 then as_message (pair_reading u32_at u32_at) (λ x. lopen x.0 x.1) else
-    if kind == 14 then as_message (pair_reading u32_at (pair_reading text_at (pair_reading u32_at (pair_reading u32_at u32_at)))) (λ x. lcreate x.0 x.1.0 x.1.1.0 x.1.1.1.0 x.1.1.1.1) else
-    if kind == 16 then as_message (pair_reading u32_at (pair_reading text_at (pair_reading text_at u32_at))) (λ x. symlink x.0 x.1.0 x.1.1.0 x.1.1.1) else
-    if kind == 18 then as_message (pair_reading u32_at (pair_reading text_at (pair_reading u32_at (pair_reading u32_at (pair_reading u32_at u32_at))))) (λ x. mknod x.0 x.1.0 x.1.1.0 x.1.1.1.0 x.1.1.1.1.0 x.1.1.1.1.1) else
-    if kind == 20 then as_message (pair_reading u32_at (pair_reading u32_at text_at)) (λ x. rename x.0 x.1.0 x.1.1) else
+    if kind == 14 then as_message (pair_reading u32_at
+    (pair_reading text_at (pair_reading u32_at (pair_reading u32_at u32_at))))
+    (λ x. lcreate x.0 x.1.0 x.1.1.0 x.1.1.1.0 x.1.1.1.1) else
+    if kind == 16 then as_message (pair_reading u32_at
+    (pair_reading text_at (pair_reading text_at u32_at)))
+    (λ x. symlink x.0 x.1.0 x.1.1.0 x.1.1.1) else
+    if kind == 18 then as_message (pair_reading u32_at
+    (pair_reading text_at (pair_reading u32_at
+    (pair_reading u32_at (pair_reading u32_at u32_at)))))
+    (λ x. mknod x.0 x.1.0 x.1.1.0 x.1.1.1.0 x.1.1.1.1.0 x.1.1.1.1.1) else
+    if kind == 20 then as_message (pair_reading u32_at (pair_reading u32_at text_at))
+    (λ x. rename x.0 x.1.0 x.1.1) else
     if kind == 22 then as_message u32_at readlink else
     if kind == 24 then as_message (pair_reading u32_at u64_at) (λ x. getattr x.0 x.1) else
-    if kind == 26 then as_message (pair_reading (pair_reading u32_at (pair_reading u32_at (pair_reading u32_at (pair_reading u32_at (pair_reading u32_at u64_at))))) (pair_reading u64_at (pair_reading u64_at (pair_reading u64_at u64_at)))) (λ x. setattr x.0.0 x.0.1.0 x.0.1.1.0 x.0.1.1.1.0 x.0.1.1.1.1.0 x.0.1.1.1.1.1 x.1.0 x.1.1.0 x.1.1.1.0 x.1.1.1.1) else
-    if kind == 30 then as_message (pair_reading u32_at (pair_reading u32_at text_at)) (λ x. xattrwalk x.0 x.1.0 x.1.1) else
-    if kind == 32 then as_message (pair_reading u32_at (pair_reading text_at (pair_reading u64_at u32_at))) (λ x. xattrcreate x.0 x.1.0 x.1.1.0 x.1.1.1) else
-    if kind == 40 then as_message (pair_reading u32_at (pair_reading u64_at u32_at)) (λ x. readdir x.0 x.1.0 x.1.1) else
+    if kind == 26 then as_message (pair_reading
+    (pair_reading u32_at (pair_reading u32_at
+    (pair_reading u32_at (pair_reading u32_at (pair_reading u32_at u64_at)))))
+    (pair_reading u64_at (pair_reading u64_at (pair_reading u64_at u64_at))))
+    (λ x. setattr x.0.0 x.0.1.0 x.0.1.1.0 x.0.1.1.1.0 x.0.1.1.1.1.0 x.0.1.1.1.1.1 x.1.0 x.1.1.0
+    x.1.1.1.0 x.1.1.1.1) else
+    if kind == 30 then as_message (pair_reading u32_at (pair_reading u32_at text_at))
+    (λ x. xattrwalk x.0 x.1.0 x.1.1) else
+    if kind == 32 then as_message (pair_reading u32_at
+    (pair_reading text_at (pair_reading u64_at u32_at)))
+    (λ x. xattrcreate x.0 x.1.0 x.1.1.0 x.1.1.1) else
+    if kind == 40 then as_message (pair_reading u32_at (pair_reading u64_at u32_at))
+    (λ x. readdir x.0 x.1.0 x.1.1) else
     if kind == 50 then as_message (pair_reading u32_at u32_at) (λ x. fsync x.0 x.1) else
-    if kind == 52 then as_message (pair_reading (pair_reading u32_at (pair_reading u8_at u32_at)) (pair_reading u64_at (pair_reading u64_at (pair_reading u32_at text_at)))) (λ x. lock x.0.0 x.0.1.0 x.0.1.1 x.1.0 x.1.1.0 x.1.1.1.0 x.1.1.1.1) else
-    if kind == 54 then as_message (pair_reading u32_at (pair_reading u8_at (pair_reading u64_at (pair_reading u64_at (pair_reading u32_at text_at))))) (λ x. getlock x.0 x.1.0 x.1.1.0 x.1.1.1.0 x.1.1.1.1.0 x.1.1.1.1.1) else
-    if kind == 70 then as_message (pair_reading u32_at (pair_reading u32_at text_at)) (λ x. link x.0 x.1.0 x.1.1) else
-    if kind == 72 then as_message (pair_reading u32_at (pair_reading text_at (pair_reading u32_at u32_at))) (λ x. mkdir x.0 x.1.0 x.1.1.0 x.1.1.1) else
-    if kind == 74 then as_message (pair_reading u32_at (pair_reading text_at (pair_reading u32_at text_at))) (λ x. renameat x.0 x.1.0 x.1.1.0 x.1.1.1) else
-    if kind == 76 then as_message (pair_reading u32_at (pair_reading text_at u32_at)) (λ x. unlinkat x.0 x.1.0 x.1.1) else
+    if kind == 52 then as_message (pair_reading (pair_reading u32_at (pair_reading u8_at u32_at))
+    (pair_reading u64_at (pair_reading u64_at (pair_reading u32_at text_at))))
+    (λ x. lock x.0.0 x.0.1.0 x.0.1.1 x.1.0 x.1.1.0 x.1.1.1.0 x.1.1.1.1) else
+    if kind == 54 then as_message (pair_reading u32_at
+    (pair_reading u8_at (pair_reading u64_at
+    (pair_reading u64_at (pair_reading u32_at text_at)))))
+    (λ x. getlock x.0 x.1.0 x.1.1.0 x.1.1.1.0 x.1.1.1.1.0 x.1.1.1.1.1) else
+    if kind == 70 then as_message (pair_reading u32_at (pair_reading u32_at text_at))
+    (λ x. link x.0 x.1.0 x.1.1) else
+    if kind == 72 then as_message (pair_reading u32_at
+    (pair_reading text_at (pair_reading u32_at u32_at)))
+    (λ x. mkdir x.0 x.1.0 x.1.1.0 x.1.1.1) else
+    if kind == 74 then as_message (pair_reading u32_at
+    (pair_reading text_at (pair_reading u32_at text_at)))
+    (λ x. renameat x.0 x.1.0 x.1.1.0 x.1.1.1) else
+    if kind == 76 then as_message (pair_reading u32_at (pair_reading text_at u32_at))
+    (λ x. unlinkat x.0 x.1.0 x.1.1) else
     if kind == 100 then as_message (pair_reading u32_at text_at) (λ x. version x.0 x.1) else
-    if kind == 102 then as_message (pair_reading u32_at (pair_reading text_at (pair_reading text_at u32_at))) (λ x. auth x.0 x.1.0 x.1.1.0 x.1.1.1) else
-    if kind == 104 then as_message (pair_reading u32_at (pair_reading u32_at (pair_reading text_at (pair_reading text_at u32_at)))) (λ x. attach x.0 x.1.0 x.1.1.0 x.1.1.1.0 x.1.1.1.1) else
+    if kind == 102 then as_message (pair_reading u32_at
+    (pair_reading text_at (pair_reading text_at u32_at)))
+    (λ x. auth x.0 x.1.0 x.1.1.0 x.1.1.1) else
+    if kind == 104 then as_message (pair_reading u32_at
+    (pair_reading u32_at (pair_reading text_at (pair_reading text_at u32_at))))
+    (λ x. attach x.0 x.1.0 x.1.1.0 x.1.1.1.0 x.1.1.1.1) else
     if kind == 108 then as_message u16_at flush else
-    if kind == 110 then as_message (pair_reading u32_at (pair_reading u32_at texts_at)) (λ x. walk x.0 x.1.0 x.1.1) else
-    if kind == 116 then as_message (pair_reading u32_at (pair_reading u64_at u32_at)) (λ x. read x.0 x.1.0 x.1.1) else
-    if kind == 118 then as_message (pair_reading u32_at (pair_reading u64_at payload_at)) (λ x. write x.0 x.1.0 x.1.1) else
+    if kind == 110 then as_message (pair_reading u32_at (pair_reading u32_at texts_at))
+    (λ x. walk x.0 x.1.0 x.1.1) else
+    if kind == 116 then as_message (pair_reading u32_at (pair_reading u64_at u32_at))
+    (λ x. read x.0 x.1.0 x.1.1) else
+    if kind == 118 then as_message (pair_reading u32_at (pair_reading u64_at payload_at))
+    (λ x. write x.0 x.1.0 x.1.1) else
     if kind == 120 then as_message u32_at clunk else
     if kind == 122 then as_message u32_at remove else
     refuse InvalidData

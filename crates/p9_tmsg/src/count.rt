@@ -10,7 +10,8 @@ use port_base::sink::NoMemory;
 use std::alloc::Global;
 use std::mem;
 
-/// How many frames stand at the front of the bytes, one after another, before the first that isn't a whole frame.
+/// How many frames stand at the front of the bytes, one after another, before the first that isn't
+/// a whole frame.
 ///
 /// A frame whose body is malformed is counted too.
 pub fn tframe_decode(alloc: Global, bytes: &[u8]) -> Result<usize, NoMemory>

@@ -6,7 +6,8 @@ ghost use Rattle.p9_tmsg.specs.Frames.{message_frame};
 /// A walk from fid 1 by the name `a`, which is to be fid 2, under tag 3.
 #[tactic(auto, using(crate::proofs::ByComputing::twalk_example))]
 pub fn walk_to_one_name()
-    ensures { message_frame 3 (walk 1 2 ((97 ∷ []) ∷ [])) ≡ 20 ∷ 0 ∷ 0 ∷ 0 ∷ 110 ∷ 3 ∷ 0 ∷ 1 ∷ 0 ∷ 0 ∷ 0 ∷ 2 ∷ 0 ∷ 0 ∷ 0 ∷ 1 ∷ 0 ∷ 1 ∷ 0 ∷ 97 ∷ [] }
+    ensures { message_frame 3 (walk 1 2 ((97 ∷ []) ∷ [])) ≡ 20 ∷ 0 ∷ 0 ∷ 0 ∷ 110 ∷ 3 ∷ 0 ∷ 1 ∷ 0
+        ∷ 0 ∷ 0 ∷ 2 ∷ 0 ∷ 0 ∷ 0 ∷ 1 ∷ 0 ∷ 1 ∷ 0 ∷ 97 ∷ [] }
 {}
 
 /// Fid 5 is let go, under tag 258.

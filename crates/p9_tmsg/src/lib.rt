@@ -1,11 +1,11 @@
 //! The messages that a 9P2000.L client sends, and the frames that they are sent in.
 #![tactic(auto)]
 
+mod body;
 pub mod count;
-pub mod examples;
+mod examples;
 mod fields;
 pub mod frame;
-mod framed;
 pub mod kind;
 pub mod message;
 #[cfg(test)]

@@ -1,4 +1,5 @@
-// The messages that a client sends, in the order of their types, with their fields in the order of the wire.
+// The messages that a client sends, in the order of their types, with their fields in the order of
+// the wire.
 use p9_wire::data::Data;
 use p9_wire::text::P9String;
 
@@ -66,7 +67,8 @@ pub struct Tgetattr {
     pub request_mask: u64,
 }
 
-/// Changes those attributes of the fid's file that the bits of `valid` name. Times are in seconds and nanoseconds.
+/// Changes those attributes of the fid's file that the bits of `valid` name. Times are in seconds
+/// and nanoseconds.
 #[derive(Debug, Drop)]
 pub struct Tsetattr {
     pub fid: u32,
@@ -81,7 +83,8 @@ pub struct Tsetattr {
     pub mtime_nsec: u64,
 }
 
-/// Makes `newfid` name the extended attribute `name` of the fid's file, or its list of attributes where `name` is empty.
+/// Makes `newfid` name the extended attribute `name` of the fid's file, or its list of attributes
+/// where `name` is empty.
 #[derive(Debug, Drop)]
 pub struct Txattrwalk {
     pub fid: u32,
@@ -113,7 +116,8 @@ pub struct Tfsync {
     pub datasync: u32,
 }
 
-/// Takes, tests or gives up a POSIX lock on `length` bytes from `start`; a length of 0 is up to the file's end.
+/// Takes, tests or gives up a POSIX lock on `length` bytes from `start`; a length of 0 is up to
+/// the file's end.
 #[derive(Debug, Drop)]
 pub struct Tlock {
     pub fid: u32,

@@ -1,10 +1,13 @@
 -- Frames: a size that counts itself, a type, a tag and a message.
-use Rattle.std.specs.Prelude.{◌≡◌, ℕ, ◌+◌, ◌-◌, ◌<◌, ◌^◌, List, [], ◌∷◌, ◌++◌, length, take, drop, slice_index, nat_le, ◌&&◌, ◌⊎◌, Result, Ok, Err}
+use Rattle.std.specs.Prelude.{◌≡◌, ℕ, ◌+◌, ◌-◌, ◌<◌, ◌^◌, List, [], ◌∷◌, ◌++◌, length, take, drop}
+use Rattle.std.specs.Prelude.{slice_index, nat_le, ◌&&◌, ◌⊎◌, Result, Ok, Err}
 use Rattle.std.specs.declared.option.Option.{Option}
 use Rattle.std.specs.Int.{w16, w32, from_le_bytes, to_le_bytes}
 use Rattle.p9_wire.specs.declared.error.WireError.{WireError}
-use Rattle.p9_wire.specs.declared.error.WireError.TheVariants.{InvalidInput, InvalidData, UnexpectedEof, Read, Write, NoMemory}
-use Rattle.p9_wire.specs.Reading.{Reads, then_read, give, refuse, fixed_at, bytes_at, IsBytes, Found, Refused}
+use Rattle.p9_wire.specs.declared.error.WireError.TheVariants.{InvalidInput, InvalidData}
+use Rattle.p9_wire.specs.declared.error.WireError.TheVariants.{UnexpectedEof, Read, Write, NoMemory}
+use Rattle.p9_wire.specs.Reading.{Reads, then_read, give, refuse, fixed_at, bytes_at, IsBytes}
+use Rattle.p9_wire.specs.Reading.{Found, Refused, TookOfFrame}
 use Rattle.p9_wire.specs.Texts.{read_if}
 
 -- size 4, type 1, tag 2, and the fields of the message
@@ -19,11 +22,22 @@ filling (Err e) = Err e
 
 -- what stands behind a frame's size: its tag, and what its body is read as
 abbrev pub body_of : {M : Type 0} → (ℕ → Reads M) → List ℕ → ℕ × Result M WireError
-body_of reading bs = (from_le_bytes w16 (take 2 (drop 1 bs)), filling (reading (slice_index bs 0) (drop 3 bs)))
+body_of reading bs = (
+  from_le_bytes w16 (take 2 (drop 1 bs)),
+  filling
+      (reading (slice_index bs 0) (drop 3 bs)),
+)
+
+-- so many bytes behind a frame's size, whatever they say
+abbrev pub body_reading : {M : Type 0} → (ℕ → Reads M) → ℕ → Reads (ℕ × Result M WireError)
+body_reading reading n = then_read (bytes_at n) (λ bs. give (body_of reading bs))
 
 -- a frame of at most so many bytes; it is read to its end, whatever its body is
-abbrev pub framed_reading : {M : Type 0} → (ℕ → Reads M) → (limit : ℕ) → Reads (ℕ × Result M WireError)
-framed_reading reading limit = then_read (fixed_at 4 (from_le_bytes w32)) (λ size. read_if (nat_le 7 size && nat_le size limit) InvalidData (then_read (bytes_at (size - 4)) (λ bs. give (body_of reading bs))))
+abbrev pub framed_reading : {M : Type 0} → (ℕ → Reads M) → (limit : ℕ)
+    → Reads (ℕ × Result M WireError)
+framed_reading reading limit =
+    then_read (fixed_at 4 (from_le_bytes w32)) (λ size.
+    read_if (nat_le 7 size && nat_le size limit) InvalidData (body_reading reading (size - 4)))
 
 -- a tag and a message, or the fault of the body
 abbrev pub settled : {M : Type 0} → ℕ × Result M WireError → Reads (ℕ × M)
@@ -57,11 +71,16 @@ result_view view (Err e) = Err e
 abbrev pub framed_view : {V M : Type 0} → (V → M) → ℕ × Result V WireError → ℕ × Result M WireError
 framed_view view f = (f.0, result_view view f.1)
 
--- Messages of many types: what is read behind a type is spelled so, and no spelling begins another of its type.
-pub record LawfulMessages {M : Type 0} (kind_of : M → ℕ) (Spells : M → Type 0) (spelling : M → List ℕ) (IsReadable : M → Type 0) (reading : ℕ → Reads M) : Type 0 where
-  pub takes : (kind : ℕ) (xs rest : List ℕ) (m : M) → IsBytes xs → reading kind xs ≡ Ok (m, rest) → (kind_of m ≡ kind) × ((xs ≡ spelling m ++ rest) × Spells m × IsReadable m)
-  pub again : (m : M) (rest : List ℕ) → Spells m → IsReadable m → reading (kind_of m) (spelling m ++ rest) ≡ Ok (m, rest)
-  pub unique : (m n : M) (x y : List ℕ) → Spells m → Spells n → kind_of m ≡ kind_of n → spelling m ++ x ≡ spelling n ++ y → m ≡ n
+-- Messages of many types: what is read behind a type is spelled so, and no spelling begins another
+-- of its type.
+pub record LawfulMessages {M : Type 0} (kind_of : M → ℕ) (Spells : M → Type 0)
+    (spelling : M → List ℕ) (IsReadable : M → Type 0) (reading : ℕ → Reads M) : Type 0 where
+  pub takes : (kind : ℕ) (xs rest : List ℕ) (m : M) → IsBytes xs → reading kind xs ≡ Ok (m, rest)
+      → (kind_of m ≡ kind) × ((xs ≡ spelling m ++ rest) × Spells m × IsReadable m)
+  pub again : (m : M) (rest : List ℕ) → Spells m → IsReadable m
+      → reading (kind_of m) (spelling m ++ rest) ≡ Ok (m, rest)
+  pub unique : (m n : M) (x y : List ℕ) → Spells m → Spells n → kind_of m ≡ kind_of n → spelling m
+      ++ x ≡ spelling n ++ y → m ≡ n
 
 abbrev pub sound_view : {V M : Type 0} → (V → M) → ℕ × V → ℕ × M
 sound_view view f = (f.0, view f.1)
@@ -76,14 +95,19 @@ IsMalformed Write = ⊥
 IsMalformed NoMemory = ⊥
 
 -- the frame itself has the fault, or it was read to its end and its body has it
-abbrev pub DrainsFault : {M : Type 0} → (ℕ → Reads M) → (limit : ℕ) → Option (List ℕ) → Option (List ℕ) → WireError → Type 0
-DrainsFault reading limit old new e = Refused (framed_reading reading limit) old e ⊎ ((tag : ℕ) × Found (framed_reading reading limit) old new (tag, Err e))
+abbrev pub HasFault : {M : Type 0} → (ℕ → Reads M) → (limit : ℕ) → Option (List ℕ)
+    → Option (List ℕ) → WireError → Type 0
+HasFault reading limit old new e =
+    (Refused (framed_reading reading limit) old e × TookOfFrame old new e)
+    ⊎ ((tag : ℕ) × Found (framed_reading reading limit) old new (tag, Err e))
 
--- the source is at the frame's end after a fault of the body
-abbrev pub Drains : {M : Type 0} → (ℕ → Reads M) → (limit : ℕ) → Option (List ℕ) → Option (List ℕ) → WireError → Type 0
-Drains reading limit old new InvalidInput = DrainsFault reading limit old new InvalidInput
-Drains reading limit old new InvalidData = DrainsFault reading limit old new InvalidData
-Drains reading limit old new UnexpectedEof = DrainsFault reading limit old new UnexpectedEof
+-- after a fault of the body the source is at the frame's end, and after one of the frame itself the
+-- size was taken, or all bytes
+abbrev pub Drains : {M : Type 0} → (ℕ → Reads M) → (limit : ℕ) → Option (List ℕ) → Option (List ℕ)
+    → WireError → Type 0
+Drains reading limit old new InvalidInput = HasFault reading limit old new InvalidInput
+Drains reading limit old new InvalidData = HasFault reading limit old new InvalidData
+Drains reading limit old new UnexpectedEof = HasFault reading limit old new UnexpectedEof
 Drains reading limit old new Read = Unit {0}
 Drains reading limit old new Write = Unit {0}
 Drains reading limit old new NoMemory = Unit {0}

@@ -59,7 +59,8 @@ abbrev pub text_spelling : List ℕ → List ℕ
 text_spelling bytes = le16 (length bytes) ++ bytes
 
 abbrev pub text_at : Reads (List ℕ)
-text_at = then_read u16_at (λ n. then_read (bytes_at n) (λ bytes. read_if (is_text bytes) InvalidInput (give bytes)))
+text_at = then_read u16_at (λ n. then_read (bytes_at n)
+    (λ bytes. read_if (is_text bytes) InvalidInput (give bytes)))
 
 abbrev pub DataSpells : List ℕ → Type 0
 DataSpells bytes = length bytes < 2 ^ 32
@@ -72,7 +73,8 @@ abbrev pub IsReadableData : List ℕ → Type 0
 IsReadableData bytes = length bytes ≤ 33554432
 
 abbrev pub data_at : Reads (List ℕ)
-data_at = then_read u32_at (λ n. read_if (nat_le n 33554432) InvalidData (then_read (bytes_at n) (λ bytes. give bytes)))
+data_at = then_read u32_at (λ n. read_if (nat_le n 33554432) InvalidData
+    (then_read (bytes_at n) (λ bytes. give bytes)))
 
 -- data of any length, as `data_at` reads it below its bound
 abbrev pub any_data_at : Reads (List ℕ)
@@ -111,10 +113,14 @@ qids_at = items_reading qid_at
 -- ---- their laws
 
 -- a law under other names of the same facts
-module _ {P : Type 0} {S W R : P → Type 0} {s : P → List ℕ} {r : Reads P} (S' W' R' : P → Type 0) (law : Lawful S s W R r) (spells : (p : P) → S' p → S p) (spelled : (p : P) → S p → S' p) (sound : (p : P) → W' p → W p) (readable : (p : P) → R' p → R p) (read : (p : P) → R p → R' p) where
+module _ {P : Type 0} {S W R : P → Type 0} {s : P → List ℕ} {r : Reads P} (S' W' R' : P → Type 0)
+    (law : Lawful S s W R r) (spells : (p : P) → S' p → S p) (spelled : (p : P) → S p → S' p)
+    (sound : (p : P) → W' p → W p) (readable : (p : P) → R' p → R p)
+    (read : (p : P) → R p → R' p) where
   likewise : Lawful S' s W' R' r
   likewise = record {
-    takes = λ xs rest p fits e w. let t = law.takes xs rest p fits e (sound p w) in (t.0, spelled p t.1, read p t.2);
+    takes = λ xs rest p fits e w. let t = law.takes xs rest p fits e (sound p w) in
+        (t.0, spelled p t.1, read p t.2);
     again = λ p rest a b. law.again p rest (spells p a) (readable p b);
     unique = λ p q x y a b e. law.unique p q x y (spells p a) (spells q b) e;
   }
@@ -124,23 +130,37 @@ all_always [] = tt
 all_always (p ∷ ps) = (tt, all_always ps)
 
 -- two fields, where only the second can be unreadable
-pub then_law : {P Q : Type 0} {SA : P → Type 0} {sa : P → List ℕ} {ra : Reads P} {SB RB : Q → Type 0} {sb : Q → List ℕ} {rb : Reads Q} → Lawful SA sa Always Always ra → Lawful SB sb Always RB rb → Lawful (PairSpells SA SB) (pair_spelling sa sb) Always (λ (p : P × Q). RB p.1) (pair_reading ra rb)
+pub then_law : {P Q : Type 0} {SA : P → Type 0} {sa : P → List ℕ} {ra : Reads P}
+    {SB RB : Q → Type 0} {sb : Q → List ℕ} {rb : Reads Q} → Lawful SA sa Always Always ra
+    → Lawful SB sb Always RB rb → Lawful (PairSpells SA SB) (pair_spelling sa sb) Always
+    (λ (p : P × Q). RB p.1) (pair_reading ra rb)
 then_law {P} {Q} {SA} {sa} {ra} {SB} {RB} {sb} {rb} a b =
-    likewise (PairSpells SA SB) Always (λ (p : P × Q). RB p.1) (both a b) (λ p h. h) (λ p h. h) (λ p h. (tt, tt)) (λ p h. (tt, h)) (λ p h. h.1)
+    likewise (PairSpells SA SB) Always (λ (p : P × Q). RB p.1) (both a b) (λ p h. h) (λ p h. h)
+    (λ p h. (tt, tt)) (λ p h. (tt, h)) (λ p h. h.1)
 
 -- many values that are always readable
-pub items_law : {P : Type 0} {S : P → Type 0} {s : P → List ℕ} {r : Reads P} → Lawful S s Always Always r → Lawful (ItemsSpell S) (items_spelling s) Always Always (items_reading r)
+pub items_law : {P : Type 0} {S : P → Type 0} {s : P → List ℕ} {r : Reads P}
+    → Lawful S s Always Always r → Lawful (ItemsSpell S) (items_spelling s) Always Always
+    (items_reading r)
 items_law {P} {S} {s} {r} law =
-    likewise (ItemsSpell S) Always Always (items_lawful S s Always Always r law) (λ p h. h) (λ p h. h) (λ p h. all_always p) (λ p h. all_always p) (λ p h. tt)
+    likewise (ItemsSpell S) Always Always (items_lawful S s Always Always r law) (λ p h. h)
+    (λ p h. h) (λ p h. all_always p) (λ p h. all_always p) (λ p h. tt)
 
 pub text_law : Lawful TextSpells text_spelling Always Always text_at
-text_law = likewise TextSpells Always Always (counted_lawful 2 (from_le_bytes w16) (to_le_bytes w16) (2 ^ 16) code16 any_len is_text) (λ p h. h) (λ p h. h) (λ p h. tt) (λ p h. refl) (λ p h. tt)
+text_law = likewise TextSpells Always Always
+    (counted_lawful 2 (from_le_bytes w16) (to_le_bytes w16) (2 ^ 16) code16 any_len is_text)
+    (λ p h. h) (λ p h. h) (λ p h. tt) (λ p h. refl) (λ p h. tt)
 
 pub data_law : Lawful DataSpells data_spelling Always IsReadableData data_at
-data_law = likewise DataSpells Always IsReadableData (counted_lawful 4 (from_le_bytes w32) (to_le_bytes w32) (2 ^ 32) code32 data_len any_bytes) (λ p h. (h, refl)) (λ p h. h.0) (λ p h. tt) (λ p h. le-leb (length p) 33554432 h) (λ p h. leb-true (length p) 33554432 h)
+data_law = likewise DataSpells Always IsReadableData
+    (counted_lawful 4 (from_le_bytes w32) (to_le_bytes w32) (2 ^ 32) code32 data_len any_bytes)
+    (λ p h. (h, refl)) (λ p h. h.0) (λ p h. tt) (λ p h. le-leb (length p) 33554432 h)
+    (λ p h. leb-true (length p) 33554432 h)
 
 pub any_data_law : Lawful DataSpells data_spelling Always Always any_data_at
-any_data_law = likewise DataSpells Always Always (counted_lawful 4 (from_le_bytes w32) (to_le_bytes w32) (2 ^ 32) code32 any_len any_bytes) (λ p h. (h, refl)) (λ p h. h.0) (λ p h. tt) (λ p h. refl) (λ p h. tt)
+any_data_law = likewise DataSpells Always Always
+    (counted_lawful 4 (from_le_bytes w32) (to_le_bytes w32) (2 ^ 32) code32 any_len any_bytes)
+    (λ p h. (h, refl)) (λ p h. h.0) (λ p h. tt) (λ p h. refl) (λ p h. tt)
 
 pub qid_law : Lawful QidSpells qid_spelling Always Always qid_at
 qid_law = then_law law8 (then_law law32 law64)

@@ -1,7 +1,8 @@
 // Bytes behind their length.
 ghost use Rattle.std.specs.Prelude.{◌≡◌, ◌↔◌, ℕ, List, length, IsTrue, bytes_eq, IfOk};
 ghost use Rattle.p9_wire.specs.Reading.{Always};
-ghost use Rattle.p9_wire.specs.Values.{DataSpells, data_spelling, IsReadableData, data_at, data_law};
+ghost use Rattle.p9_wire.specs.Values.{DataSpells, data_spelling, IsReadableData, data_at};
+ghost use Rattle.p9_wire.specs.Values.{data_law};
 ghost use Rattle.std.proofs.lemmas.Cmp.{nat_list_eq_equiv};
 ghost use Rattle.std.specs.Cmp.{partial_equiv_from_equiv, on_per, on_equiv};
 
@@ -27,10 +28,8 @@ impl Data {
     pub fn try_clone(&self, alloc: Global) -> Result<Data, NoMemory>
         ensures { IfOk result (λ d. d.0.items ≡ self.now.0.items) }
     {
-        match self.0.to_vec(alloc) {
-            Ok(bytes) => Ok(Data(bytes)),
-            Err(_) => Err(NoMemory),
-        }
+        let bytes = self.0.to_vec(alloc).map_err(|_| NoMemory)?;
+        Ok(Data(bytes))
     }
 }
 
@@ -52,7 +51,8 @@ impl DerefMut for Data {
     ghost deref_mut_gives = { λ d v. v ≡ d.0 };
 
     fn deref_mut(&mut self) -> &mut Vec<u8>
-        ensures* writes_back { sem 𝓛 (Lends the_row bytes_row self.entry result (λ v. record { 0 = v })) }
+        ensures* writes_back { sem 𝓛 (Lends the_row bytes_row self.entry result
+            (λ v. record { 0 = v })) }
         ensures shows { result.now ≡ self.old.0 }
     {
         &mut self.0

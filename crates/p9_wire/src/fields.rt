@@ -1,7 +1,8 @@
 // Fields, one after another.
 ghost use Rattle.std.specs.Prelude.{◌≡◌, ◌<◌, ◌^◌, ◌+◌, ◌↔◌, ◌++◌, ℕ, List, length, IsTrue};
 ghost use Rattle.p9_wire.specs.Sending.{Sends};
-ghost use Rattle.p9_wire.specs.Fields.{pair_view, PairSpells, pair_spelling, pair_reading, pair_lawful};
+ghost use Rattle.p9_wire.specs.Fields.{pair_view, PairSpells, pair_spelling, pair_reading};
+ghost use Rattle.p9_wire.specs.Fields.{pair_lawful};
 
 use crate::error::WireError;
 use crate::format::WireFormat;
@@ -20,7 +21,8 @@ pub trait Fields {
     ghost spelling: { Plain → List ℕ };
 
     fn fits(&self) -> bool
-        ensures { IsTrue result ↔ (Spells (view self.now) × (length (spelling (view self.now)) < 2 ^ 32)) };
+        ensures { IsTrue result ↔ (Spells (view self.now)
+            × (length (spelling (view self.now)) < 2 ^ 32)) };
 
     fn byte_size(&self) -> u32
         requires spells { Spells (view self.now) }
@@ -30,7 +32,8 @@ pub trait Fields {
     fn send<K: Sink>(&self, sink: &mut K) -> Result<(), SinkFault>
         requires spells { Spells (view self.now) }
         requires short { length (spelling (view self.now)) < 2 ^ 32 }
-        ensures sends { Sends (spelling (view self.now)) (K.sent sink.old) (K.sent sink.new) (K.room sink.old) (K.room sink.new) (K.faults sink.old) (K.faults sink.new) result }
+        ensures sends { Sends (spelling (view self.now)) (K.sent sink.old) (K.sent sink.new)
+            (K.room sink.old) (K.room sink.new) (K.faults sink.old) (K.faults sink.new) result }
         ensures kept { K.kept sink.new ≡ K.kept sink.old };
 }
 
@@ -131,7 +134,8 @@ impl<A: WireFormat, B: WireFormat> WireFormat for (A, B) {
 
     ghost reading = { pair_reading A.reading B.reading };
 
-    ghost lawful = { pair_lawful A.Spells A.spelling A.IsSound A.IsReadable A.reading B.Spells B.spelling B.IsSound B.IsReadable B.reading A.lawful B.lawful };
+    ghost lawful = { pair_lawful A.Spells A.spelling A.IsSound A.IsReadable A.reading B.Spells
+        B.spelling B.IsSound B.IsReadable B.reading A.lawful B.lawful };
 
     fn fits(&self) -> bool {
         (&self.0, &self.1).fits()

@@ -28,7 +28,8 @@ pub trait WireFormat: Sized + Drop {
     ghost reading: { Reads Plain };
 
     fn fits(&self) -> bool
-        ensures { IsTrue result ↔ (Spells (view self.now) × (length (spelling (view self.now)) < 2 ^ 32)) };
+        ensures { IsTrue result ↔ (Spells (view self.now)
+            × (length (spelling (view self.now)) < 2 ^ 32)) };
 
     fn byte_size(&self) -> u32
         requires spells { Spells (view self.now) }
@@ -39,11 +40,15 @@ pub trait WireFormat: Sized + Drop {
     fn send<K: Sink>(&self, sink: &mut K) -> Result<(), SinkFault>
         requires spells { Spells (view self.now) }
         requires short { length (spelling (view self.now)) < 2 ^ 32 }
-        ensures sends { Sends (spelling (view self.now)) (K.sent sink.old) (K.sent sink.new) (K.room sink.old) (K.room sink.new) (K.faults sink.old) (K.faults sink.new) result }
+        ensures sends { Sends (spelling (view self.now)) (K.sent sink.old) (K.sent sink.new)
+            (K.room sink.old) (K.room sink.new) (K.faults sink.old) (K.faults sink.new) result }
         ensures kept { K.kept sink.new ≡ K.kept sink.old };
 
     fn encode<K: Sink>(&self, sink: &mut K) -> Result<(), WireError>
-        ensures encodes { Encodes (Spells (view self.now) × (length (spelling (view self.now)) < 2 ^ 32)) (spelling (view self.now)) (K.sent sink.old) (K.sent sink.new) (K.room sink.old) (K.room sink.new) (K.faults sink.old) (K.faults sink.new) result }
+        ensures encodes { Encodes (Spells (view self.now)
+            × (length (spelling (view self.now)) < 2 ^ 32)) (spelling (view self.now))
+            (K.sent sink.old) (K.sent sink.new) (K.room sink.old) (K.room sink.new)
+            (K.faults sink.old) (K.faults sink.new) result }
         ensures kept { K.kept sink.new ≡ K.kept sink.old }
     {
         if !self.fits() {
@@ -54,7 +59,8 @@ pub trait WireFormat: Sized + Drop {
     }
 
     fn decode<S: Source>(alloc: Global, source: &mut S) -> Result<Self, WireError>
-        ensures decodes { Decodes view reading (S.left source.old) (S.left source.new) (S.faults source.old) (S.faults source.new) result }
+        ensures decodes { Decodes view reading (S.left source.old) (S.left source.new)
+            (S.faults source.old) (S.faults source.new) result }
         ensures kept { S.kept source.new ≡ S.kept source.old }
         ensures lender { S.lender source.new ≡ S.lender source.old };
 

@@ -1,14 +1,19 @@
 // Messages behind their size, type and tag.
-ghost use Rattle.std.specs.Prelude.{◌≡◌, ◌+◌, ◌<◌, ◌≤◌, ◌^◌, ◌↔◌, ℕ, List, length, drop, slice_index, IsTrue, IfOk, IfErr, MatchResult};
-ghost use Rattle.p9_wire.specs.Reading.{Reads, Decodes};
+ghost use Rattle.std.specs.Prelude.{◌≡◌, ◌+◌, ◌<◌, ◌≤◌, ◌^◌, ◌↔◌, ℕ, List, length, drop};
+ghost use Rattle.std.specs.Prelude.{slice_index, IsTrue, IfOk, IfErr, MatchResult};
+ghost use Rattle.p9_wire.specs.Reading.{Reads, Decodes, EndsShort, TookOfFrame};
+ghost use Rattle.p9_wire.specs.Values.{u32_at};
 ghost use Rattle.p9_wire.specs.Sending.{Sends};
-ghost use Rattle.p9_wire.specs.Frames.{frame, filling, body_of, framed_reading, sound_reading, result_view, framed_view, sound_view, IsMalformed, Drains, FrameSpells, LawfulMessages};
+ghost use Rattle.p9_wire.specs.Frames.{frame, filling, body_of, body_reading, framed_reading};
+ghost use Rattle.p9_wire.specs.Frames.{sound_reading, result_view, framed_view, sound_view};
+ghost use Rattle.p9_wire.specs.Frames.{IsMalformed, Drains, FrameSpells, LawfulMessages};
 ghost use Rattle.p9_wire.specs.declared.error.WireError.TheVariants.{NoMemory};
 
 use crate::bytes::decode_bytes;
 use crate::error::WireError;
 use crate::fields::Fields;
 use crate::format::WireFormat;
+use crate::numbers::fill;
 use port_base::memory::SliceSource;
 use port_base::sink::{Sink, SinkFault};
 use port_base::source::Source;
@@ -16,6 +21,9 @@ use std::alloc::Global;
 
 /// The bytes of a frame before its message: size 4, type 1, tag 2.
 pub const HEADER_LENGTH: u32 = 7;
+
+/// The most bytes behind a size that are read without memory.
+const SHORT_LENGTH: usize = 64;
 
 /// Messages of several types, which are sent in frames.
 pub trait Framed: Sized + Drop {
@@ -45,7 +53,8 @@ pub trait Framed: Sized + Drop {
 
     /// Whether the fields have a spelling whose length fits a u32.
     fn body_fits(&self) -> bool
-        ensures { IsTrue result ↔ (Spells (view self.now) × (length (spelling (view self.now)) < 2 ^ 32)) };
+        ensures { IsTrue result ↔ (Spells (view self.now)
+            × (length (spelling (view self.now)) < 2 ^ 32)) };
 
     /// How many bytes the fields have.
     fn body_size(&self) -> u32
@@ -57,12 +66,14 @@ pub trait Framed: Sized + Drop {
     fn send_body<K: Sink>(&self, sink: &mut K) -> Result<(), SinkFault>
         requires spells { Spells (view self.now) }
         requires short { length (spelling (view self.now)) < 2 ^ 32 }
-        ensures sends { Sends (spelling (view self.now)) (K.sent sink.old) (K.sent sink.new) (K.room sink.old) (K.room sink.new) (K.faults sink.old) (K.faults sink.new) result }
+        ensures sends { Sends (spelling (view self.now)) (K.sent sink.old) (K.sent sink.new)
+            (K.room sink.old) (K.room sink.new) (K.faults sink.old) (K.faults sink.new) result }
         ensures kept { K.kept sink.new ≡ K.kept sink.old };
 
     /// Reads the fields of a message of this type. An unknown type is `InvalidData`.
     fn decode_body<S: Source>(alloc: Global, source: &mut S, kind: u8) -> Result<Self, WireError>
-        ensures decodes { Decodes view (reading kind) (S.left source.old) (S.left source.new) (S.faults source.old) (S.faults source.new) result }
+        ensures decodes { Decodes view (reading kind) (S.left source.old) (S.left source.new)
+            (S.faults source.old) (S.faults source.new) result }
         ensures kept { S.kept source.new ≡ S.kept source.old }
         ensures lender { S.lender source.new ≡ S.lender source.old };
 
@@ -99,7 +110,8 @@ impl<M: Framed> Fields for Body<'_, M> {
 
 /// Whether the message fits a frame, whose size is a u32.
 pub fn fits_frame<M: Framed>(message: &M) -> bool
-    ensures { IsTrue result ↔ (M.Spells (M.view message.now) × (7 + length (M.spelling (M.view message.now)) < 2 ^ 32)) }
+    ensures { IsTrue result ↔ (M.Spells (M.view message.now)
+        × (7 + length (M.spelling (M.view message.now)) < 2 ^ 32)) }
 {
     if !message.body_fits() {
         return false;
@@ -121,7 +133,9 @@ pub fn frame_size<M: Framed>(message: &M) -> u32
 pub fn send_frame<M: Framed, K: Sink>(message: &M, tag: u16, sink: &mut K) -> Result<(), SinkFault>
     requires spells { M.Spells (M.view message.now) }
     requires short { 7 + length (M.spelling (M.view message.now)) < 2 ^ 32 }
-    ensures sends { Sends (frame (M.kind_of (M.view message.now)) tag (M.spelling (M.view message.now))) (K.sent sink.old) (K.sent sink.new) (K.room sink.old) (K.room sink.new) (K.faults sink.old) (K.faults sink.new) result }
+    ensures sends { Sends (frame (M.kind_of (M.view message.now)) tag
+        (M.spelling (M.view message.now))) (K.sent sink.old) (K.sent sink.new) (K.room sink.old)
+        (K.room sink.new) (K.faults sink.old) (K.faults sink.new) result }
     ensures kept { K.kept sink.new ≡ K.kept sink.old }
 {
     let size = frame_size(message);
@@ -135,7 +149,8 @@ fn message_in<M: Framed>(
     kind: u8,
     bytes: &[u8],
 ) -> Result<Result<M, WireError>, WireError>
-    ensures message { MatchResult result (λ msg. result_view M.view msg ≡ filling (M.reading kind bytes.now)) (λ e. e ≡ NoMemory) }
+    ensures message { MatchResult result (λ msg. result_view M.view msg
+        ≡ filling (M.reading kind bytes.now)) (λ e. e ≡ NoMemory) }
     ensures fault { IfOk result (λ msg. IfErr msg IsMalformed) }
 {
     let mut source = SliceSource::new(bytes);
@@ -155,7 +170,8 @@ fn message_in<M: Framed>(
 // What the bytes behind a size say.
 fn body_in<M: Framed>(alloc: Global, bytes: &[u8]) -> Result<(u16, Result<M, WireError>), WireError>
     requires { 3 ≤ length bytes.now }
-    ensures body { MatchResult result (λ f. framed_view M.view f ≡ body_of M.reading bytes.now) (λ e. e ≡ NoMemory) }
+    ensures body { MatchResult result (λ f. framed_view M.view f ≡ body_of M.reading bytes.now)
+        (λ e. e ≡ NoMemory) }
     ensures fault { IfOk result (λ f. IfErr f.1 IsMalformed) }
 {
     let tag = u16::from_le_bytes([bytes[1], bytes[2]]);
@@ -163,43 +179,109 @@ fn body_in<M: Framed>(alloc: Global, bytes: &[u8]) -> Result<(u16, Result<M, Wir
     Ok((tag, message))
 }
 
-/// Reads a frame of at most `limit` bytes to its end: its tag, and its message or the first fault of the body.
+// The size in front of a frame.
+fn decode_size<S: Source>(source: &mut S) -> Result<u32, WireError>
+    ensures decodes { Decodes (λ n. n) u32_at (S.left source.old) (S.left source.new)
+        (S.faults source.old)
+        (S.faults source.new) result }
+    ensures stop { IfErr result (EndsShort (S.left source.new)) }
+    ensures kept { S.kept source.new ≡ S.kept source.old }
+    ensures lender { S.lender source.new ≡ S.lender source.old }
+{
+    let mut bytes = [0; 4];
+    fill(source, &mut bytes)?;
+    Ok(u32::from_le_bytes(bytes))
+}
+
+// What the next bytes say, of which there are few. They take no memory.
+fn decode_short<M: Framed, S: Source>(
+    alloc: Global,
+    source: &mut S,
+    length: usize,
+) -> Result<(u16, Result<M, WireError>), WireError>
+    requires long { 3 ≤ length }
+    requires short { length ≤ SHORT_LENGTH }
+    ensures decodes { Decodes (framed_view M.view) (body_reading M.reading length)
+        (S.left source.old)
+        (S.left source.new) (S.faults source.old) (S.faults source.new) result }
+    ensures fault { IfOk result (λ f. IfErr f.1 IsMalformed) }
+    ensures stop { IfErr result (EndsShort (S.left source.new)) }
+    ensures kept { S.kept source.new ≡ S.kept source.old }
+    ensures lender { S.lender source.new ≡ S.lender source.old }
+{
+    let mut bytes = [0; SHORT_LENGTH];
+    let bytes = &mut bytes[..length];
+    fill(source, bytes)?;
+    body_in(alloc, bytes)
+}
+
+// What the next bytes say.
+fn decode_long<M: Framed, S: Source>(
+    alloc: Global,
+    source: &mut S,
+    length: usize,
+) -> Result<(u16, Result<M, WireError>), WireError>
+    requires { 3 ≤ length }
+    ensures decodes { Decodes (framed_view M.view) (body_reading M.reading length)
+        (S.left source.old)
+        (S.left source.new) (S.faults source.old) (S.faults source.new) result }
+    ensures fault { IfOk result (λ f. IfErr f.1 IsMalformed) }
+    ensures stop { IfErr result (EndsShort (S.left source.new)) }
+    ensures kept { S.kept source.new ≡ S.kept source.old }
+    ensures lender { S.lender source.new ≡ S.lender source.old }
+{
+    let bytes = decode_bytes(alloc, source, length)?;
+    body_in(alloc, bytes.as_slice())
+}
+
+/// Reads a frame of at most `limit` bytes to its end: its tag, and its message or the first fault
+/// of
+/// the body.
 ///
-/// A size below 7 or above `limit` is `InvalidData`, after the four bytes of the size.
+/// `InvalidData`: a size below 7 or above `limit`, whose four bytes were taken. `UnexpectedEof`:
+/// the
+/// source ended before the frame did, and all its bytes were taken.
 pub fn decode_frame<M: Framed, S: Source>(
     alloc: Global,
     source: &mut S,
     limit: u32,
 ) -> Result<(u16, Result<M, WireError>), WireError>
-    ensures decodes { Decodes (framed_view M.view) (framed_reading M.reading limit) (S.left source.old) (S.left source.new) (S.faults source.old) (S.faults source.new) result }
+    ensures decodes { Decodes (framed_view M.view) (framed_reading M.reading limit)
+        (S.left source.old)
+        (S.left source.new) (S.faults source.old) (S.faults source.new) result }
     ensures fault { IfOk result (λ f. IfErr f.1 IsMalformed) }
+    ensures took { IfErr result (TookOfFrame (S.left source.old) (S.left source.new)) }
     ensures kept { S.kept source.new ≡ S.kept source.old }
     ensures lender { S.lender source.new ≡ S.lender source.old }
 {
-    let size = u32::decode(alloc, source)?;
+    let size = decode_size(source)?;
     if size < HEADER_LENGTH || size > limit {
         return Err(WireError::InvalidData);
     }
-    let body = decode_bytes(alloc, source, size as usize - 4)?;
-    body_in(alloc, body.as_slice())
+    let length = size as usize - 4;
+    if length <= SHORT_LENGTH {
+        decode_short(alloc, source, length)
+    } else {
+        decode_long(alloc, source, length)
+    }
 }
 
 /// Reads a frame of at most `limit` bytes whose body is well formed.
 ///
-/// A malformed body is `InvalidInput`, `InvalidData` or `UnexpectedEof`, and then too the frame is read to its end.
+/// A malformed body is `InvalidInput`, `InvalidData` or `UnexpectedEof`, and then too the frame is
+/// read to its end. Of another frame is taken what `decode_frame` takes.
 pub fn decode_sound_frame<M: Framed, S: Source>(
     alloc: Global,
     source: &mut S,
     limit: u32,
 ) -> Result<(u16, M), WireError>
-    ensures decodes { Decodes (sound_view M.view) (sound_reading M.reading limit) (S.left source.old) (S.left source.new) (S.faults source.old) (S.faults source.new) result }
+    ensures decodes { Decodes (sound_view M.view) (sound_reading M.reading limit)
+        (S.left source.old)
+        (S.left source.new) (S.faults source.old) (S.faults source.new) result }
     ensures drains { IfErr result (Drains M.reading limit (S.left source.old) (S.left source.new)) }
     ensures kept { S.kept source.new ≡ S.kept source.old }
     ensures lender { S.lender source.new ≡ S.lender source.old }
 {
     let (tag, body) = decode_frame(alloc, source, limit)?;
-    match body {
-        Ok(message) => Ok((tag, message)),
-        Err(fault) => Err(fault),
-    }
+    Ok((tag, body?))
 }

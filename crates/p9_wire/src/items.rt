@@ -1,9 +1,11 @@
 // Any number of values, behind their count.
-ghost use Rattle.std.specs.Prelude.{◌≡◌, ◌<◌, ◌^◌, ◌+◌, ◌↔◌, ◌++◌, ℕ, List, length, map, IsTrue, MatchOption};
+ghost use Rattle.std.specs.Prelude.{◌≡◌, ◌<◌, ◌^◌, ◌+◌, ◌↔◌, ◌++◌, ℕ, List, length, map, IsTrue};
+ghost use Rattle.std.specs.Prelude.{MatchOption};
 ghost use Rattle.std.specs.List.{flat_map, AllByRecursion};
 ghost use Rattle.p9_wire.specs.Reading.{Decodes};
 ghost use Rattle.p9_wire.specs.Sending.{Sends};
-ghost use Rattle.p9_wire.specs.Items.{times, ItemsSpell, items_spelling, items_reading, items_lawful};
+ghost use Rattle.p9_wire.specs.Items.{times, ItemsSpell, items_spelling, items_reading};
+ghost use Rattle.p9_wire.specs.Items.{items_lawful};
 
 use crate::error::WireError;
 use crate::format::WireFormat;
@@ -17,7 +19,8 @@ fn decode_items<T: WireFormat, S: Source>(
     source: &mut S,
     count: u16,
 ) -> Result<Vec<T>, WireError>
-    ensures decodes { Decodes (λ v. map T.view v.items) (times T.reading count) (S.left source.old) (S.left source.new) (S.faults source.old) (S.faults source.new) result }
+    ensures decodes { Decodes (λ v. map T.view v.items) (times T.reading count) (S.left source.old)
+        (S.left source.new) (S.faults source.old) (S.faults source.new) result }
     ensures kept { S.kept source.new ≡ S.kept source.old }
     ensures lender { S.lender source.new ≡ S.lender source.old }
 {
@@ -31,8 +34,10 @@ fn decode_items<T: WireFormat, S: Source>(
 
 // How many bytes the values have, where they fit.
 fn items_size<T: WireFormat>(items: &[T]) -> Option<u32>
-    ensures { MatchOption result (¬ (AllByRecursion T.Spells (map T.view items.now) × (length (flat_map T.spelling (map T.view items.now)) < 2 ^ 32)))
-        (λ n. AllByRecursion T.Spells (map T.view items.now) × (n ≡ length (flat_map T.spelling (map T.view items.now)))) }
+    ensures { MatchOption result (¬ (AllByRecursion T.Spells (map T.view items.now)
+        × (length (flat_map T.spelling (map T.view items.now)) < 2 ^ 32)))
+        (λ n. AllByRecursion T.Spells (map T.view items.now)
+        × (n ≡ length (flat_map T.spelling (map T.view items.now)))) }
 {
     let mut size = 0u32;
     for item in items {
@@ -51,7 +56,9 @@ fn items_size<T: WireFormat>(items: &[T]) -> Option<u32>
 fn send_items<T: WireFormat, K: Sink>(items: &[T], sink: &mut K) -> Result<(), SinkFault>
     requires spells { AllByRecursion T.Spells (map T.view items.now) }
     requires short { length (flat_map T.spelling (map T.view items.now)) < 2 ^ 32 }
-    ensures sends { Sends (flat_map T.spelling (map T.view items.now)) (K.sent sink.old) (K.sent sink.new) (K.room sink.old) (K.room sink.new) (K.faults sink.old) (K.faults sink.new) result }
+    ensures sends { Sends (flat_map T.spelling (map T.view items.now)) (K.sent sink.old)
+        (K.sent sink.new) (K.room sink.old) (K.room sink.new) (K.faults sink.old)
+        (K.faults sink.new) result }
     ensures kept { K.kept sink.new ≡ K.kept sink.old }
 {
     for item in items {

@@ -1,4 +1,5 @@
-//! Values as 9P spells them: numbers, texts, data, qids, many values behind their count, and frames.
+//! Values as 9P spells them: numbers, texts, data, qids, many values behind their count, and
+//! frames.
 #![tactic(auto)]
 
 mod bytes;
@@ -9,6 +10,7 @@ pub mod format;
 pub mod frame;
 mod items;
 pub mod numbers;
+pub mod protocol;
 pub mod qid;
 #[cfg(test)]
 mod tests;

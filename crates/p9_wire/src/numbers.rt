@@ -1,8 +1,9 @@
 // Numbers, the least byte first.
-ghost use Rattle.std.specs.Prelude.{◌≡◌, ◌<◌, ◌^◌, ◌+◌, ℕ, List, length};
+ghost use Rattle.std.specs.Prelude.{◌≡◌, ◌<◌, ◌^◌, ◌+◌, ℕ, List, length, IfErr};
 ghost use Rattle.std.specs.Int.{w16, w32, w64, from_le_bytes, to_le_bytes};
-ghost use Rattle.p9_wire.specs.Reading.{Always, Decodes, bytes_at, fixed_at};
-ghost use Rattle.p9_wire.specs.Numbers.{code8, code16, code32, code64, byte_from, byte_to, fixed_lawful};
+ghost use Rattle.p9_wire.specs.Reading.{Always, Decodes, EndsShort, bytes_at, fixed_at};
+ghost use Rattle.p9_wire.specs.Numbers.{code8, code16, code32, code64, byte_from, byte_to};
+ghost use Rattle.p9_wire.specs.Numbers.{fixed_lawful};
 
 use crate::error::WireError;
 use crate::format::WireFormat;
@@ -10,9 +11,12 @@ use port_base::sink::{Sink, SinkFault, write_all};
 use port_base::source::{Source, read_full};
 use std::alloc::Global;
 
-/// Fills the buffer.
+/// Fills the buffer. `UnexpectedEof`: the source ended before, and all its bytes were taken.
 pub(crate) fn fill<S: Source>(source: &mut S, buf: &mut [u8]) -> Result<(), WireError>
-    ensures decodes { Decodes (λ _. buf.new) (bytes_at (length buf.new)) (S.left source.old) (S.left source.new) (S.faults source.old) (S.faults source.new) result }
+    ensures decodes { Decodes (λ _. buf.new) (bytes_at (length buf.new)) (S.left source.old)
+        (S.left source.new)
+        (S.faults source.old) (S.faults source.new) result }
+    ensures stop { IfErr result (EndsShort (S.left source.new)) }
     ensures kept { S.kept source.new ≡ S.kept source.old }
     ensures lender { S.lender source.new ≡ S.lender source.old }
 {

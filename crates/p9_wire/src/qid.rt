@@ -13,7 +13,8 @@ use std::alloc::Global;
 
 /// What a server calls a file: 13 bytes, ty 1, version 4, path 8.
 ///
-/// `ty` has the bit 0x80 for a directory and 0x02 for a symbolic link. `path` is the same for the same file alone.
+/// `ty` has the bit 0x80 for a directory and 0x02 for a symbolic link. `path` is the same for the
+/// same file alone.
 #[derive(Clone, Copy, Debug, PartialEq, Eq)]
 pub struct Qid {
     pub ty: u8,

@@ -1,5 +1,6 @@
 // Texts behind their length.
-ghost use Rattle.std.specs.Prelude.{◌≡◌, ◌↔◌, ◌<◌, ◌^◌, ℕ, List, length, IsTrue, true, bytes_eq, IfOk, IfErr, ◌⊎◌};
+ghost use Rattle.std.specs.Prelude.{◌≡◌, ◌↔◌, ◌<◌, ◌^◌, ℕ, List, length, IsTrue, true, bytes_eq};
+ghost use Rattle.std.specs.Prelude.{IfOk, IfErr, ◌⊎◌};
 ghost use Rattle.std.specs.Hash as fed;
 ghost use Rattle.std.specs.Cmp.Rules.{hashing};
 ghost use Rattle.std.proofs.Common.{rules};
@@ -49,16 +50,15 @@ impl Model for P9String {
 }
 
 impl P9String {
-    /// A copy of the bytes. `InvalidInput`: more than 65535 bytes, a zero byte, or bytes that aren't UTF-8.
+    /// A copy of the bytes. `InvalidInput`: more than 65535 bytes, a zero byte, or bytes that
+    /// aren't UTF-8.
     pub fn new(alloc: Global, bytes: &[u8]) -> Result<P9String, WireError>
         ensures ok { IfOk result (λ s. s ≡ bytes.now) }
         ensures text { IfOk result TextSpells }
-        ensures errors { IfErr result (λ e. ((e ≡ WireError.InvalidInput) × (TextSpells bytes.now → ⊥)) ⊎ ((e ≡ WireError.NoMemory) × TextSpells bytes.now)) }
+        ensures errors { IfErr result (λ e. ((e ≡ WireError.InvalidInput)
+            × (TextSpells bytes.now → ⊥)) ⊎ ((e ≡ WireError.NoMemory) × TextSpells bytes.now)) }
     {
-        if bytes.len() > MAX_TEXT_LENGTH {
-            return Err(WireError::InvalidInput);
-        }
-        if !test_text(bytes) {
+        if bytes.len() > MAX_TEXT_LENGTH || !test_text(bytes) {
             return Err(WireError::InvalidInput);
         }
         let bytes = bytes.to_vec(alloc)?;
@@ -91,10 +91,8 @@ impl P9String {
     pub fn try_clone(&self, alloc: Global) -> Result<P9String, NoMemory>
         ensures { IfOk result (λ s. s ≡ self.now) }
     {
-        match self.bytes.to_vec(alloc) {
-            Ok(bytes) => Ok(P9String { bytes }),
-            Err(_) => Err(NoMemory),
-        }
+        let bytes = self.bytes.to_vec(alloc).map_err(|_| NoMemory)?;
+        Ok(P9String { bytes })
     }
 }
 

@@ -17,7 +17,10 @@ type StatfsFields = ((u32, (u32, (u64, (u64, u64)))), (u64, (u64, (u64, u32))));
 impl WireFormat for Rstatfs {
     ghost Plain = { ⟦<StatfsFields as WireFormat>⟧.Plain };
 
-    ghost view = { λ m. ⟦<StatfsFields as WireFormat>⟧.view ((m.ty, (m.bsize, (m.blocks, (m.bfree, m.bavail)))), (m.files, (m.ffree, (m.fsid, m.namelen)))) };
+    ghost view = { λ m. ⟦<StatfsFields as WireFormat>⟧.view (
+      (m.ty, (m.bsize, (m.blocks, (m.bfree, m.bavail)))),
+      (m.files, (m.ffree, (m.fsid, m.namelen))),
+    ) };
 
     ghost Spells = { ⟦<StatfsFields as WireFormat>⟧.Spells };
 
@@ -29,7 +32,9 @@ impl WireFormat for Rstatfs {
 
     ghost reading = { ⟦<StatfsFields as WireFormat>⟧.reading };
 
-    ghost lawful = { then_law (then_law law32 (then_law law32 (then_law law64 (then_law law64 law64)))) (then_law law64 (then_law law64 (then_law law64 law32))) };
+    ghost lawful = { then_law (then_law law32 (then_law law32
+        (then_law law64 (then_law law64 law64))))
+        (then_law law64 (then_law law64 (then_law law64 law32))) };
 
     fn fits(&self) -> bool {
         (
@@ -95,7 +100,19 @@ type GetAttrFields = (
 impl WireFormat for Rgetattr {
     ghost Plain = { ⟦<GetAttrFields as WireFormat>⟧.Plain };
 
-    ghost view = { λ m. ⟦<GetAttrFields as WireFormat>⟧.view ((m.valid, (m.qid, (m.mode, (m.uid, (m.gid, m.nlink))))), ((m.rdev, (m.size, (m.blksize, m.blocks))), ((m.atime_sec, (m.atime_nsec, (m.mtime_sec, m.mtime_nsec))), ((m.ctime_sec, (m.ctime_nsec, (m.btime_sec, m.btime_nsec))), (m.generation, m.data_version))))) };
+    ghost view = { λ m. ⟦<GetAttrFields as WireFormat>⟧.view (
+      (m.valid, (m.qid, (m.mode, (m.uid, (m.gid, m.nlink))))),
+      (
+        (m.rdev, (m.size, (m.blksize, m.blocks))),
+        (
+          (m.atime_sec, (m.atime_nsec, (m.mtime_sec, m.mtime_nsec))),
+          (
+            (m.ctime_sec, (m.ctime_nsec, (m.btime_sec, m.btime_nsec))),
+            (m.generation, m.data_version),
+          ),
+        ),
+      ),
+    ) };
 
     ghost Spells = { ⟦<GetAttrFields as WireFormat>⟧.Spells };
 
@@ -107,7 +124,12 @@ impl WireFormat for Rgetattr {
 
     ghost reading = { ⟦<GetAttrFields as WireFormat>⟧.reading };
 
-    ghost lawful = { then_law (then_law law64 (then_law qid_law (then_law law32 (then_law law32 (then_law law32 law64))))) (then_law (then_law law64 (then_law law64 (then_law law64 law64))) (then_law (then_law law64 (then_law law64 (then_law law64 law64))) (then_law (then_law law64 (then_law law64 (then_law law64 law64))) (then_law law64 law64)))) };
+    ghost lawful = { then_law (then_law law64 (then_law qid_law
+        (then_law law32 (then_law law32 (then_law law32 law64)))))
+        (then_law (then_law law64 (then_law law64 (then_law law64 law64)))
+        (then_law (then_law law64 (then_law law64 (then_law law64 law64)))
+        (then_law (then_law law64 (then_law law64 (then_law law64 law64)))
+        (then_law law64 law64)))) };
 
     fn fits(&self) -> bool {
         (

@@ -198,7 +198,8 @@ type GetLockFields = (u8, (u64, (u64, (u32, P9String))));
 impl WireFormat for Rgetlock {
     ghost Plain = { ⟦<GetLockFields as WireFormat>⟧.Plain };
 
-    ghost view = { λ m. ⟦<GetLockFields as WireFormat>⟧.view (m.kind_, (m.start, (m.length, (m.proc_id, m.client_id)))) };
+    ghost view = { λ m. ⟦<GetLockFields as WireFormat>⟧.view
+        (m.kind_, (m.start, (m.length, (m.proc_id, m.client_id)))) };
 
     ghost Spells = { ⟦<GetLockFields as WireFormat>⟧.Spells };
 

@@ -92,7 +92,10 @@ type SetAttrFields = (
 impl WireFormat for Tsetattr {
     ghost Plain = { ⟦<SetAttrFields as WireFormat>⟧.Plain };
 
-    ghost view = { λ m. ⟦<SetAttrFields as WireFormat>⟧.view ((m.fid, (m.valid, (m.mode, (m.uid, (m.gid, m.size))))), (m.atime_sec, (m.atime_nsec, (m.mtime_sec, m.mtime_nsec)))) };
+    ghost view = { λ m. ⟦<SetAttrFields as WireFormat>⟧.view (
+      (m.fid, (m.valid, (m.mode, (m.uid, (m.gid, m.size))))),
+      (m.atime_sec, (m.atime_nsec, (m.mtime_sec, m.mtime_nsec))),
+    ) };
 
     ghost Spells = { ⟦<SetAttrFields as WireFormat>⟧.Spells };
 
@@ -104,7 +107,9 @@ impl WireFormat for Tsetattr {
 
     ghost reading = { ⟦<SetAttrFields as WireFormat>⟧.reading };
 
-    ghost lawful = { then_law (then_law law32 (then_law law32 (then_law law32 (then_law law32 (then_law law32 law64))))) (then_law law64 (then_law law64 (then_law law64 law64))) };
+    ghost lawful = { then_law (then_law law32 (then_law law32
+        (then_law law32 (then_law law32 (then_law law32 law64)))))
+        (then_law law64 (then_law law64 (then_law law64 law64))) };
 
     fn fits(&self) -> bool {
         (
@@ -219,7 +224,8 @@ type XattrCreateFields = (u32, (P9String, (u64, u32)));
 impl WireFormat for Txattrcreate {
     ghost Plain = { ⟦<XattrCreateFields as WireFormat>⟧.Plain };
 
-    ghost view = { λ m. ⟦<XattrCreateFields as WireFormat>⟧.view (m.fid, (m.name, (m.attr_size, m.flags))) };
+    ghost view = { λ m. ⟦<XattrCreateFields as WireFormat>⟧.view
+        (m.fid, (m.name, (m.attr_size, m.flags))) };
 
     ghost Spells = { ⟦<XattrCreateFields as WireFormat>⟧.Spells };
 

@@ -55,7 +55,8 @@ type LcreateFields = (u32, (P9String, (u32, (u32, u32))));
 impl WireFormat for Tlcreate {
     ghost Plain = { ⟦<LcreateFields as WireFormat>⟧.Plain };
 
-    ghost view = { λ m. ⟦<LcreateFields as WireFormat>⟧.view (m.fid, (m.name, (m.flags, (m.mode, m.gid)))) };
+    ghost view = { λ m. ⟦<LcreateFields as WireFormat>⟧.view
+        (m.fid, (m.name, (m.flags, (m.mode, m.gid)))) };
 
     ghost Spells = { ⟦<LcreateFields as WireFormat>⟧.Spells };
 
@@ -225,7 +226,8 @@ type LockFields = ((u32, (u8, u32)), (u64, (u64, (u32, P9String))));
 impl WireFormat for Tlock {
     ghost Plain = { ⟦<LockFields as WireFormat>⟧.Plain };
 
-    ghost view = { λ m. ⟦<LockFields as WireFormat>⟧.view ((m.fid, (m.kind_, m.flags)), (m.start, (m.length, (m.proc_id, m.client_id)))) };
+    ghost view = { λ m. ⟦<LockFields as WireFormat>⟧.view
+        ((m.fid, (m.kind_, m.flags)), (m.start, (m.length, (m.proc_id, m.client_id)))) };
 
     ghost Spells = { ⟦<LockFields as WireFormat>⟧.Spells };
 
@@ -237,7 +239,8 @@ impl WireFormat for Tlock {
 
     ghost reading = { ⟦<LockFields as WireFormat>⟧.reading };
 
-    ghost lawful = { then_law (then_law law32 (then_law law8 law32)) (then_law law64 (then_law law64 (then_law law32 text_law))) };
+    ghost lawful = { then_law (then_law law32 (then_law law8 law32))
+        (then_law law64 (then_law law64 (then_law law32 text_law))) };
 
     fn fits(&self) -> bool {
         (
@@ -293,7 +296,8 @@ type GetLockFields = (u32, (u8, (u64, (u64, (u32, P9String)))));
 impl WireFormat for Tgetlock {
     ghost Plain = { ⟦<GetLockFields as WireFormat>⟧.Plain };
 
-    ghost view = { λ m. ⟦<GetLockFields as WireFormat>⟧.view (m.fid, (m.kind_, (m.start, (m.length, (m.proc_id, m.client_id))))) };
+    ghost view = { λ m. ⟦<GetLockFields as WireFormat>⟧.view
+        (m.fid, (m.kind_, (m.start, (m.length, (m.proc_id, m.client_id))))) };
 
     ghost Spells = { ⟦<GetLockFields as WireFormat>⟧.Spells };
 
@@ -305,7 +309,8 @@ impl WireFormat for Tgetlock {
 
     ghost reading = { ⟦<GetLockFields as WireFormat>⟧.reading };
 
-    ghost lawful = { then_law law32 (then_law law8 (then_law law64 (then_law law64 (then_law law32 text_law)))) };
+    ghost lawful = { then_law law32 (then_law law8 (then_law law64
+        (then_law law64 (then_law law32 text_law)))) };
 
     fn fits(&self) -> bool {
         (

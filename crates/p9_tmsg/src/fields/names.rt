@@ -61,7 +61,8 @@ type MknodFields = (u32, (P9String, (u32, (u32, (u32, u32)))));
 impl WireFormat for Tmknod {
     ghost Plain = { ⟦<MknodFields as WireFormat>⟧.Plain };
 
-    ghost view = { λ m. ⟦<MknodFields as WireFormat>⟧.view (m.dfid, (m.name, (m.mode, (m.major, (m.minor, m.gid))))) };
+    ghost view = { λ m. ⟦<MknodFields as WireFormat>⟧.view
+        (m.dfid, (m.name, (m.mode, (m.major, (m.minor, m.gid))))) };
 
     ghost Spells = { ⟦<MknodFields as WireFormat>⟧.Spells };
 
@@ -73,7 +74,8 @@ impl WireFormat for Tmknod {
 
     ghost reading = { ⟦<MknodFields as WireFormat>⟧.reading };
 
-    ghost lawful = { then_law law32 (then_law text_law (then_law law32 (then_law law32 (then_law law32 law32)))) };
+    ghost lawful = { then_law law32 (then_law text_law
+        (then_law law32 (then_law law32 (then_law law32 law32)))) };
 
     fn fits(&self) -> bool {
         (
@@ -314,7 +316,8 @@ type RenameAtFields = (u32, (P9String, (u32, P9String)));
 impl WireFormat for Trenameat {
     ghost Plain = { ⟦<RenameAtFields as WireFormat>⟧.Plain };
 
-    ghost view = { λ m. ⟦<RenameAtFields as WireFormat>⟧.view (m.olddirfid, (m.oldname, (m.newdirfid, m.newname))) };
+    ghost view = { λ m. ⟦<RenameAtFields as WireFormat>⟧.view
+        (m.olddirfid, (m.oldname, (m.newdirfid, m.newname))) };
 
     ghost Spells = { ⟦<RenameAtFields as WireFormat>⟧.Spells };
 

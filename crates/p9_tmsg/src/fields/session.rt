@@ -54,7 +54,8 @@ type AuthFields = (u32, (P9String, (P9String, u32)));
 impl WireFormat for Tauth {
     ghost Plain = { ⟦<AuthFields as WireFormat>⟧.Plain };
 
-    ghost view = { λ m. ⟦<AuthFields as WireFormat>⟧.view (m.afid, (m.uname, (m.aname, m.n_uname))) };
+    ghost view = { λ m. ⟦<AuthFields as WireFormat>⟧.view
+        (m.afid, (m.uname, (m.aname, m.n_uname))) };
 
     ghost Spells = { ⟦<AuthFields as WireFormat>⟧.Spells };
 
@@ -96,7 +97,8 @@ type AttachFields = (u32, (u32, (P9String, (P9String, u32))));
 impl WireFormat for Tattach {
     ghost Plain = { ⟦<AttachFields as WireFormat>⟧.Plain };
 
-    ghost view = { λ m. ⟦<AttachFields as WireFormat>⟧.view (m.fid, (m.afid, (m.uname, (m.aname, m.n_uname)))) };
+    ghost view = { λ m. ⟦<AttachFields as WireFormat>⟧.view
+        (m.fid, (m.afid, (m.uname, (m.aname, m.n_uname)))) };
 
     ghost Spells = { ⟦<AttachFields as WireFormat>⟧.Spells };
 

@@ -2,7 +2,8 @@
 use Rattle.std.proofs.Common.{◌≡◌, take, false, ap, sym, ◌∙◌, arith, take_all}
 use Rattle.fuse_wire.specs.Fields.{u32_at}
 use Rattle.fuse_wire.specs.Cuts.{is_allowed}
-use Rattle.fuse_wire.proofs.Takings.{stands-nothing, stands-few, stands-odd_length, takes-frame, stands-part, takes-stopped}
+use Rattle.fuse_wire.proofs.Takings.{stands-nothing, stands-few, stands-odd_length, takes-frame}
+use Rattle.fuse_wire.proofs.Takings.{stands-part, takes-stopped}
 use Rattle.fuse_wire.proofs.frames.next_frame.Goals as goal
 
 pub returns-then-n-eq0-clause-takes : goal.returns-then-n-eq0-clause-takes
@@ -14,34 +15,57 @@ returns-then-n-eq0-clause-takes g c =
 pub returns-then-n-lt4-clause-takes : goal.returns-then-n-lt4-clause-takes
 returns-then-n-lt4-clause-takes g c =
     let e = c.in-Ok.ensures in
-    let end = e.end (omega (arith, c.read_full.auto.buf)) in
-    (e.cause, stands-few _ _ _ e.bytes (omega (arith, e.bound.1)) (omega (arith, e.bound.1)) end, end)
+    let end = e.end (omega (arith, c.read_full.auto.buf)) in (
+      e.cause,
+      stands-few _ _ _ e.bytes (omega (arith, e.bound.1))
+          (omega (arith, e.bound.1)) end,
+      end,
+    )
 
 pub returns-then-not-is_allowed-clause-takes : goal.returns-then-not-is_allowed-clause-takes
 returns-then-not-is_allowed-clause-takes g c =
     let e = c.in-Ok.ensures in
-    let whole : take c.in-Ok.n c.read_full.new.buf ≡ c.read_full.new.buf = take_all _ _ (omega (arith, c.read_full.auto.buf)) in
-    let odd : is_allowed (u32_at c.read_full.new.buf 0) ≡ false = ap is_allowed (sym c.u32_at-len.ensures) ∙ sym c.if-not-is_allowed.ensures.value in
-    (e.cause, stands-odd_length _ _ _ (rw whole at e.bytes) (omega (arith, c.read_full.auto.buf)) odd)
+    let whole : take c.in-Ok.n c.read_full.new.buf ≡ c.read_full.new.buf =
+    take_all _ _ (omega (arith, c.read_full.auto.buf)) in
+    let odd : is_allowed (u32_at c.read_full.new.buf 0) ≡ false =
+    ap is_allowed (sym c.u32_at-len.ensures) ∙ sym c.if-not-is_allowed.ensures.value in (
+      e.cause,
+      stands-odd_length _ _ _ (rw whole at e.bytes)
+          (omega (arith, c.read_full.auto.buf)) odd,
+      (c.read_full.new.buf, rw whole at e.bytes, c.read_full.auto.buf),
+    )
 
 pub returns-in-Ok-true-clause-takes : goal.returns-in-Ok-true-clause-takes
 returns-in-Ok-true-clause-takes g c =
     let e = c.in-Ok.ensures in
-    let whole : take c.in-Ok.n c.read_full.new.buf ≡ c.read_full.new.buf = take_all _ _ (omega (arith, c.read_full.auto.buf)) in
+    let whole : take c.in-Ok.n c.read_full.new.buf ≡ c.read_full.new.buf =
+    take_all _ _ (omega (arith, c.read_full.auto.buf)) in
     let filled = rw c.in-Ok-true.field-0-test at c.in-Ok-true.ensures.fills in
     let behind = rw c.in_ok-begin.ensures.ok at filled.1 in
-    let t = takes-frame _ _ _ c.read_full.new.buf c.u32_at-len.result c.read_full.auto.buf c.u32_at-len.ensures (sym c.if-not-is_allowed.ensures.value) (omega arith) (rw whole at e.bytes) _ behind in
+    let t = takes-frame _ _ _ c.read_full.new.buf c.u32_at-len.result c.read_full.auto.buf
+    c.u32_at-len.ensures (sym c.if-not-is_allowed.ensures.value) (omega arith)
+    (rw whole at e.bytes) _ behind in
     (filled.0 ∙ e.cause, t.0, t.1)
 
 pub returns-in-Ok-false-clause-takes : goal.returns-in-Ok-false-clause-takes
 returns-in-Ok-false-clause-takes g c =
     let e = c.in-Ok.ensures in
-    let whole : take c.in-Ok.n c.read_full.new.buf ≡ c.read_full.new.buf = take_all _ _ (omega (arith, c.read_full.auto.buf)) in
-    let filled = rw c.in-Ok-false.field-0-test at c.in-Ok-false.ensures.fills in
-    (filled.0 ∙ e.cause, stands-part _ _ _ c.read_full.new.buf c.u32_at-len.result c.read_full.auto.buf c.u32_at-len.ensures (sym c.if-not-is_allowed.ensures.value) (omega arith) (rw whole at e.bytes) filled.1 filled.2, filled.2)
+    let whole : take c.in-Ok.n c.read_full.new.buf ≡ c.read_full.new.buf =
+    take_all _ _ (omega (arith, c.read_full.auto.buf)) in
+    let filled = rw c.in-Ok-false.field-0-test at c.in-Ok-false.ensures.fills in (
+      filled.0 ∙ e.cause,
+      stands-part _ _ _ c.read_full.new.buf c.u32_at-len.result
+          c.read_full.auto.buf c.u32_at-len.ensures (sym c.if-not-is_allowed.ensures.value)
+          (omega arith) (rw whole at e.bytes) filled.1 filled.2,
+      filled.2,
+    )
 
 pub returns-in-Err-fill-clause-takes : goal.returns-in-Err-fill-clause-takes
 returns-in-Err-fill-clause-takes g c =
     let e = c.in-Ok.ensures in
-    let whole : take c.in-Ok.n c.read_full.new.buf ≡ c.read_full.new.buf = take_all _ _ (omega (arith, c.read_full.auto.buf)) in
-    takes-stopped _ _ _ c.read_full.new.buf c.u32_at-len.result c.read_full.auto.buf c.u32_at-len.ensures (sym c.if-not-is_allowed.ensures.value) (omega arith) (rw whole at e.bytes) _ _ _ c.begin.new.frame.items c.fill.new.frame.items c.in-Err-fill.error e.cause c.in-Err-fill.ensures.fills
+    let whole : take c.in-Ok.n c.read_full.new.buf ≡ c.read_full.new.buf =
+    take_all _ _ (omega (arith, c.read_full.auto.buf)) in
+    takes-stopped _ _ _ c.read_full.new.buf c.u32_at-len.result c.read_full.auto.buf
+    c.u32_at-len.ensures (sym c.if-not-is_allowed.ensures.value) (omega arith)
+    (rw whole at e.bytes) _ _ _ c.begin.new.frame.items c.fill.new.frame.items
+    c.in-Err-fill.error e.cause c.in-Err-fill.ensures.fills

@@ -7,4 +7,6 @@ use Rattle.fuse_wire.proofs.reply.put_head.Goals as goal
 pub returns-clause-items : goal.returns-clause-items
 unfolding reply_head
 returns-clause-items c =
-    joined _ _ _ _ _ (c.put_u32s.ensures.items ∙ ap (λ (e : ℕ). c.args.out.now.items ++ u32s ((16 + c.args.size) ∷ e ∷ [])) c.negated.ensures) c.put_u64s.ensures.items
+    joined _ _ _ _ _ (c.put_u32s.ensures.items
+    ∙ ap (λ (e : ℕ). c.args.out.now.items ++ u32s ((16 + c.args.size) ∷ e ∷ []))
+    c.negated.ensures) c.put_u64s.ensures.items

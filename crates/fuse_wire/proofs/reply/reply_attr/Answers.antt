@@ -6,4 +6,9 @@ use Rattle.fuse_wire.proofs.reply.reply_attr.Goals as goal
 
 pub returns : goal.returns
 unfolding reply attr_body
-returns c = rw length-attr_body (rw (c.put_attr.ensures.items, c.put_u32s.ensures.items, c.put_u64s.ensures.items, c.put_head.ensures.items) (simp append_assoc))
+returns c = rw length-attr_body (rw (
+  c.put_attr.ensures.items,
+  c.put_u32s.ensures.items,
+  c.put_u64s.ensures.items,
+  c.put_head.ensures.items,
+) (simp append_assoc))

@@ -6,4 +6,8 @@ use Rattle.fuse_wire.proofs.reply.reply_opened.Goals as goal
 
 pub returns : goal.returns
 unfolding reply opened_body
-returns c = rw length-opened_body (rw (c.put_u32s.ensures.items, c.put_u64s.ensures.items, c.put_head.ensures.items) (simp append_assoc))
+returns c = rw length-opened_body (rw (
+  c.put_u32s.ensures.items,
+  c.put_u64s.ensures.items,
+  c.put_head.ensures.items,
+) (simp append_assoc))

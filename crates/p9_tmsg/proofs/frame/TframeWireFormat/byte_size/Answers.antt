@@ -7,4 +7,5 @@ use Rattle.p9_tmsg.proofs.frame.TframeWireFormat.byte_size.Goals as goal
 pub returns : goal.returns
 returns c =
     let m = message_of c.in-Ok.message in
-    rw c.in-Ok.is (c.frame_size.ensures ∙ sym (length-frame (message_kind m) c.args.self.now.tag (message_spelling m)))
+    rw c.in-Ok.is (c.frame_size.ensures ∙ sym
+    (length-frame (message_kind m) c.args.self.now.tag (message_spelling m)))

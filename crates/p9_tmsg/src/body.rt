@@ -1,5 +1,6 @@
-// The messages by their types.
-ghost use Rattle.p9_tmsg.specs.Messages.{Message, message_of, message_kind, MessageSpells, message_spelling, IsReadableMessage, message_reading};
+// The bodies of messages, by their types.
+ghost use Rattle.p9_tmsg.specs.Messages.{Message, message_of, message_kind, MessageSpells};
+ghost use Rattle.p9_tmsg.specs.Messages.{message_spelling, IsReadableMessage, message_reading};
 ghost use Rattle.p9_tmsg.specs.MessageLaws.{messages_lawful};
 
 use crate::kind::{

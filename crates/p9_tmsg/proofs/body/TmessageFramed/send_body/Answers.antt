@@ -1,11 +1,8 @@
 -- Each arm sends what its fields' spelling is.
-use Rattle.p9_rmsg.proofs.framed.RmessageFramed.send_body.Goals as goal
-
-pub returns-in-Lerror-clause-sends : goal.returns-in-Lerror-clause-sends
-returns-in-Lerror-clause-sends g c = rw c.in-Lerror.is c.send.ensures.sends
+use Rattle.p9_tmsg.proofs.body.TmessageFramed.send_body.Goals as goal
 
 pub returns-in-Statfs-clause-sends : goal.returns-in-Statfs-clause-sends
-returns-in-Statfs-clause-sends g c = rw c.in-Statfs.is c.send-in-Statfs.ensures.sends
+returns-in-Statfs-clause-sends g c = rw c.in-Statfs.is c.send.ensures.sends
 
 pub returns-in-Lopen-clause-sends : goal.returns-in-Lopen-clause-sends
 returns-in-Lopen-clause-sends g c = rw c.in-Lopen.is c.send-in-Lopen.ensures.sends
@@ -19,17 +16,29 @@ returns-in-Symlink-clause-sends g c = rw c.in-Symlink.is c.send-in-Symlink.ensur
 pub returns-in-Mknod-clause-sends : goal.returns-in-Mknod-clause-sends
 returns-in-Mknod-clause-sends g c = rw c.in-Mknod.is c.send-in-Mknod.ensures.sends
 
+pub returns-in-Rename-clause-sends : goal.returns-in-Rename-clause-sends
+returns-in-Rename-clause-sends g c = rw c.in-Rename.is c.send-in-Rename.ensures.sends
+
 pub returns-in-Readlink-clause-sends : goal.returns-in-Readlink-clause-sends
 returns-in-Readlink-clause-sends g c = rw c.in-Readlink.is c.send-in-Readlink.ensures.sends
 
 pub returns-in-GetAttr-clause-sends : goal.returns-in-GetAttr-clause-sends
 returns-in-GetAttr-clause-sends g c = rw c.in-GetAttr.is c.send-in-GetAttr.ensures.sends
 
+pub returns-in-SetAttr-clause-sends : goal.returns-in-SetAttr-clause-sends
+returns-in-SetAttr-clause-sends g c = rw c.in-SetAttr.is c.send-in-SetAttr.ensures.sends
+
 pub returns-in-XattrWalk-clause-sends : goal.returns-in-XattrWalk-clause-sends
 returns-in-XattrWalk-clause-sends g c = rw c.in-XattrWalk.is c.send-in-XattrWalk.ensures.sends
 
+pub returns-in-XattrCreate-clause-sends : goal.returns-in-XattrCreate-clause-sends
+returns-in-XattrCreate-clause-sends g c = rw c.in-XattrCreate.is c.send-in-XattrCreate.ensures.sends
+
 pub returns-in-Readdir-clause-sends : goal.returns-in-Readdir-clause-sends
 returns-in-Readdir-clause-sends g c = rw c.in-Readdir.is c.send-in-Readdir.ensures.sends
+
+pub returns-in-Fsync-clause-sends : goal.returns-in-Fsync-clause-sends
+returns-in-Fsync-clause-sends g c = rw c.in-Fsync.is c.send-in-Fsync.ensures.sends
 
 pub returns-in-Lock-clause-sends : goal.returns-in-Lock-clause-sends
 returns-in-Lock-clause-sends g c = rw c.in-Lock.is c.send-in-Lock.ensures.sends
@@ -37,8 +46,17 @@ returns-in-Lock-clause-sends g c = rw c.in-Lock.is c.send-in-Lock.ensures.sends
 pub returns-in-GetLock-clause-sends : goal.returns-in-GetLock-clause-sends
 returns-in-GetLock-clause-sends g c = rw c.in-GetLock.is c.send-in-GetLock.ensures.sends
 
+pub returns-in-Link-clause-sends : goal.returns-in-Link-clause-sends
+returns-in-Link-clause-sends g c = rw c.in-Link.is c.send-in-Link.ensures.sends
+
 pub returns-in-Mkdir-clause-sends : goal.returns-in-Mkdir-clause-sends
 returns-in-Mkdir-clause-sends g c = rw c.in-Mkdir.is c.send-in-Mkdir.ensures.sends
+
+pub returns-in-RenameAt-clause-sends : goal.returns-in-RenameAt-clause-sends
+returns-in-RenameAt-clause-sends g c = rw c.in-RenameAt.is c.send-in-RenameAt.ensures.sends
+
+pub returns-in-UnlinkAt-clause-sends : goal.returns-in-UnlinkAt-clause-sends
+returns-in-UnlinkAt-clause-sends g c = rw c.in-UnlinkAt.is c.send-in-UnlinkAt.ensures.sends
 
 pub returns-in-Version-clause-sends : goal.returns-in-Version-clause-sends
 returns-in-Version-clause-sends g c = rw c.in-Version.is c.send-in-Version.ensures.sends
@@ -49,6 +67,9 @@ returns-in-Auth-clause-sends g c = rw c.in-Auth.is c.send-in-Auth.ensures.sends
 pub returns-in-Attach-clause-sends : goal.returns-in-Attach-clause-sends
 returns-in-Attach-clause-sends g c = rw c.in-Attach.is c.send-in-Attach.ensures.sends
 
+pub returns-in-Flush-clause-sends : goal.returns-in-Flush-clause-sends
+returns-in-Flush-clause-sends g c = rw c.in-Flush.is c.send-in-Flush.ensures.sends
+
 pub returns-in-Walk-clause-sends : goal.returns-in-Walk-clause-sends
 returns-in-Walk-clause-sends g c = rw c.in-Walk.is c.send-in-Walk.ensures.sends
 
@@ -57,3 +78,9 @@ returns-in-Read-clause-sends g c = rw c.in-Read.is c.send-in-Read.ensures.sends
 
 pub returns-in-Write-clause-sends : goal.returns-in-Write-clause-sends
 returns-in-Write-clause-sends g c = rw c.in-Write.is c.send-in-Write.ensures.sends
+
+pub returns-in-Clunk-clause-sends : goal.returns-in-Clunk-clause-sends
+returns-in-Clunk-clause-sends g c = rw c.in-Clunk.is c.send-in-Clunk.ensures.sends
+
+pub returns-in-Remove-clause-sends : goal.returns-in-Remove-clause-sends
+returns-in-Remove-clause-sends g c = rw c.in-Remove.is c.send-in-Remove.ensures.sends

@@ -1,5 +1,6 @@
-// The messages by their types.
-ghost use Rattle.p9_rmsg.specs.Replies.{Reply, reply_of, reply_kind, ReplySpells, reply_spelling, IsReadableReply, reply_reading};
+// The bodies of messages, by their types.
+ghost use Rattle.p9_rmsg.specs.Replies.{Reply, reply_of, reply_kind, ReplySpells, reply_spelling};
+ghost use Rattle.p9_rmsg.specs.Replies.{IsReadableReply, reply_reading};
 ghost use Rattle.p9_rmsg.specs.ReplyLaws.{replies_lawful};
 
 use crate::kind::{
