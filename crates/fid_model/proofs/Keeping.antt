@@ -3,12 +3,13 @@ use Rattle.std.proofs.Common.{◌≡◌, ℕ, Bool, true, false, cond, ◌||◌,
 use Rattle.std.specs.Prelude.{◌==◌}
 use Rattle.std.proofs.lemmas.Bool.{false≢true}
 use Rattle.std.specs.FinMap.{get, retain_keys}
-use Rattle.tree_model.specs.Tree.{Tree, Record, Records, is_linked, name_count, names_in, count_names, listed, weight, keep, top}
+use Rattle.tree_model.specs.declared.attributes.TheConstants.{TOP}
+use Rattle.tree_model.specs.Tree.{Tree, Record, Records, is_linked, name_count, names_in, count_names, listed, weight, keep}
 use Rattle.tree_model.specs.Good.{IsGoodTree}
 use Rattle.tree_model.specs.Sound.{IsKept}
 use Rattle.tree_model.proofs.Maps.{retained, same_gets}
 use Rattle.tree_model.proofs.Counting.{weigh-alike}
-use Rattle.fid_model.specs.Fids.{ServerState, is_held, settled, IsGoodServer}
+use Rattle.fid_model.specs.Fids.{ServerState, is_held, kept_state, IsGoodServer}
 
 passes : (b : Bool) (o : Option Record) → (IsSome o → b ≡ true) → cond b o None ≡ o
 passes true o h = refl
@@ -27,11 +28,11 @@ pub keep_alike : (t : Tree) (held other : ℕ → Bool) → ((i : ℕ) → held 
 keep_alike t held other same = λ j. keep (λ i. same i j) t
 
 -- the state as it is with other fids, where nothing has to go
-pub settled_kept : (s : ServerState) → IsKept s.tree.records (is_held s.fids) → settled s ≡ s
-settled_kept s kept = ap (λ (t : Tree). let u : ServerState = record s { tree = t } in u) (keep_same s.tree (is_held s.fids) kept)
+pub kept_state_kept : (s : ServerState) → IsKept s.tree.records (is_held s.fids) → kept_state s ≡ s
+kept_state_kept s kept = ap (λ (t : Tree). let u : ServerState = record s { tree = t } in u) (keep_same s.tree (is_held s.fids) kept)
 
-pub settled_same : (s : ServerState) → IsGoodServer s → settled s ≡ s
-settled_same s good = settled_kept s good.kept
+pub kept_state_good : (s : ServerState) → IsGoodServer s → kept_state s ≡ s
+kept_state_good s good = kept_state_kept s good.kept
 
 -- ---- twice
 
@@ -52,7 +53,7 @@ module _ (t : Tree) (good : IsGoodTree t) (held : ℕ → Bool) where
       ∙ gone_names (is_linked t.records i || held i) q (get t.records i) (λ free r at. good.emptied i r at (or_false _ _ free)))
 
   same_linked : (q : ℕ) → is_linked (keep held t).records q ≡ is_linked t.records q
-  same_linked q = ap (λ n. (q == top) || nat_lt 0 n) (same_names q)
+  same_linked q = ap (λ n. (q == TOP) || nat_lt 0 n) (same_names q)
 
   cond_twice : (a b : Bool) (o : Option Record) → (b ≡ true → a ≡ true) → cond b (cond a o None) None ≡ cond b o None
   cond_twice a true o h = ap (λ c. cond c o None) (h refl)

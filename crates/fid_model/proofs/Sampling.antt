@@ -1,23 +1,28 @@
 -- The fid machine on a small server: its answers follow by computation from what its maps have.
-use Rattle.std.proofs.Common.{◌≡◌, ℕ, ◌+◌, Bool, true, false, cond, List, [], ◌∷◌, ap, ◌∙◌, Option, Some, None, Result, Ok, Err, arith}
-use Rattle.std.specs.Prelude.{codes, is_some, nat_le}
+use Rattle.std.proofs.Common.{◌≡◌, ℕ, ◌+◌, Bool, true, false, cond, List, [], ◌∷◌, refl, sym, ap, ◌∙◌, subst, inl, inr, Option, Some, None, Result, Ok, Err, arith}
+use Rattle.std.specs.Prelude.{codes, is_some, nat_le, option_map, MatchResult}
 use Rattle.std.specs.Ordering.{nat_cmp}
 use Rattle.std.specs.Cmp.{nat_cmp_total}
 use Rattle.std.specs.FinMap.{get, insert, remove, empty, len, len-insert, len-empty, get-empty}
 use Rattle.port_base.specs.declared.errno.TheConstants.{EBADF, EINVAL, EISDIR, ENFILE, ENOENT, ENOTDIR}
 use Rattle.port_base.proofs.ByComputing.{name_word, name_three_dots}
 use Rattle.tree_model.specs.Finding.{find, root_of}
+use Rattle.tree_model.specs.Tree.{Tree, Record, Body, body_at}
+use Rattle.tree_model.specs.Making.{unless_refused}
+use Rattle.tree_model.specs.Attributing.{with_changed, remoded, refused_at, refused_for_link}
 use Rattle.tree_model.specs.Attributes.{attr_or_missing}
-use Rattle.tree_model.specs.Samples.{hello, sample}
+use Rattle.tree_model.specs.Samples.{born, hello, sample}
 use Rattle.tree_model.proofs.Maps.{inserted, insert_keeps}
-use Rattle.tree_model.proofs.Sampling.{looked_up, top_at, file_at, found, open_top, read_file}
+use Rattle.tree_model.proofs.Sampling.{looked_up, directory, top_at, file_at, found, open_top, read_file}
 use Rattle.tree_model.proofs.Telling.{root_top}
-use Rattle.p9_tmsg.specs.Messages.Message.{attach as t_attach, clunk as t_clunk, getattr as t_getattr, lopen as t_lopen, read as t_read, walk as t_walk}
+use Rattle.p9_tmsg.specs.Messages.Message.{attach as t_attach, clunk as t_clunk, getattr as t_getattr, lopen as t_lopen, read as t_read, setattr as t_setattr, walk as t_walk}
 use Rattle.p9_rmsg.specs.Replies.{Reply}
 use Rattle.p9_rmsg.specs.Replies.Reply.{attach as r_attach, clunk as r_clunk, lerror as r_lerror, lopen as r_lopen, read as r_read, walk as r_walk}
 use Rattle.fid_model.specs.Fids.{Fid, ServerState, closed}
 use Rattle.fid_model.specs.Fids.OpenState.{Opened}
-use Rattle.fid_model.specs.Answers.{core, qid_at, qid_told, attached, Walked, walked_on, walk_names, walk_told, walk_from, find_unless, lopen_told, lopen_by, read_by, piece_told, clunk_by, getattr_by}
+use Rattle.fid_model.specs.Answers.{core, qid_at, qid_told, attached, Walked, walked_on, walk_names, walk_answer, walk_from, find_unless, lopen_answer, lopen_by, read_by, read_reply, clunk_by, getattr_by}
+use Rattle.fid_model.specs.Setattr.{IsAfterFront, changes, resize_step, steps_at}
+use Rattle.fid_model.specs.Parts.{IsPartDone}
 use Rattle.fid_model.specs.Samples.{server, with_open, top_qid, file_qid}
 
 -- ---- the tree
@@ -99,7 +104,7 @@ walk_by fid names taken from = cond (is_some taken) (r_lerror EBADF, server) (wa
 
 -- few names from the top directory to the free fid 8
 abbrev walk_at : List (List ℕ) → Bool → Answer
-walk_at names full = cond full (r_lerror ENFILE, server) (walk_told server 8 (walk_names false sample names 1))
+walk_at names full = cond full (r_lerror ENFILE, server) (walk_answer server 8 (walk_names false sample names 1))
 
 abbrev stepped : Result ℕ ℕ → List (List ℕ) → Walked
 stepped told names = walked_on sample (walk_names false sample names) told
@@ -110,7 +115,7 @@ one_found names = ap (λ (o : Option ℕ). stepped (find_unless o false sample 1
 pub walk_found : core server (t_walk 7 8 (hello ∷ [])) ≡ (r_walk (file_qid ∷ []), record server { fids = insert server.fids 8 (closed 2) })
 walk_found =
     ap (λ o. walk_by 7 (hello ∷ []) o (get server.fids 7)) eight ∙ ap (walk_by 7 (hello ∷ []) None) seven ∙ ap (walk_at (hello ∷ [])) room
-    ∙ ap (walk_told server 8) (one_found []) ∙ ap (λ q. (r_walk (q ∷ []), record server { fids = insert server.fids 8 (closed 2) })) qid_of_file
+    ∙ ap (walk_answer server 8) (one_found []) ∙ ap (λ q. (r_walk (q ∷ []), record server { fids = insert server.fids 8 (closed 2) })) qid_of_file
 
 pub walk_copied : core server (t_walk 7 8 []) ≡ (r_walk [], record server { fids = insert server.fids 8 (closed 1) })
 walk_copied = ap (λ o. walk_by 7 [] o (get server.fids 7)) eight ∙ ap (walk_by 7 [] None) seven ∙ ap (walk_at []) room
@@ -121,12 +126,12 @@ none_below = ap (λ (o : Option ℕ). stepped (find_unless o false sample 2 hell
 pub walk_part : core server (t_walk 7 8 (hello ∷ hello ∷ [])) ≡ (r_walk (file_qid ∷ []), server)
 walk_part =
     ap (λ o. walk_by 7 (hello ∷ hello ∷ []) o (get server.fids 7)) eight ∙ ap (walk_by 7 (hello ∷ hello ∷ []) None) seven ∙ ap (walk_at (hello ∷ hello ∷ [])) room
-    ∙ ap (walk_told server 8) (one_found (hello ∷ [])) ∙ ap (λ (w : Walked). walk_told server 8 (qid_at sample 2 ∷ w.0, w.1)) none_below ∙ ap (λ q. (r_walk (q ∷ []), server)) qid_of_file
+    ∙ ap (walk_answer server 8) (one_found (hello ∷ [])) ∙ ap (λ (w : Walked). walk_answer server 8 (qid_at sample 2 ∷ w.0, w.1)) none_below ∙ ap (λ q. (r_walk (q ∷ []), server)) qid_of_file
 
 pub walk_missing : core server (t_walk 7 8 (codes "..." ∷ [])) ≡ (r_lerror ENOENT, server)
 walk_missing =
     ap (λ o. walk_by 7 (codes "..." ∷ []) o (get server.fids 7)) eight ∙ ap (walk_by 7 (codes "..." ∷ []) None) seven ∙ ap (walk_at (codes "..." ∷ [])) room
-    ∙ ap (λ (o : Option ℕ). walk_told server 8 (stepped (find_unless o false sample 1 (codes "...")) [])) name_three_dots ∙ ap (λ told. walk_told server 8 (stepped told [])) not_found
+    ∙ ap (λ (o : Option ℕ). walk_answer server 8 (stepped (find_unless o false sample 1 (codes "...")) [])) name_three_dots ∙ ap (λ told. walk_answer server 8 (stepped told [])) not_found
 
 pub walk_above : core server (t_walk 7 8 (codes ".." ∷ [])) ≡ (r_lerror EINVAL, server)
 walk_above = ap (λ o. walk_by 7 (codes ".." ∷ []) o (get server.fids 7)) eight ∙ ap (walk_by 7 (codes ".." ∷ []) None) seven ∙ ap (walk_at (codes ".." ∷ [])) room
@@ -138,23 +143,23 @@ walk_unknown = ap (λ o. walk_by 9 [] o (get server.fids 9)) eight ∙ ap (walk_
 
 pub open_read : core server (t_lopen 7 0) ≡ (r_lopen top_qid 0, record server { fids = insert server.fids 7 (record { ino = 1; open_state = Opened 0 false }) })
 open_read =
-    ap (lopen_by server 7 0) seven ∙ ap (lopen_told server 7 0 (closed 1)) (open_top 0)
+    ap (lopen_by server 7 0) seven ∙ ap (lopen_answer server 7 0 (closed 1)) (open_top 0)
     ∙ ap (λ q. (r_lopen q 0, record server { fids = insert server.fids 7 (record { ino = 1; open_state = Opened 0 false }) })) qid_of_top
 
 pub open_written : core server (t_lopen 7 1) ≡ (r_lerror EISDIR, server)
-open_written = ap (lopen_by server 7 1) seven ∙ ap (lopen_told server 7 1 (closed 1)) (open_top 1)
+open_written = ap (lopen_by server 7 1) seven ∙ ap (lopen_answer server 7 1 (closed 1)) (open_top 1)
 
 pub open_unknown : core server (t_lopen 9 0) ≡ (r_lerror EBADF, server)
 open_unknown = ap (lopen_by server 9 0) nine
 
 pub read_part : core with_open (t_read 8 1 3) ≡ (r_read (codes "orl"), with_open)
-read_part = ap (λ o. (read_by with_open 1 3 o, with_open)) eight_open ∙ ap (λ told. (piece_told told, with_open)) (read_file 1 3)
+read_part = ap (λ o. (read_by with_open 1 3 o, with_open)) eight_open ∙ ap (λ told. (read_reply told, with_open)) (read_file 1 3)
 
 abbrev small : ServerState
 small = record with_open { msize = 13 }
 
 pub read_small : (core small (t_read 8 0 8)).0 ≡ r_read (codes "wo")
-read_small = ap (read_by small 0 8) eight_open ∙ ap piece_told (read_file 0 2)
+read_small = ap (read_by small 0 8) eight_open ∙ ap read_reply (read_file 0 2)
 
 pub read_closed : core server (t_read 7 0 8) ≡ (r_lerror EBADF, server)
 read_closed = ap (λ o. (read_by server 0 8 o, server)) seven
@@ -167,3 +172,17 @@ clunk_unknown = ap (clunk_by server 9) nine
 
 pub getattr_unknown : core server (t_getattr 9 0) ≡ (r_lerror EBADF, server)
 getattr_unknown = ap (λ o. (getattr_by server o, server)) nine
+
+-- ---- what a fault leaves of a Tsetattr
+
+body_of_top : body_at sample.records 1 ≡ Some directory.body
+body_of_top = ap (option_map (λ (r : Record). r.body)) top_at
+
+abbrev new_mode : Tree
+new_mode = with_changed (remoded 448 born) 1 sample
+
+pub mode_done : IsPartDone server (t_setattr 7 9 448 0 0 0 0 0 0 0) new_mode
+mode_done =
+    let c = changes 9 448 0 0 0 0 0 0 0 in
+    subst (λ (o : Option Fid). IsAfterFront (steps_at c o) sample new_mode) (sym seven)
+    (inr (subst (λ (o : Option Body). MatchResult (unless_refused (refused_at refused_for_link o) (tt {0}) new_mode) (λ done. IsAfterFront (resize_step (closed 1) 0 ∷ []) done.1 new_mode) (λ e. ⊥)) (sym body_of_top) (inl refl)))

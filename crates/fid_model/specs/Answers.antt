@@ -3,24 +3,22 @@ use Rattle.std.specs.Prelude.{ℕ, ◌-◌, min, Bool, ◌&&◌, not, List, [], 
 use Rattle.std.specs.FinMap as map
 use Rattle.port_base.specs.Names.{name_fault}
 use Rattle.port_base.specs.declared.errno.TheConstants.{EBADF, EINVAL, ENFILE, EOPNOTSUPP}
-use Rattle.port_base.specs.declared.oflag.TheConstants.{TRUNC, APPEND}
+use Rattle.port_base.specs.declared.oflag.TheConstants.{O_TRUNC, O_APPEND}
 use Rattle.tree_model.specs.Tree.{Tree}
 use Rattle.tree_model.specs.Finding.{find, root_of}
 use Rattle.tree_model.specs.Attributes.{Qid, qid_of, stat_of, blocks_of}
-use Rattle.tree_model.specs.Opening.{access, has_flag, open_check_of, read_of}
+use Rattle.port_base.specs.OpenFlags.{access, has_flag}
+use Rattle.tree_model.specs.Opening.{open_check_of, read_of}
 use Rattle.tree_model.specs.Settings.{Settings, shown_of}
 use Rattle.tree_model.specs.declared.attributes.Attr.{Attr}
+use Rattle.tree_model.specs.declared.attributes.TheConstants.{BLOCK_SIZE}
+use Rattle.p9_wire.specs.declared.protocol.TheConstants.{P9_GETATTR_BASIC, P9_MAXWELEM, RREAD_HEADER_SIZE}
 use Rattle.p9_tmsg.specs.Messages.{Message}
 use Rattle.p9_tmsg.specs.Messages.Message.{attach as t_attach, clunk as t_clunk, getattr as t_getattr, lopen as t_lopen, read as t_read, walk as t_walk}
 use Rattle.p9_rmsg.specs.Replies.{Reply, Attributes}
 use Rattle.p9_rmsg.specs.Replies.Reply.{attach as r_attach, clunk as r_clunk, getattr as r_getattr, lerror as r_lerror, lopen as r_lopen, read as r_read, walk as r_walk}
-use Rattle.fid_model.specs.Fids.{Fid, ServerState, closed, is_readable, settled}
+use Rattle.fid_model.specs.Fids.{Fid, ServerState, closed, is_readable, kept_state}
 use Rattle.fid_model.specs.Fids.OpenState.{Opened}
-use Rattle.fid_model.specs.declared.sizes.TheConstants.{READ_HEAD}
-
--- the most names of a walk
-abbrev pub WALK_LIMIT : ℕ
-WALK_LIMIT = 16
 
 -- ---- attach
 
@@ -67,17 +65,17 @@ walk_names casefold t [] i = ([], Ok i)
 walk_names casefold t (name ∷ names) i = walked_on t (walk_names casefold t names) (step_to casefold t i name)
 
 -- the whole walk gives the new fid its inode; a walk that was refused at a later name tells the qids so far
-abbrev pub walk_told : ServerState → ℕ → Walked → Reply × ServerState
-walk_told s newfid (qids, Ok i) = (r_walk qids, record s { fids = map.insert s.fids newfid (closed i) })
-walk_told s newfid ([], Err e) = (r_lerror e, s)
-walk_told s newfid (q ∷ qids, Err e) = (r_walk (q ∷ qids), s)
+abbrev pub walk_answer : ServerState → ℕ → Walked → Reply × ServerState
+walk_answer s newfid (qids, Ok i) = (r_walk qids, record s { fids = map.insert s.fids newfid (closed i) })
+walk_answer s newfid ([], Err e) = (r_lerror e, s)
+walk_answer s newfid (q ∷ qids, Err e) = (r_walk (q ∷ qids), s)
 
 abbrev pub walk_from : ServerState → ℕ → ℕ → List (List ℕ) → Option Fid → Reply × ServerState
 walk_from s fid newfid names None = (r_lerror EBADF, s)
 walk_from s fid newfid names (Some f) =
     if not (newfid == fid) && nat_le s.settings.limit (map.len s.fids) then (r_lerror ENFILE, s) else
-    if nat_lt WALK_LIMIT (length names) then (r_lerror EINVAL, s) else
-    walk_told s newfid (walk_names s.settings.casefold s.tree names f.ino)
+    if nat_lt P9_MAXWELEM (length names) then (r_lerror EINVAL, s) else
+    walk_answer s newfid (walk_names s.settings.casefold s.tree names f.ino)
 
 abbrev pub walk_core : ServerState → ℕ → ℕ → List (List ℕ) → Reply × ServerState
 walk_core s fid newfid names =
@@ -86,61 +84,65 @@ walk_core s fid newfid names =
 
 -- ---- attributes
 
--- the fields that are valid: all basic ones (mode to blocks)
-abbrev pub GETATTR_BASIC : ℕ
-GETATTR_BASIC = 2047
-
--- the size of a block for a reader
-abbrev pub BLOCK_SIZE : ℕ
-BLOCK_SIZE = 4096
-
--- the fields of a reply to GetAttr, from what is shown of an inode
+-- the fields of Rgetattr, from what is shown of an inode
 abbrev pub attributes_of : Attr → Attributes
-attributes_of a = (
-  (GETATTR_BASIC, (qid_of a, (a.mode, (a.uid, (a.gid, a.links))))),
-  (
-    (0, (a.size, (BLOCK_SIZE, blocks_of a.size))),
-    (
-      (a.atime.sec, (a.atime.nsec, (a.mtime.sec, a.mtime.nsec))),
-      ((a.ctime.sec, (a.ctime.nsec, (0, 0))), (0, 0)),
-    ),
-  ),
-)
+attributes_of a = record {
+  valid = P9_GETATTR_BASIC;
+  qid = qid_of a;
+  mode = a.mode;
+  uid = a.uid;
+  gid = a.gid;
+  nlink = a.links;
+  rdev = 0;
+  size = a.size;
+  blksize = BLOCK_SIZE;
+  blocks = blocks_of a.size;
+  atime_sec = a.atime.sec;
+  atime_nsec = a.atime.nsec;
+  mtime_sec = a.mtime.sec;
+  mtime_nsec = a.mtime.nsec;
+  ctime_sec = a.ctime.sec;
+  ctime_nsec = a.ctime.nsec;
+  btime_sec = 0;
+  btime_nsec = 0;
+  generation = 0;
+  data_version = 0;
+}
 
-abbrev pub got : Settings → Result Attr ℕ → Reply
-got settings (Ok a) = r_getattr (attributes_of (shown_of settings a))
-got settings (Err e) = r_lerror e
+abbrev pub getattr_reply : Settings → Result Attr ℕ → Reply
+getattr_reply settings (Ok a) = r_getattr (attributes_of (shown_of settings a))
+getattr_reply settings (Err e) = r_lerror e
 
 abbrev pub getattr_by : ServerState → Option Fid → Reply
 getattr_by s None = r_lerror EBADF
-getattr_by s (Some f) = got s.settings (stat_of s.tree f.ino)
+getattr_by s (Some f) = getattr_reply s.settings (stat_of s.tree f.ino)
 
 -- ---- opening and reading
 
 -- the fid as it is open by these flags
 abbrev pub opened : Fid → ℕ → Fid
-opened f flags = record f { open_state = Opened (access flags) (has_flag APPEND flags) }
+opened f flags = record f { open_state = Opened (access flags) (has_flag O_APPEND flags) }
 
-abbrev pub lopen_told : ServerState → ℕ → ℕ → Fid → Result (Unit {0}) ℕ → Reply × ServerState
-lopen_told s fid flags f (Ok u) = (r_lopen (qid_at s.tree f.ino) 0, record s { fids = map.insert s.fids fid (opened f flags) })
-lopen_told s fid flags f (Err e) = (r_lerror e, s)
+abbrev pub lopen_answer : ServerState → ℕ → ℕ → Fid → Result (Unit {0}) ℕ → Reply × ServerState
+lopen_answer s fid flags f (Ok u) = (r_lopen (qid_at s.tree f.ino) 0, record s { fids = map.insert s.fids fid (opened f flags) })
+lopen_answer s fid flags f (Err e) = (r_lerror e, s)
 
 abbrev pub lopen_by : ServerState → ℕ → ℕ → Option Fid → Reply × ServerState
 lopen_by s fid flags None = (r_lerror EBADF, s)
-lopen_by s fid flags (Some f) = lopen_told s fid flags f (open_check_of s.tree f.ino flags)
+lopen_by s fid flags (Some f) = lopen_answer s fid flags f (open_check_of s.tree f.ino flags)
 
 -- the fid is open so, also if it was before; that a file is emptied isn't served yet
 abbrev pub lopen_core : ServerState → ℕ → ℕ → Reply × ServerState
-lopen_core s fid flags = if has_flag TRUNC flags then (r_lerror EOPNOTSUPP, s) else lopen_by s fid flags (map.get s.fids fid)
+lopen_core s fid flags = if has_flag O_TRUNC flags then (r_lerror EOPNOTSUPP, s) else lopen_by s fid flags (map.get s.fids fid)
 
-abbrev pub piece_told : Result (List ℕ) ℕ → Reply
-piece_told (Ok bytes) = r_read bytes
-piece_told (Err e) = r_lerror e
+abbrev pub read_reply : Result (List ℕ) ℕ → Reply
+read_reply (Ok bytes) = r_read bytes
+read_reply (Err e) = r_lerror e
 
 -- as many bytes as there are, are asked for and fit a frame
 abbrev pub read_by : ServerState → ℕ → ℕ → Option Fid → Reply
 read_by s offset count None = r_lerror EBADF
-read_by s offset count (Some f) = if is_readable f.open_state then piece_told (read_of s.tree f.ino offset (min count (s.msize - READ_HEAD))) else r_lerror EBADF
+read_by s offset count (Some f) = if is_readable f.open_state then read_reply (read_of s.tree f.ino offset (min count (s.msize - RREAD_HEADER_SIZE))) else r_lerror EBADF
 
 -- ---- clunk
 
@@ -161,4 +163,4 @@ core s _ = (r_lerror EOPNOTSUPP, s)
 
 -- the reply to a message, and the state after it
 abbrev pub answer : ServerState → Message → Reply × ServerState
-answer s m = ((core s m).0, settled (core s m).1)
+answer s m = ((core s m).0, kept_state (core s m).1)

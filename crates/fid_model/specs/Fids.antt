@@ -1,8 +1,9 @@
 -- The state of a 9P server: a tree, and fids that name its inodes.
-use Rattle.std.specs.Prelude.{ℕ, ◌<◌, ◌≤◌, ◌^◌, Bool, false, cond, not, ◌==◌, nat_lt}
+use Rattle.std.specs.Prelude.{◌≡◌, ℕ, ◌<◌, ◌≤◌, ◌^◌, Bool, false, cond, not, ◌==◌, nat_lt}
 use Rattle.std.specs.Ordering.{nat_cmp}
 use Rattle.std.specs.FinMap as map
 use Rattle.std.specs.FinMap.{FinMap}
+use Rattle.port_base.specs.declared.oflag.TheConstants.{O_WRONLY}
 use Rattle.tree_model.specs.Tree.{Tree, weigh, keep}
 use Rattle.tree_model.specs.Good.{IsGoodTree}
 use Rattle.tree_model.specs.Sound.{IsKept, AreStored}
@@ -16,7 +17,7 @@ pub data OpenState : Type 0 where
 -- open, and not for writing alone
 abbrev pub is_readable : OpenState → Bool
 is_readable Closed = false
-is_readable (Opened access append) = not (access == 1)
+is_readable (Opened access append) = not (access == O_WRONLY)
 
 -- what a fid names: an inode, whatever becomes of its names
 pub record Fid : Type 0 where
@@ -33,6 +34,10 @@ pub record ServerState : Type 0 where
   pub msize : ℕ
   pub settings : Settings
 
+-- no more than the tree has changed
+abbrev pub IsTreeAlone : ServerState → ServerState → Type 0
+IsTreeAlone s0 s1 = s1 ≡ record s0 { tree = s1.tree }
+
 abbrev pub closed : ℕ → Fid
 closed i = record { ino = i; open_state = Closed }
 
@@ -48,12 +53,12 @@ abbrev pub is_held : Fids → ℕ → Bool
 is_held fids i = nat_lt 0 (fid_count fids i)
 
 -- the records go that are neither linked nor named by a fid
-abbrev pub settled : ServerState → ServerState
-settled s = record s { tree = keep (is_held s.fids) s.tree }
+abbrev pub kept_state : ServerState → ServerState
+kept_state s = record s { tree = keep (is_held s.fids) s.tree }
 
 -- a server without fids: of its tree the linked records are left
 abbrev pub cleared : ServerState → ServerState
-cleared s = settled (record s { fids = map.empty })
+cleared s = kept_state (record s { fids = map.empty })
 
 -- what each server keeps: its tree is good, a record is stored exactly where it is linked or a fid names it, and every reply has room
 pub record IsGoodServer (s : ServerState) : Type 0 where

@@ -1,6 +1,9 @@
 pub mod Fids
 pub mod Answers
+pub mod Setattr
+pub mod Parts
 pub mod Serving
-pub mod Samples
+pub mod Moments
 pub mod Handling
-pub mod Asked
+pub mod Calls
+pub mod Samples

@@ -1,13 +1,22 @@
 //! The fid machine, computed on a small server: fid 7 names the top directory, in which `hello` is a file.
-ghost use Rattle.std.specs.Prelude.{◌≡◌, [], ◌∷◌, false, codes};
+ghost use Rattle.std.specs.Prelude.{◌≡◌, [], ◌∷◌, true, false, Some, None, codes};
 ghost use Rattle.std.specs.FinMap.{insert, remove};
-ghost use Rattle.port_base.specs.declared.errno.TheConstants.{EBADF, EINVAL, EISDIR, ENFILE, ENOENT, EOPNOTSUPP};
-ghost use Rattle.p9_tmsg.specs.Messages.Message.{attach as t_attach, clunk as t_clunk, getattr as t_getattr, lopen as t_lopen, read as t_read, walk as t_walk, statfs as t_statfs};
+ghost use Rattle.port_base.specs.declared.errno.TheConstants.{EBADF, EINVAL, EIO, EISDIR, ELOOP, ENFILE, ENOENT, EOPNOTSUPP};
+ghost use Rattle.p9_tmsg.specs.Messages.Message.{attach as t_attach, clunk as t_clunk, getattr as t_getattr, lopen as t_lopen, read as t_read, walk as t_walk, statfs as t_statfs, setattr as t_setattr, version as t_version, flush as t_flush};
 ghost use Rattle.p9_rmsg.specs.Replies.Reply.{attach as r_attach, clunk as r_clunk, lerror as r_lerror, lopen as r_lopen, read as r_read, walk as r_walk};
 ghost use Rattle.tree_model.specs.Samples.{hello};
 ghost use Rattle.fid_model.specs.Fids.{closed};
 ghost use Rattle.fid_model.specs.Fids.OpenState.{Opened};
 ghost use Rattle.fid_model.specs.Answers.{core};
+ghost use Rattle.tree_model.specs.Tree.Body.{File, Directory, Link};
+ghost use Rattle.tree_model.specs.Samples.{born, sample};
+ghost use Rattle.tree_model.specs.Attributing.{with_changed, remoded, touch_ctime_of};
+ghost use Rattle.tree_model.specs.declared.attributes.TimeSet.TheVariants.{Keep, Now, At};
+ghost use Rattle.fid_model.specs.Fids.OpenState.{Closed};
+ghost use Rattle.fid_model.specs.Setattr.{changes, new_owner, new_time, size_refused, steps};
+ghost use Rattle.fid_model.specs.Parts.{IsPartDone};
+ghost use Rattle.fid_model.specs.Handling.{IsHurtReply};
+ghost use Rattle.fid_model.specs.declared.setattr.TheConstants.{UNCHANGED_ID};
 ghost use Rattle.fid_model.specs.Samples.{server, with_open, top_qid, file_qid};
 
 /// A new fid for the root, while there is room for one.
@@ -53,4 +62,33 @@ pub fn ending()
     ensures unknown { core server (t_clunk 9) ≡ (r_lerror EBADF, server) }
     ensures no_attributes { core server (t_getattr 9 0) ≡ (r_lerror EBADF, server) }
     ensures unserved { core server (t_statfs 7) ≡ (r_lerror EOPNOTSUPP, server) }
+{}
+
+/// What a Tsetattr does: who owns a file, when it was changed, and what refuses a size. The change of the attributes
+/// is told by itself only where no other bit that has a name is set.
+pub fn setting()
+    ensures owner { new_owner true 5 ≡ Some 5 }
+    ensures same_owner { new_owner true UNCHANGED_ID ≡ None }
+    ensures no_owner { new_owner false 5 ≡ None }
+    ensures kept { new_time false true born ≡ Keep }
+    ensures moment { new_time true false born ≡ Now }
+    ensures given { new_time true true born ≡ At born }
+    ensures to_read { size_refused (Opened 0 false) (File []) ≡ Some EINVAL }
+    ensures to_write { size_refused (Opened 1 false) (File []) ≡ None }
+    ensures closed { size_refused Closed (File []) ≡ None }
+    ensures directory { size_refused Closed (Directory [] 1 1) ≡ Some EISDIR }
+    ensures link { size_refused Closed (Link []) ≡ Some ELOOP }
+    ensures alone { steps (changes 576 0 0 0 0 0 0 0 0) (closed 1) ≡ (λ t. touch_ctime_of t 1) ∷ [] }
+    ensures beside { steps (changes 192 0 0 0 0 0 0 0 0) (closed 1) ≡ [] }
+{}
+
+/// What a fault leaves of a Tsetattr of mode and size: the tree as it was, or with the new mode, since the size of a
+/// directory is refused. No fault is told of a Tversion, a Tflush or a Tclunk.
+#[tactic(auto, using(crate::proofs::Sampling::mode_done))]
+pub fn failing()
+    ensures before { IsPartDone server (t_setattr 7 9 448 0 0 0 0 0 0 0) sample }
+    ensures mode { IsPartDone server (t_setattr 7 9 448 0 0 0 0 0 0 0) (with_changed (remoded 448 born) 1 sample) }
+    ensures version { ¬ IsHurtReply server (t_version 0 []) (r_lerror EIO) }
+    ensures flush { ¬ IsHurtReply server (t_flush 0) (r_lerror EIO) }
+    ensures clunk { ¬ IsHurtReply server (t_clunk 7) (r_lerror EIO) }
 {}

@@ -1,9 +1,9 @@
 //! The 9P server as a machine on fids, and the trait of what serves a tree by it.
 #![tactic(auto)]
 
-pub mod examples;
+mod examples;
 pub mod laws;
 mod nine;
-pub mod sizes;
+pub mod setattr;
 
 pub use nine::Nine;

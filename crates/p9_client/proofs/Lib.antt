@@ -1,10 +1,9 @@
 mod Readable
-mod Replies
-mod Answering
-mod Names
-mod Settled
-mod Attaching
-pub mod Only
-mod Opening
 mod Sizes
+mod Replies
+mod Names
+mod NewFids
+pub mod Telling
+mod Answering
+mod Only
 pub mod Sampling

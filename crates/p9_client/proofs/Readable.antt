@@ -3,23 +3,25 @@ use Rattle.std.proofs.Common.{◌≡◌, ⊎_elim, ℕ, ◌≤◌, ◌-◌, drop
 use Rattle.std.specs.Prelude.{◌==◌, min, nat_lt, nat_le, not, ◌&&◌}
 use Rattle.std.specs.FinMap as map
 use Rattle.port_base.specs.declared.errno.TheConstants.{EIO, EBADF, EINVAL, ENFILE, EOPNOTSUPP}
-use Rattle.port_base.specs.declared.oflag.TheConstants.{TRUNC}
+use Rattle.port_base.specs.declared.oflag.TheConstants.{O_TRUNC}
 use Rattle.std.proofs.lemmas.List.{length-take}
 use Rattle.tree_model.specs.Tree.{Body, body_at}
 use Rattle.tree_model.specs.Tree.Body.{File, Directory, Link}
-use Rattle.tree_model.specs.Opening.{asked, has_flag, open_check_of, read_body, read_of}
+use Rattle.port_base.specs.OpenFlags.{has_flag}
+use Rattle.tree_model.specs.Opening.{body_answer, open_check_of, read_body, read_of}
 use Rattle.tree_model.specs.Finding.{root_of}
 use Rattle.tree_model.specs.Attributes.{stat_of}
 use Rattle.tree_model.specs.Settings.{Settings}
 use Rattle.tree_model.specs.declared.attributes.Attr.{Attr}
 use Rattle.p9_tmsg.specs.Messages.{Message}
-use Rattle.p9_tmsg.specs.Messages.Message.{attach as t_attach, clunk as t_clunk, getattr as t_getattr, lopen as t_lopen, read as t_read, walk as t_walk}
+use Rattle.p9_tmsg.specs.Messages.Message.{attach as t_attach, clunk as t_clunk, fsync as t_fsync, getattr as t_getattr, lcreate as t_lcreate, link as t_link, lopen as t_lopen, mkdir as t_mkdir, read as t_read, readdir as t_readdir, readlink as t_readlink, renameat as t_renameat, setattr as t_setattr, statfs as t_statfs, unlinkat as t_unlinkat, version as t_version, walk as t_walk, write as t_write}
 use Rattle.p9_rmsg.specs.Replies.{Reply, IsReadableReply}
 use Rattle.p9_rmsg.specs.Replies.Reply.{lerror as r_lerror, walk as r_walk}
+use Rattle.p9_wire.specs.declared.protocol.TheConstants.{P9_MAXWELEM}
 use Rattle.fid_model.specs.Fids.{ServerState, Fid, is_readable}
 use Rattle.p9_client.specs.Asking.{IsBounded}
-use Rattle.fid_model.specs.declared.sizes.TheConstants.{READ_HEAD}
-use Rattle.fid_model.specs.Answers.{WALK_LIMIT, lopen_told, lopen_by, piece_told, read_by, core, attached, walk_told, walk_from, walk_names, Walked, got, getattr_by, clunk_by}
+use Rattle.p9_wire.specs.declared.protocol.TheConstants.{RREAD_HEADER_SIZE}
+use Rattle.fid_model.specs.Answers.{lopen_answer, lopen_by, read_reply, read_by, core, attached, walk_answer, walk_from, walk_names, Walked, getattr_reply, getattr_by, clunk_by}
 use Rattle.fid_model.specs.Handling.{Outcome, IsHurtReply, IsPartOfWalk}
 
 readable_either : (b : Bool) (x y : Reply × ServerState) → IsReadableReply x.0 → IsReadableReply y.0 → IsReadableReply (cond b x y).0
@@ -30,7 +32,7 @@ attached_readable : (s : ServerState) (fid : ℕ) (r : Result ℕ ℕ) → IsRea
 attached_readable s fid (Ok i) = tt
 attached_readable s fid (Err e) = tt
 
-walk_told_readable : (s : ServerState) (newfid : ℕ) (w : Walked) → IsReadableReply (walk_told s newfid w).0
+walk_told_readable : (s : ServerState) (newfid : ℕ) (w : Walked) → IsReadableReply (walk_answer s newfid w).0
 walk_told_readable s newfid (qids, Ok i) = tt
 walk_told_readable s newfid ([], Err e) = tt
 walk_told_readable s newfid (q ∷ qids, Err e) = tt
@@ -38,12 +40,12 @@ walk_told_readable s newfid (q ∷ qids, Err e) = tt
 walk_from_readable : (s : ServerState) (fid newfid : ℕ) (names : List (List ℕ)) (f : Option Fid) → IsReadableReply (walk_from s fid newfid names f).0
 walk_from_readable s fid newfid names None = tt
 walk_from_readable s fid newfid names (Some f) =
-    let found : Reply × ServerState = walk_told s newfid (walk_names s.settings.casefold s.tree names f.ino) in
+    let found : Reply × ServerState = walk_answer s newfid (walk_names s.settings.casefold s.tree names f.ino) in
     let all = walk_told_readable s newfid (walk_names s.settings.casefold s.tree names f.ino) in
-    let few = readable_either (nat_lt WALK_LIMIT (length names)) (r_lerror EINVAL, s) found tt all in
-    readable_either (not (newfid == fid) && nat_le s.settings.limit (map.len s.fids)) (r_lerror ENFILE, s) (cond (nat_lt WALK_LIMIT (length names)) (r_lerror EINVAL, s) found) tt few
+    let few = readable_either (nat_lt P9_MAXWELEM (length names)) (r_lerror EINVAL, s) found tt all in
+    readable_either (not (newfid == fid) && nat_le s.settings.limit (map.len s.fids)) (r_lerror ENFILE, s) (cond (nat_lt P9_MAXWELEM (length names)) (r_lerror EINVAL, s) found) tt few
 
-got_readable : (settings : Settings) (a : Result Attr ℕ) → IsReadableReply (got settings a)
+got_readable : (settings : Settings) (a : Result Attr ℕ) → IsReadableReply (getattr_reply settings a)
 got_readable settings (Ok a) = tt
 got_readable settings (Err e) = tt
 
@@ -55,7 +57,7 @@ clunk_readable : (s : ServerState) (fid : ℕ) (f : Option Fid) → IsReadableRe
 clunk_readable s fid None = tt
 clunk_readable s fid (Some f) = tt
 
-lopen_told_readable : (s : ServerState) (fid flags : ℕ) (f : Fid) (r : Result (Unit {0}) ℕ) → IsReadableReply (lopen_told s fid flags f r).0
+lopen_told_readable : (s : ServerState) (fid flags : ℕ) (f : Fid) (r : Result (Unit {0}) ℕ) → IsReadableReply (lopen_answer s fid flags f r).0
 lopen_told_readable s fid flags f (Ok u) = tt
 lopen_told_readable s fid flags f (Err e) = tt
 
@@ -64,7 +66,7 @@ lopen_readable s fid flags None = tt
 lopen_readable s fid flags (Some f) = lopen_told_readable s fid flags f (open_check_of s.tree f.ino flags)
 
 -- a reply to Tread has no more bytes than were asked for
-piece_readable : (most : ℕ) → most ≤ 33554432 → (offset : ℕ) (o : Option Body) → IsReadableReply (piece_told (asked (read_body offset most) o))
+piece_readable : (most : ℕ) → most ≤ 33554432 → (offset : ℕ) (o : Option Body) → IsReadableReply (read_reply (body_answer (read_body offset most) o))
 piece_readable most few offset None = tt
 piece_readable most few offset (Some (File bytes)) = omega (arith, few, length-take most (drop offset bytes))
 piece_readable most few offset (Some (Directory es next above)) = tt
@@ -77,12 +79,12 @@ one_readable false x y h k = k
 read_readable : (s : ServerState) (offset count : ℕ) → count ≤ 33554432 → (f : Option Fid) → IsReadableReply (read_by s offset count f)
 read_readable s offset count few None = tt
 read_readable s offset count few (Some f) =
-    let most : ℕ = min count (s.msize - READ_HEAD) in
-    one_readable (is_readable f.open_state) (piece_told (read_of s.tree f.ino offset most)) (r_lerror EBADF) (piece_readable most (omega (arith, few)) offset (body_at s.tree.records f.ino)) tt
+    let most : ℕ = min count (s.msize - RREAD_HEADER_SIZE) in
+    one_readable (is_readable f.open_state) (read_reply (read_of s.tree f.ino offset most)) (r_lerror EBADF) (piece_readable most (omega (arith, few)) offset (body_at s.tree.records f.ino)) tt
 
 core_readable : (s : ServerState) (m : Message) → IsBounded m → IsReadableReply (core s m).0
 core_readable s (t_lopen fid flags) b =
-    readable_either (has_flag TRUNC flags) (r_lerror EOPNOTSUPP, s) (lopen_by s fid flags (map.get s.fids fid)) tt (lopen_readable s fid flags (map.get s.fids fid))
+    readable_either (has_flag O_TRUNC flags) (r_lerror EOPNOTSUPP, s) (lopen_by s fid flags (map.get s.fids fid)) tt (lopen_readable s fid flags (map.get s.fids fid))
 core_readable s (t_read fid offset count) b = read_readable s offset count b (map.get s.fids fid)
 core_readable s (t_attach fid afid uname aname n_uname) b =
     let root : Reply × ServerState = attached s fid (root_of s.tree s.settings.root) in
@@ -92,6 +94,7 @@ core_readable s (t_walk fid newfid wnames) b =
     readable_either (not (newfid == fid) && map.contains_key s.fids newfid) (r_lerror EBADF, s) (walk_from s fid newfid wnames (map.get s.fids fid)) tt (walk_from_readable s fid newfid wnames (map.get s.fids fid))
 core_readable s (t_getattr fid request_mask) b = getattr_readable s (map.get s.fids fid)
 core_readable s (t_clunk fid) b = clunk_readable s fid (map.get s.fids fid)
+core_readable s (t_version msize protocol) b = absurd b
 core_readable s _ b = tt
 
 part_readable : (s : ServerState) (fid : ℕ) (names : List (List ℕ)) (r : Reply) → IsPartOfWalk s fid names r → IsReadableReply r
@@ -102,11 +105,22 @@ refused_readable : (r : Reply) → r ≡ r_lerror EIO → IsReadableReply r
 refused_readable r is = subst IsReadableReply (sym is) tt
 
 hurt_readable : (s : ServerState) (m : Message) (r : Reply) → IsHurtReply s m r → IsReadableReply r
-hurt_readable s (t_attach fid afid uname aname n_uname) r h = refused_readable r h
 hurt_readable s (t_walk fid newfid wnames) r h = ⊎_elim (λ is. refused_readable r is) (λ part. part_readable s fid wnames r part) h
-hurt_readable s (t_getattr fid request_mask) r h = refused_readable r h
+hurt_readable s (t_statfs fid) r h = refused_readable r h
 hurt_readable s (t_lopen fid flags) r h = refused_readable r h
+hurt_readable s (t_lcreate fid name flags mode gid) r h = refused_readable r h
+hurt_readable s (t_readlink fid) r h = refused_readable r h
+hurt_readable s (t_getattr fid mask) r h = refused_readable r h
+hurt_readable s (t_setattr fid valid mode uid gid size a an b bn) r h = refused_readable r h
+hurt_readable s (t_readdir fid offset count) r h = refused_readable r h
+hurt_readable s (t_fsync fid datasync) r h = refused_readable r h
+hurt_readable s (t_link dfid fid name) r h = refused_readable r h
+hurt_readable s (t_mkdir dfid name mode gid) r h = refused_readable r h
+hurt_readable s (t_renameat olddirfid oldname newdirfid newname) r h = refused_readable r h
+hurt_readable s (t_unlinkat dirfd name flags) r h = refused_readable r h
+hurt_readable s (t_attach fid afid uname aname n_uname) r h = refused_readable r h
 hurt_readable s (t_read fid offset count) r h = refused_readable r h
+hurt_readable s (t_write fid offset payload) r h = refused_readable r h
 hurt_readable s _ r h = absurd h
 
 pub outcome_readable : (s : ServerState) (m : Message) (r : Reply) (s1 : ServerState) (f0 f1 : ℕ) → IsBounded m → Outcome s m r s1 f0 f1 → IsReadableReply r

@@ -1,5 +1,5 @@
 -- What a server's handling says of a frame that was sent, and of the reply that is read.
-use Rattle.std.proofs.Common.{◌≡◌, ◌≢◌, ℕ, ◌+◌, ◌-◌, ◌≤◌, ◌<◌, ◌^◌, List, [], ◌++◌, length, take, drop, Result, Ok, Err, Some, refl, sym, ap, ◌∙◌, subst, arith, IfOk, append-nil}
+use Rattle.std.proofs.Common.{◌≡◌, ◌≢◌, ⊎_elim, ℕ, ◌+◌, ◌-◌, ◌≤◌, ◌<◌, ◌^◌, List, [], ◌++◌, length, take, drop, Result, Ok, Err, Some, refl, sym, ap, ◌∙◌, subst, arith, IfOk, append-nil}
 use Rattle.std.specs.Prelude.{slice_index}
 use Rattle.std.proofs.lemmas.List.{take_all}
 use Rattle.std.specs.declared.option.Option.{Option}
@@ -17,8 +17,11 @@ use Rattle.p9_rmsg.specs.Replies.{Reply, ReplySpells, IsReadableReply, reply_rea
 use Rattle.p9_rmsg.specs.ReplyLaws.{replies_lawful}
 use Rattle.p9_rmsg.specs.Frames.{reply_frame}
 use Rattle.fid_model.specs.Fids.{ServerState, IsGoodServer}
-use Rattle.fid_model.specs.Handling.{Outcome, BodyOutcome, Replied}
-use Rattle.p9_client.specs.Asking.{IsAskable, RepliesWith}
+use Rattle.fid_model.specs.Handling.{Outcome, BodyOutcome, Replied, Handled, IsLeft}
+use Rattle.fid_model.proofs.Parts.{unchanged_left}
+use Rattle.p9_client.specs.Asking.{IsRequest, IsRepliedBy, RepliesWith, IsExchanged}
+use Rattle.fid_model.specs.Moments.{Moment, AskedOne, Keeps, Stays}
+use Rattle.p9_client.proofs.Sizes.{alone_sized, outcome_sized, sized_keeps}
 use Rattle.p9_client.proofs.Readable.{outcome_readable}
 
 -- a frame that was sent is read back
@@ -35,20 +38,49 @@ same_body {M} tag n b c x y e =
 long_enough : (bytes : List ℕ) (kind tag : ℕ) (body : List ℕ) → bytes ≡ frame kind tag body → 7 ≤ length bytes
 long_enough bytes kind tag body is = omega (arith, ap length is, length-frame kind tag body)
 
-pub replied : (s0 s1 : ServerState) → IsGoodServer s0 → (f0 f1 : ℕ) (m : Message) (sent rest old new : List ℕ) → sent ≡ message_frame 0 m → IsAskable s0 m → old ≡ []
-    → (bytes : List ℕ) → Appends (Some old) (Some new) bytes → Replied s0 s1 f0 f1 (Some sent) (Some rest) bytes → RepliesWith m s0 s1 f0 f1 new
-replied s0 s1 good f0 f1 m sent rest old new is ask empty bytes grew r =
-    let law : frame_within s0.msize sent ≡ Ok ((0, Ok m), []) = ap (frame_within s0.msize) is ∙ frame_read m s0.msize ask.spells ask.readable ask.short good.below in
-    let body : r.body ≡ Ok m = same_body r.tag 0 r.body (Ok m) rest [] (sym r.read ∙ law) in
-    record {
-      tag = r.tag;
-      reply = r.reply;
-      spelled = grew ∙ ap (λ (l : List ℕ). l ++ bytes) empty ∙ r.spelled;
-      spells = r.spells;
-      readable = outcome_readable s0 m r.reply s1 f0 f1 ask.bounded (subst (λ b. BodyOutcome s0 b r.reply s1 f0 f1) body r.outcome);
-      long = long_enough new (reply_kind r.reply) r.tag (reply_spelling r.reply) (grew ∙ ap (λ (l : List ℕ). l ++ bytes) empty ∙ r.spelled);
-      outcome = subst (λ b. BodyOutcome s0 b r.reply s1 f0 f1) body r.outcome;
-    }
+-- of the frame of a message that message is read
+body_read : (s : ServerState) → IsGoodServer s → (m : Message) (sent rest : List ℕ) → IsRequest sent m s → (tag : ℕ) (body : Result Message WireError) → frame_within s.msize sent ≡ Ok ((tag, body), rest) → body ≡ Ok m
+body_read s good m sent rest request tag body read =
+    let ask = request.askable in
+    let law : frame_within s.msize sent ≡ Ok ((0, Ok m), []) = ap (frame_within s.msize) request.spelled ∙ frame_read m s.msize ask.spells ask.readable ask.short good.below in
+    same_body tag 0 body (Ok m) rest [] (sym read ∙ law)
+
+module _ (old new : Moment) (good : IsGoodServer old.state) (m : Message) (sent rest : List ℕ) (request : IsRequest sent m old.state) where
+  pub replied : (before after bytes : List ℕ) → before ≡ [] → Appends (Some before) (Some after) bytes → Replied old.state new.state old.faults new.faults (Some sent) (Some rest) bytes → IsRepliedBy m old new after
+  replied before after bytes empty grew r =
+      let body = body_read old.state good m sent rest request r.tag r.body r.read in
+      let outcome : Outcome old.state m r.reply new.state old.faults new.faults = subst (λ b. BodyOutcome old.state b r.reply new.state old.faults new.faults) body r.outcome in
+      record {
+        tag = r.tag;
+        reply = r.reply;
+        spelled = grew ∙ ap (λ (l : List ℕ). l ++ bytes) empty ∙ r.spelled;
+        spells = r.spells;
+        readable = outcome_readable old.state m r.reply new.state old.faults new.faults request.askable.bounded outcome;
+        long = long_enough after (reply_kind r.reply) r.tag (reply_spelling r.reply) (grew ∙ ap (λ (l : List ℕ). l ++ bytes) empty ∙ r.spelled);
+        outcome = outcome;
+      }
+
+  -- what an error leaves: a reader and a writer in memory don't fail
+  module _ (sent0 sent1 : Option (List ℕ)) where
+    pub left_by : {X : Type 0} (e : WireError) → Handled {X = X} old new (Some sent) (Some rest) sent0 sent1 0 0 0 0 (Err e) → IsLeft old.state m new.state
+    left_by Write h = absurd (omega (arith, h.answer.1.0, h.answer.1.1))
+    left_by Read h = unchanged_left old.state m new.state h.answer.2.0
+    left_by InvalidData h = unchanged_left old.state m new.state h.answer.1.0
+    left_by UnexpectedEof h = unchanged_left old.state m new.state h.answer.1.0
+    left_by InvalidInput h = absurd h.answer
+    left_by NoMemory h = ⊎_elim (λ same. unchanged_left old.state m new.state same)
+        (λ x. let is : ◌≡◌ {A = Result Message WireError} (Ok x.1) (Ok m) = body_read old.state good m sent rest request x.0 (Ok x.1) x.2 in
+        let same : x.1 ≡ m = cc in
+        subst (λ (n : Message). IsLeft old.state n new.state) same x.3)
+        h.answer.2
+
+    pub kept_by : {X : Type 0} (result : Result X WireError) → Handled old new (Some sent) (Some rest) sent0 sent1 0 0 0 0 result → Stays old new → Keeps old new
+    kept_by (Err e) h stays = sized_keeps stays (alone_sized old.state new.state (left_by e h).0)
+    kept_by (Ok x) h stays =
+        let r = h.answer.1.2 in
+        let body = body_read old.state good m sent rest request r.tag r.body r.read in
+        sized_keeps stays (outcome_sized old.state m request.askable.bounded r.reply new.state old.faults new.faults
+        (subst (λ b. BodyOutcome old.state b r.reply new.state old.faults new.faults) body r.outcome))
 
 -- a reply that is spelled is read back
 reply_read : (r : Reply) → ReplySpells r → IsReadableReply r → reply_reading (reply_kind r) (reply_spelling r) ≡ Ok (r, [])
@@ -89,6 +121,6 @@ module _ (tag : ℕ) (r : Reply) (sent src : List ℕ) (is : sent ≡ reply_fram
   pub reply_memory : (left : Option (List ℕ)) (e : WireError) → e ≢ NoMemory → Answers {V = Rmessage} reply_of (reply_reading (slice_index sent 4)) (Some src) left 0 0 (Err e) → ⊥
   reply_memory left e ne a = only_memory r src left e spells readable body_is ne (subst (λ k. Answers {V = Rmessage} reply_of (reply_reading k) (Some src) left 0 0 (Err e)) kind_is a)
 
-pub outcome_read : {E : Type 0} (res : Result Rmessage E) (m : Message) (s0 s1 : ServerState) (f0 f1 : ℕ) (bytes : List ℕ) (w : RepliesWith m s0 s1 f0 f1 bytes) → IfOk res (λ x. reply_of x ≡ w.reply) → IfOk res (λ x. Outcome s0 m (reply_of x) s1 f0 f1)
-outcome_read (Ok x) m s0 s1 f0 f1 bytes w e = subst (λ r. Outcome s0 m r s1 f0 f1) (sym e) w.outcome
-outcome_read (Err e) m s0 s1 f0 f1 bytes w h = tt
+pub exchanged : {E : Type 0} (res : Result Rmessage E) (m : Message) (old new : Moment) (bytes : List ℕ) (w : RepliesWith m old.state new.state old.faults new.faults bytes) → IfOk res (λ x. reply_of x ≡ w.reply) → AskedOne old new → IfOk res (λ x. IsExchanged m (reply_of x) old new)
+exchanged (Ok x) m old new bytes w e asked = record { outcome = subst (λ r. Outcome old.state m r new.state old.faults new.faults) (sym e) w.outcome; asked = asked }
+exchanged (Err e) m old new bytes w h asked = tt

@@ -1,5 +1,5 @@
 -- Opens and reads on a small server: they follow by computation from what its tree has.
-use Rattle.std.proofs.Common.{◌≡◌, ℕ, false, ap, ◌∙◌, Ok, Err}
+use Rattle.std.proofs.Common.{◌≡◌, false, ap, ◌∙◌, Ok, Err}
 use Rattle.std.specs.Prelude.{codes}
 use Rattle.std.specs.FinMap.{insert}
 use Rattle.port_base.specs.declared.errno.TheConstants.{EISDIR}

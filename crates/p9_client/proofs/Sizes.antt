@@ -1,19 +1,19 @@
--- No message that is served changes the greatest size of a frame.
+-- No message but a Tversion changes the greatest size of a frame.
 use Rattle.std.proofs.Common.{◌≡◌, ⊎_elim, ℕ, Bool, true, false, cond, List, [], ◌∷◌, Result, Ok, Err, Some, None, refl, ap, ◌∙◌}
 use Rattle.std.specs.declared.option.Option.{Option}
 use Rattle.std.specs.FinMap as map
 use Rattle.port_base.specs.declared.errno.TheConstants.{EBADF, EINVAL, ENFILE, EOPNOTSUPP}
 use Rattle.tree_model.specs.Finding.{root_of}
 use Rattle.tree_model.specs.Opening.{open_check_of}
-use Rattle.p9_wire.specs.declared.error.WireError.{WireError}
-use Rattle.p9_wire.specs.declared.error.WireError.TheVariants.{InvalidInput, InvalidData, UnexpectedEof, Read, Write, NoMemory}
 use Rattle.p9_tmsg.specs.Messages.{Message}
-use Rattle.p9_tmsg.specs.Messages.Message.{attach as t_attach, clunk as t_clunk, lopen as t_lopen, walk as t_walk}
+use Rattle.p9_tmsg.specs.Messages.Message.{attach as t_attach, clunk as t_clunk, lopen as t_lopen, version as t_version, walk as t_walk}
 use Rattle.p9_rmsg.specs.Replies.{Reply}
 use Rattle.p9_rmsg.specs.Replies.Reply.{lerror as r_lerror}
-use Rattle.fid_model.specs.Fids.{ServerState, Fid}
-use Rattle.fid_model.specs.Answers.{Walked, answer, attached, walk_names, walk_told, walk_from, lopen_told, lopen_by, clunk_by}
-use Rattle.fid_model.specs.Handling.{Outcome, BodyOutcome, Replied, HandledBy, Handled}
+use Rattle.fid_model.specs.Fids.{ServerState, Fid, IsTreeAlone}
+use Rattle.fid_model.specs.Answers.{Walked, answer, attached, walk_names, walk_answer, walk_from, lopen_answer, lopen_by, clunk_by}
+use Rattle.fid_model.specs.Handling.{Outcome}
+use Rattle.fid_model.specs.Moments.{Moment, Keeps, Stays}
+use Rattle.p9_client.specs.Asking.{IsBounded}
 
 -- a refusal, or what else is answered
 either_sized : (s : ServerState) (b : Bool) (refusal : ℕ) (x : Reply × ServerState) → x.1.msize ≡ s.msize → (cond b (r_lerror refusal, s) x).1.msize ≡ s.msize
@@ -24,7 +24,7 @@ attached_sized : (s : ServerState) (fid : ℕ) (root : Result ℕ ℕ) → (atta
 attached_sized s fid (Ok i) = refl
 attached_sized s fid (Err e) = refl
 
-walked_sized : (s : ServerState) (newfid : ℕ) (w : Walked) → (walk_told s newfid w).1.msize ≡ s.msize
+walked_sized : (s : ServerState) (newfid : ℕ) (w : Walked) → (walk_answer s newfid w).1.msize ≡ s.msize
 walked_sized s newfid (qids, Ok i) = refl
 walked_sized s newfid ([], Err e) = refl
 walked_sized s newfid (q ∷ qids, Err e) = refl
@@ -34,7 +34,7 @@ walk_sized s fid newfid names None = refl
 walk_sized s fid newfid names (Some f) =
     either_sized s _ ENFILE _ (either_sized s _ EINVAL _ (walked_sized s newfid (walk_names s.settings.casefold s.tree names f.ino)))
 
-opened_sized : (s : ServerState) (fid flags : ℕ) (f : Fid) (told : Result (Unit {0}) ℕ) → (lopen_told s fid flags f told).1.msize ≡ s.msize
+opened_sized : (s : ServerState) (fid flags : ℕ) (f : Fid) (told : Result (Unit {0}) ℕ) → (lopen_answer s fid flags f told).1.msize ≡ s.msize
 opened_sized s fid flags f (Ok u) = refl
 opened_sized s fid flags f (Err e) = refl
 
@@ -46,37 +46,20 @@ clunk_sized : (s : ServerState) (fid : ℕ) (f : Option Fid) → (clunk_by s fid
 clunk_sized s fid None = refl
 clunk_sized s fid (Some f) = refl
 
-answer_sized : (s : ServerState) (m : Message) → (answer s m).1.msize ≡ s.msize
-answer_sized s (t_attach fid afid uname aname n_uname) = either_sized s _ EBADF _ (either_sized s _ ENFILE _ (attached_sized s fid (root_of s.tree s.settings.root)))
-answer_sized s (t_walk fid newfid names) = either_sized s _ EBADF _ (walk_sized s fid newfid names (map.get s.fids fid))
-answer_sized s (t_clunk fid) = clunk_sized s fid (map.get s.fids fid)
-answer_sized s (t_lopen fid flags) = either_sized s _ EOPNOTSUPP _ (open_sized s fid flags (map.get s.fids fid))
-answer_sized s _ = refl
+answer_sized : (s : ServerState) (m : Message) → IsBounded m → (answer s m).1.msize ≡ s.msize
+answer_sized s (t_attach fid afid uname aname n_uname) b = either_sized s _ EBADF _ (either_sized s _ ENFILE _ (attached_sized s fid (root_of s.tree s.settings.root)))
+answer_sized s (t_walk fid newfid names) b = either_sized s _ EBADF _ (walk_sized s fid newfid names (map.get s.fids fid))
+answer_sized s (t_clunk fid) b = clunk_sized s fid (map.get s.fids fid)
+answer_sized s (t_lopen fid flags) b = either_sized s _ EOPNOTSUPP _ (open_sized s fid flags (map.get s.fids fid))
+answer_sized s (t_version msize protocol) b = absurd b
+answer_sized s _ b = refl
 
-outcome_sized : (s : ServerState) (m : Message) (r : Reply) (s1 : ServerState) (f0 f1 : ℕ) → Outcome s m r s1 f0 f1 → s1.msize ≡ s.msize
-outcome_sized s m r s1 f0 f1 o =
-    ⊎_elim (λ e. ap (λ (x : Reply × ServerState). x.1.msize) e ∙ answer_sized s m) (λ h. ap (λ (x : ServerState). x.msize) h.2) o
+pub alone_sized : (s s1 : ServerState) → IsTreeAlone s s1 → s1.msize ≡ s.msize
+alone_sized s s1 alone = ap (λ (x : ServerState). x.msize) alone
 
-body_sized : (s : ServerState) (body : Result Message WireError) (r : Reply) (s1 : ServerState) (f0 f1 : ℕ) → BodyOutcome s body r s1 f0 f1 → s1.msize ≡ s.msize
-body_sized s (Ok m) r s1 f0 f1 o = outcome_sized s m r s1 f0 f1 o
-body_sized s (Err fault) r s1 f0 f1 o = ap (λ (x : ServerState). x.msize) o.1
+pub outcome_sized : (s : ServerState) (m : Message) → IsBounded m → (r : Reply) (s1 : ServerState) (f0 f1 : ℕ) → Outcome s m r s1 f0 f1 → s1.msize ≡ s.msize
+outcome_sized s m b r s1 f0 f1 o = ⊎_elim (λ e. ap (λ (x : Reply × ServerState). x.1.msize) e ∙ answer_sized s m b) (λ h. alone_sized s s1 h.2) o
 
-module _ (s0 s1 : ServerState) (f0 f1 : ℕ) (left0 left1 sent0 sent1 : Option (List ℕ)) (in0 in1 out0 out1 : ℕ) where
-  same_size : s1 ≡ s0 → s1.msize ≡ s0.msize
-  same_size e = ap (λ (x : ServerState). x.msize) e
-
-  replied_sized : (bytes : List ℕ) → Replied s0 s1 f0 f1 left0 left1 bytes → s1.msize ≡ s0.msize
-  replied_sized bytes r = body_sized s0 r.body r.reply s1 f0 f1 r.outcome
-
-  answered_sized : {X : Type 0} (result : Result X WireError) → HandledBy s0 s1 f0 f1 left0 left1 sent0 sent1 in0 in1 out0 out1 result → s1.msize ≡ s0.msize
-  answered_sized (Ok x) h = replied_sized h.2.0 h.2.2
-  answered_sized (Err Write) h = replied_sized h.2.0 h.2.2
-  answered_sized (Err Read) h = same_size h.2
-  answered_sized (Err NoMemory) h = same_size h.2
-  answered_sized (Err InvalidData) h = same_size h.2
-  answered_sized (Err UnexpectedEof) h = same_size h.2
-  answered_sized (Err InvalidInput) h = absurd h
-
-  -- whatever the call answers
-  pub handled_sized : {X : Type 0} (result : Result X WireError) → Handled s0 s1 f0 f1 left0 left1 sent0 sent1 in0 in1 out0 out1 result → s1.msize ≡ s0.msize
-  handled_sized result h = answered_sized result h.answer
+-- what always stays, and the size
+pub sized_keeps : {old new : Moment} → Stays old new → new.state.msize ≡ old.state.msize → Keeps old new
+sized_keeps h same = record { fixed = h.fixed; sized = same; rises = h.rises; steady = h.steady; steadily = h.steadily }

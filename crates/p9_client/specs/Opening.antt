@@ -4,7 +4,7 @@ use Rattle.std.specs.FinMap as map
 use Rattle.tree_model.specs.Attributes.{Qid}
 use Rattle.tree_model.specs.Opening.{open_check_of, read_of}
 use Rattle.fid_model.specs.Fids.{ServerState, Fid, closed, is_readable}
-use Rattle.fid_model.specs.declared.sizes.TheConstants.{READ_HEAD}
+use Rattle.p9_wire.specs.declared.protocol.TheConstants.{RREAD_HEADER_SIZE}
 use Rattle.fid_model.specs.Answers.{opened, qid_at}
 
 -- a new fid names an inode that another names
@@ -26,4 +26,4 @@ is_readable_at (Some f) = is_readable f.open_state
 
 -- the bytes of an inode from an offset on, as many as there are, are asked for and fit a frame
 abbrev pub read_told : ServerState → ℕ → ℕ → ℕ → Result (List ℕ) ℕ × ServerState
-read_told s ino offset count = (read_of s.tree ino offset (min count (s.msize - READ_HEAD)), s)
+read_told s ino offset count = (read_of s.tree ino offset (min count (s.msize - RREAD_HEADER_SIZE)), s)

@@ -1,14 +1,17 @@
 -- What the calls give, without where it lies in memory.
-use Rattle.std.specs.Prelude.{ℕ, ◌≤◌, List, Result, Ok, Err}
+use Rattle.std.specs.Prelude.{◌≡◌, ◌⊎◌, ℕ, ◌≤◌, List, [], ◌∷◌, Option, Some, None, Result, Ok, Err}
 use Rattle.tree_model.specs.Attributes.{Qid}
 use Rattle.tree_model.specs.declared.attributes.Attr.{Attr}
 use Rattle.p9_wire.specs.declared.qid.Qid.{Qid as QidStruct}
 use Rattle.p9_wire.specs.declared.data.Data.{Data}
 use Rattle.p9_wire.specs.Qids.{qid_of}
 use Rattle.p9_rmsg.specs.declared.message.Rgetattr.{Rgetattr}
-use Rattle.p9_rmsg.specs.Replies.{Attributes, attributes_of}
+use Rattle.p9_rmsg.specs.Replies.{Attributes, attributes_of, Reply}
+use Rattle.p9_rmsg.specs.Replies.Reply.{attach as r_attach, getattr as r_getattr, lerror as r_lerror, lopen as r_lopen, read as r_read, walk as r_walk}
 use Rattle.fid_model.specs.Answers.{attributes_of as attributes_shown}
 use Rattle.fid_model.specs.Fids.{ServerState}
+use Rattle.fid_model.specs.Calls.{getattr_told, clunked}
+use Rattle.fid_model.specs.Moments.{Moment, AskedOne}
 
 abbrev pub qid_answer : Result QidStruct ℕ → Result Qid ℕ
 qid_answer (Ok q) = Ok (qid_of q)
@@ -30,3 +33,50 @@ laid_out (Err e) = Err e
 -- the server takes every frame that these calls send: one with the longest name has 274 bytes
 pub record IsRoomy (s : ServerState) : Type 0 where
   pub enough : 4352 ≤ s.msize
+
+-- the attributes of an inode, as 9P lays them out
+abbrev pub attributes_told : ServerState → ℕ → Result Attributes ℕ × ServerState
+attributes_told s ino = (laid_out (getattr_told s ino).0, (getattr_told s ino).1)
+
+-- one message let a fid go
+pub record FidGone (fid : ℕ) (old new : Moment) : Type 0 where
+  pub state : new.state ≡ clunked old.state fid
+  pub asked : AskedOne old new
+
+-- a fid went, or nothing did
+abbrev pub FidGoneOrNot : ℕ → Moment → Moment → Type 0
+FidGoneOrNot fid old new = (new.state ≡ old.state) ⊎ (new.state ≡ clunked old.state fid)
+
+-- ---- replies, as the calls read them: their own answer or a refusal, and none of a reply of another kind
+
+abbrev pub attach_view : Reply → Option (Result Qid ℕ)
+attach_view (r_attach qid) = Some (Ok qid)
+attach_view (r_lerror e) = Some (Err e)
+attach_view _ = None
+
+-- a walk by one name
+abbrev pub walk_one_view : Reply → Option (Result Qid ℕ)
+walk_one_view (r_walk (qid ∷ [])) = Some (Ok qid)
+walk_one_view (r_lerror e) = Some (Err e)
+walk_one_view _ = None
+
+-- a walk by no name
+abbrev pub copy_view : Reply → Option (Result (Unit {0}) ℕ)
+copy_view (r_walk qids) = Some (Ok tt)
+copy_view (r_lerror e) = Some (Err e)
+copy_view _ = None
+
+abbrev pub open_view : Reply → Option (Result Qid ℕ)
+open_view (r_lopen qid iounit) = Some (Ok qid)
+open_view (r_lerror e) = Some (Err e)
+open_view _ = None
+
+abbrev pub attributes_view : Reply → Option (Result Attributes ℕ)
+attributes_view (r_getattr attributes) = Some (Ok attributes)
+attributes_view (r_lerror e) = Some (Err e)
+attributes_view _ = None
+
+abbrev pub read_view : Reply → Option (Result (List ℕ) ℕ)
+read_view (r_read bytes) = Some (Ok bytes)
+read_view (r_lerror e) = Some (Err e)
+read_view _ = None

@@ -1,11 +1,13 @@
 // One message and its reply.
-ghost use Rattle.std.specs.Prelude.{◌≡◌, ◌+◌, ◌-◌, ◌<◌, ◌≤◌, ◌^◌, ℕ, List, min, length, IfOk, OnOk, OnErr, slice_index, drop};
+ghost use Rattle.std.specs.Prelude.{◌≡◌, ◌+◌, ◌<◌, ◌^◌, ℕ, length, IfOk, OnErr};
 ghost use Rattle.p9_tmsg.specs.Messages.{Message, message_of, MessageSpells, message_spelling};
 ghost use Rattle.p9_tmsg.specs.Frames.{message_frame};
 ghost use Rattle.p9_rmsg.specs.Replies.{Reply, reply_of, ReplySpells, IsReadableReply};
 ghost use Rattle.p9_rmsg.specs.Frames.{reply_frame};
-ghost use Rattle.fid_model.specs.Handling.{Outcome, Steadily};
-ghost use Rattle.p9_client.specs.Asking.{IsAskable, RepliesWith, IsUnfinished, IsReplyFrame};
+ghost use Rattle.fid_model.specs.Moments.{AskedOne, Keeps};
+ghost use Rattle.fid_model.specs.Handling.{IsLeft};
+ghost use Rattle.p9_client.specs.Asking.{IsAskable, IsRequest, IsRepliedBy, IsExchanged, IsUnfinishedAt};
+ghost use Rattle.p9_client.specs.Asking.{IsReplyFrame};
 
 use fid_model::Nine;
 use p9_rmsg::Rmessage;
@@ -34,14 +36,13 @@ fn frame_of(alloc: Global, message: &Tmessage) -> Result<MemSink, NoMemory>
 
 // What the server answers to a frame.
 fn reply_to<N: Nine>(alloc: Global, nine: &mut N, frame: &[u8]) -> Result<MemSink, NoMemory>
-    ensures reply { (m : Message) → frame.now ≡ message_frame 0 m → IsAskable (N.state nine.old) m → IfOk result (λ s. RepliesWith m (N.state nine.old) (N.state nine.new) (N.faults nine.old) (N.faults nine.new) s.bytes.items) }
-    ensures err { OnErr result (N.state nine.new ≡ N.state nine.old) }
-    ensures rises { N.faults nine.old ≤ N.faults nine.new }
-    ensures fixed { (N.state nine.new).settings ≡ (N.state nine.old).settings }
-    ensures sized { (N.state nine.new).msize ≡ (N.state nine.old).msize }
-    ensures asked { N.asked nine.new ≡ min (N.asked nine.old + 1) (2 ^ 64 - 1) }
-    ensures steady { N.steady nine.new ≡ N.steady nine.old }
-    ensures steadily { Steadily (N.steady nine.old) (N.faults nine.old) (N.faults nine.new) }
+    ensures reply { (m : Message) → IsRequest frame.now m (N.at nine.old).state →
+        IfOk result (λ s. IsRepliedBy m (N.at nine.old) (N.at nine.new) s.bytes.items) }
+    ensures left { (m : Message) → IsRequest frame.now m (N.at nine.old).state →
+        OnErr result (IsLeft (N.at nine.old).state m (N.at nine.new).state) }
+    ensures asked { AskedOne (N.at nine.old) (N.at nine.new) }
+    ensures kept { (m : Message) → IsRequest frame.now m (N.at nine.old).state →
+        Keeps (N.at nine.old) (N.at nine.new) }
 {
     let mut reader = SliceSource::new(frame);
     let mut writer = MemSink::new(alloc);
@@ -54,7 +55,8 @@ fn reply_to<N: Nine>(alloc: Global, nine: &mut N, frame: &[u8]) -> Result<MemSin
 // The message that a reply's frame spells.
 fn reply_in(alloc: Global, frame: &[u8]) -> Result<Rmessage, NoMemory>
     requires { IsReplyFrame frame.now }
-    ensures { (tag : ℕ) (r : Reply) → frame.now ≡ reply_frame tag r → ReplySpells r → IsReadableReply r → IfOk result (λ m. reply_of m ≡ r) }
+    ensures { (tag : ℕ) (r : Reply) → frame.now ≡ reply_frame tag r → ReplySpells r →
+        IsReadableReply r → IfOk result (λ m. reply_of m ≡ r) }
 {
     let mut source = SliceSource::new(&frame[7..]);
     match Rmessage::decode_body(alloc, &mut source, frame[4]) {
@@ -66,22 +68,19 @@ fn reply_in(alloc: Global, frame: &[u8]) -> Result<Rmessage, NoMemory>
     }
 }
 
-/// Asks a server one message. Its only error is want of memory, which leaves the state as it was or as the
-/// message left it.
+/// Sends a server one message. Its only error is out of memory: then the state is as a front part of the
+/// message, or the whole of it, left it.
 pub fn exchange<N: Nine>(
     alloc: Global,
     nine: &mut N,
     message: &Tmessage,
 ) -> Result<Rmessage, NoMemory>
-    requires { IsAskable (N.state nine.old) (message_of message.now) }
-    ensures outcome { IfOk result (λ r. Outcome (N.state nine.old) (message_of message.now) (reply_of r) (N.state nine.new) (N.faults nine.old) (N.faults nine.new)) }
-    ensures err { OnErr result (IsUnfinished (N.state nine.old) (message_of message.now) (N.state nine.new) (N.faults nine.old) (N.faults nine.new)) }
-    ensures rises { N.faults nine.old ≤ N.faults nine.new }
-    ensures fixed { (N.state nine.new).settings ≡ (N.state nine.old).settings }
-    ensures sized { (N.state nine.new).msize ≡ (N.state nine.old).msize }
-    ensures asked { OnOk result (N.asked nine.new ≡ min (N.asked nine.old + 1) (2 ^ 64 - 1)) }
-    ensures steady { N.steady nine.new ≡ N.steady nine.old }
-    ensures steadily { Steadily (N.steady nine.old) (N.faults nine.old) (N.faults nine.new) }
+    requires { IsAskable (N.at nine.old).state (message_of message.now) }
+    ensures outcome { IfOk result (λ r.
+        IsExchanged (message_of message.now) (reply_of r) (N.at nine.old) (N.at nine.new)) }
+    ensures err { OnErr result
+        (IsUnfinishedAt (message_of message.now) (N.at nine.old) (N.at nine.new)) }
+    ensures kept { Keeps (N.at nine.old) (N.at nine.new) }
 {
     let request = frame_of(alloc, message)?;
     let reply = reply_to(alloc, nine, request.as_bytes())?;

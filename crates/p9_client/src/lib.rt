@@ -1,7 +1,10 @@
 //! Asking a 9P server: one typed call a message, over any `Nine`.
 #![tactic(auto)]
 
-pub mod calls;
-pub mod examples;
+mod examples;
 mod exchange;
-pub mod files;
+mod fids;
+mod inodes;
+
+pub use fids::{attach, clunk, copy_fid, open, walk_one};
+pub use inodes::{get_attr, read};

@@ -1,5 +1,7 @@
-//! The client's calls over a server of a tree in memory: tests alone.
+//! Tests alone: the client's calls over a server of a tree in memory, and the examples of README.md.
 #![tactic(auto)]
 
+#[cfg(test)]
+mod readme;
 #[cfg(test)]
 mod tests;

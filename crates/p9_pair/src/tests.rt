@@ -3,12 +3,12 @@ ghost use Rattle.std.specs.Prelude.{◌≡◌, ◌+◌, ◌<◌, ◌≤◌, ℕ,
 ghost use Rattle.std.specs.FinMap as map;
 ghost use Rattle.port_base.specs.Names.{name_fault};
 ghost use Rattle.tree_host.specs.TreeHosts.{holds};
+ghost use Rattle.fid_model.specs.Moments.{Keeps};
 ghost use Rattle.p9_client.specs.Opening.{is_readable_at};
 ghost use Rattle.p9_client.specs.Views.{IsRoomy};
 ghost use Rattle.p9_pair.specs.Named.{HasFids};
 
-use p9_client::calls::{attach, walk_one};
-use p9_client::files::{copy_fid, open, read};
+use p9_client::{attach, copy_fid, open, read, walk_one};
 use p9_server::{Config, Nine, Server};
 use p9_wire::data::Data;
 use port_base::names::name_fault;
@@ -19,11 +19,10 @@ use tree_model::{Limits, Stamp};
 
 // The root is fid 1.
 fn attached<N: Nine>(alloc: Global, nine: &mut N) -> Result<(), Fail>
-    requires roomy { IsRoomy (N.state nine.old) }
-    requires none { (N.state nine.old).fids ≡ map.empty }
-    ensures fids { IfOk result (λ _. HasFids 1 (N.state nine.new).fids) }
-    ensures sized { (N.state nine.new).msize ≡ (N.state nine.old).msize }
-    ensures fixed { (N.state nine.new).settings ≡ (N.state nine.old).settings }
+    requires roomy { IsRoomy (N.at nine.old).state }
+    requires none { (N.at nine.old).state.fids ≡ map.empty }
+    ensures fids { IfOk result (λ _. HasFids 1 (N.at nine.new).state.fids) }
+    ensures kept { Keeps (N.at nine.old) (N.at nine.new) }
 {
     match attach(alloc, nine, 1)? {
         Ok(_) => Ok(()),
@@ -33,13 +32,12 @@ fn attached<N: Nine>(alloc: Global, nine: &mut N) -> Result<(), Fail>
 
 // The file of this name is fid 2.
 fn walked<N: Nine>(alloc: Global, nine: &mut N, name: &[u8]) -> Result<(), Fail>
-    requires roomy { IsRoomy (N.state nine.old) }
-    requires fids { HasFids 1 (N.state nine.old).fids }
-    requires below { 1 < (N.state nine.old).settings.limit }
+    requires roomy { IsRoomy (N.at nine.old).state }
+    requires fids { HasFids 1 (N.at nine.old).state.fids }
+    requires below { 1 < (N.at nine.old).state.settings.limit }
     requires named { name_fault name.now ≡ None }
-    ensures fids { IfOk result (λ _. HasFids 2 (N.state nine.new).fids) }
-    ensures sized { (N.state nine.new).msize ≡ (N.state nine.old).msize }
-    ensures fixed { (N.state nine.new).settings ≡ (N.state nine.old).settings }
+    ensures fids { IfOk result (λ _. HasFids 2 (N.at nine.new).state.fids) }
+    ensures kept { Keeps (N.at nine.old) (N.at nine.new) }
 {
     match walk_one(alloc, nine, 1, 2, name)? {
         Ok(_) => Ok(()),
@@ -49,11 +47,11 @@ fn walked<N: Nine>(alloc: Global, nine: &mut N, name: &[u8]) -> Result<(), Fail>
 
 // Fid 3 is a copy of fid 2.
 fn copied<N: Nine>(alloc: Global, nine: &mut N) -> Result<(), Fail>
-    requires roomy { IsRoomy (N.state nine.old) }
-    requires fids { HasFids 2 (N.state nine.old).fids }
-    requires below { 2 < (N.state nine.old).settings.limit }
-    ensures fids { IfOk result (λ _. HasFids 3 (N.state nine.new).fids) }
-    ensures sized { (N.state nine.new).msize ≡ (N.state nine.old).msize }
+    requires roomy { IsRoomy (N.at nine.old).state }
+    requires fids { HasFids 2 (N.at nine.old).state.fids }
+    requires below { 2 < (N.at nine.old).state.settings.limit }
+    ensures fids { IfOk result (λ _. HasFids 3 (N.at nine.new).state.fids) }
+    ensures kept { Keeps (N.at nine.old) (N.at nine.new) }
 {
     match copy_fid(alloc, nine, 2, 3)? {
         Ok(()) => Ok(()),
@@ -63,10 +61,10 @@ fn copied<N: Nine>(alloc: Global, nine: &mut N) -> Result<(), Fail>
 
 // Fid 3 is opened to be read.
 fn opened<N: Nine>(alloc: Global, nine: &mut N) -> Result<(), Fail>
-    requires roomy { IsRoomy (N.state nine.old) }
-    requires fids { HasFids 3 (N.state nine.old).fids }
-    ensures readable { IfOk result (λ _. is_readable_at (map.get (N.state nine.new).fids 3) ≡ true) }
-    ensures sized { (N.state nine.new).msize ≡ (N.state nine.old).msize }
+    requires roomy { IsRoomy (N.at nine.old).state }
+    requires fids { HasFids 3 (N.at nine.old).state.fids }
+    ensures readable { IfOk result (λ _. is_readable_at (map.get (N.at nine.new).state.fids 3) ≡ true) }
+    ensures kept { Keeps (N.at nine.old) (N.at nine.new) }
 {
     match open(alloc, nine, 3, 0)? {
         Ok(_) => Ok(()),
@@ -76,9 +74,9 @@ fn opened<N: Nine>(alloc: Global, nine: &mut N) -> Result<(), Fail>
 
 // Three bytes from 1 on of a file of the root, by a copied fid.
 fn three_bytes<N: Nine>(alloc: Global, nine: &mut N, name: &[u8]) -> Result<Data, Fail>
-    requires roomy { IsRoomy (N.state nine.old) }
-    requires none { (N.state nine.old).fids ≡ map.empty }
-    requires below { 2 < (N.state nine.old).settings.limit }
+    requires roomy { IsRoomy (N.at nine.old).state }
+    requires none { (N.at nine.old).state.fids ≡ map.empty }
+    requires below { 2 < (N.at nine.old).state.settings.limit }
     requires named { name_fault name.now ≡ None }
 {
     attached(alloc, nine)?;
@@ -105,7 +103,7 @@ fn server_of_a_file(alloc: Global) -> Result<Server<TreeHost>, Fail>
         nsec: 0,
     };
     let Ok(mut host) = TreeHost::new(alloc, limits, born, born, 0o755, 0, 0) else {
-        return Err(Fail::from("no memory"));
+        return Err(Fail::from("out of memory"));
     };
     if name_fault(b"f").is_some() {
         return Err(Fail::from("no name"));
@@ -118,7 +116,7 @@ fn server_of_a_file(alloc: Global) -> Result<Server<TreeHost>, Fail>
     };
     host.add(1, b"f", item)?;
     let Ok(config) = Config::standard(alloc) else {
-        return Err(Fail::from("no memory"));
+        return Err(Fail::from("out of memory"));
     };
     match Server::with_config(alloc, host, config) {
         Ok(server) => Ok(server),

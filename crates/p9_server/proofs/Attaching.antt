@@ -11,18 +11,18 @@ use Rattle.tree_model.specs.Attributes.{qid_of, stat_of}
 use Rattle.tree_model.specs.declared.attributes.Attr.{Attr}
 use Rattle.tree_model.specs.declared.attributes.HostError.{HostError}
 use Rattle.tree_model.specs.declared.attributes.HostError.TheVariants.{Errno, Fault, NoMemory}
-use Rattle.tree_host.specs.Host.{Causes}
+use Rattle.tree_host.specs.Calls.{Causes}
 use Rattle.port_base.specs.declared.errno.TheConstants.{EBADF, ENFILE}
 use Rattle.p9_wire.specs.declared.qid.Qid.{Qid as QidStruct}
 use Rattle.p9_wire.specs.Qids.{qid_of as qid_plain}
 use Rattle.p9_tmsg.specs.Messages.Message.{attach}
 use Rattle.p9_rmsg.specs.Replies.{Reply}
 use Rattle.p9_rmsg.specs.Replies.Reply.{attach as attached, lerror}
-use Rattle.fid_model.specs.Fids.{Fids, ServerState, closed, settled, is_held as is_named}
+use Rattle.fid_model.specs.Fids.{Fids, ServerState, closed, kept_state, is_held as is_named}
 use Rattle.fid_model.specs.Answers.{attach_core, attached as attached_by, qid_told}
-use Rattle.fid_model.proofs.Keeping.{settled_kept}
+use Rattle.fid_model.proofs.Keeping.{kept_state_kept}
 use Rattle.p9_server.specs.Walking.{Finds}
-use Rattle.p9_server.specs.Steps.{Steps, server_state, attach_refused}
+use Rattle.p9_server.specs.Steps.{IsStep, server_state, attach_refused}
 use Rattle.p9_server.proofs.Stepping.{pair, step_ok, step_refused, step_fault, step_no_memory}
 
 abbrev pub attaches : QidStruct → Reply
@@ -62,7 +62,7 @@ module _ (t : Tree) (fids : Fids) (msize : ℕ) (settings : Settings) (n : ℕ) 
   abbrev pub state : ServerState
   state = server_state t fids msize settings
 
-  pub attach_unknown : (e f : ℕ) → Some e ≡ attach_refused fids settings.limit n → Steps (attach n 0 [] [] 0) attaches state state steady f f (Err (Errno e))
+  pub attach_unknown : (e f : ℕ) → Some e ≡ attach_refused fids settings.limit n → IsStep (attach n 0 [] [] 0) attaches state state steady f f (Err (Errno e))
   attach_unknown e f is = step_refused (attach n 0 [] [] 0) attaches state state steady f f e (core_is state n ∙ ap (core_by state n) (sym is)) kept refl refl
 
   module _ (allowed : None ≡ attach_refused fids settings.limit n) (t' : Tree) (f0 f1 : ℕ) where
@@ -70,22 +70,22 @@ module _ (t : Tree) (fids : Fids) (msize : ℕ) (settings : Settings) (n : ℕ) 
     core_root r is = core_is state n ∙ ap (core_by state n) (sym allowed) ∙ ap (attached_by state n) is
 
     pub attach_failed : t' ≡ t → (e : HostError) → Finds t (root_of t settings.root) (Err e) → Causes {A = Attr} steady f0 f1 (Err e)
-        → Steps (attach n 0 [] [] 0) attaches state (server_state t' fids msize settings) steady f0 f1 (Err e)
+        → IsStep (attach n 0 [] [] 0) attaches state (server_state t' fids msize settings) steady f0 f1 (Err e)
     attach_failed same (Errno e) f c = step_refused (attach n 0 [] [] 0) attaches state (server_state t' fids msize settings) steady f0 f1 e (core_root (Err e) f.exactly) kept (λ j. server_state (same j) fids msize settings) c.counted
     attach_failed same Fault f c = step_fault (attach n 0 [] [] 0) attaches state (server_state t' fids msize settings) steady f0 f1 refl (λ j. server_state (same j) fids msize settings) c.counted.0 c.counted.1
     attach_failed same NoMemory f c = step_no_memory (attach n 0 [] [] 0) attaches state (server_state t' fids msize settings) steady f0 f1 (λ j. server_state (same j) fids msize settings) c.counted
 
     module _ (a : Attr) (finds : Finds t (root_of t settings.root) (Ok a)) (fids' : Fids) (swept : t' ≡ keep (is_named fids') t) (count : f1 ≡ f0) where
       pub attach_done : (q : QidStruct) → fids' ≡ insert fids n (closed a.ino) → qid_plain q ≡ qid_of a
-          → Steps (attach n 0 [] [] 0) attaches state (server_state t' fids' msize settings) steady f0 f1 (Ok q)
+          → IsStep (attach n 0 [] [] 0) attaches state (server_state t' fids' msize settings) steady f0 f1 (Ok q)
       attach_done q is seen = step_ok (attach n 0 [] [] 0) attaches state (server_state t' fids' msize settings) steady f0 f1 q
           ((λ j. pair (attached ((seen ∙ sym (ap qid_told finds.exactly.1)) j)) (server_state (swept j) fids' msize settings))
-          ∙ (λ j. pair (attached (qid_told (stat_of t a.ino))) (settled (server_state t (is j) msize settings)))
-          ∙ sym (ap (λ (x : Reply × ServerState). pair x.0 (settled x.1)) (core_root (Ok a.ino) finds.exactly.0))) count
+          ∙ (λ j. pair (attached (qid_told (stat_of t a.ino))) (kept_state (server_state t (is j) msize settings)))
+          ∙ sym (ap (λ (x : Reply × ServerState). pair x.0 (kept_state x.1)) (core_root (Ok a.ino) finds.exactly.0))) count
 
-      pub attach_no_memory : (e : HostError) → fids' ≡ fids → ◌≡◌ {A = Result (Unit {0}) HostError} (Err e) (Err NoMemory) → Steps (attach n 0 [] [] 0) attaches state (server_state t' fids' msize settings) steady f0 f1 (Err e)
+      pub attach_no_memory : (e : HostError) → fids' ≡ fids → ◌≡◌ {A = Result (Unit {0}) HostError} (Err e) (Err NoMemory) → IsStep (attach n 0 [] [] 0) attaches state (server_state t' fids' msize settings) steady f0 f1 (Err e)
       attach_no_memory e is none =
           let memory : e ≡ NoMemory = cc in
-          let same : server_state t' fids' msize settings ≡ state = (λ j. server_state (swept j) fids' msize settings) ∙ (λ j. settled (server_state t (is j) msize settings)) ∙ settled_kept state kept in
-          subst (λ (d : HostError). Steps (attach n 0 [] [] 0) attaches state (server_state t' fids' msize settings) steady f0 f1 (Err d)) (sym memory)
+          let same : server_state t' fids' msize settings ≡ state = (λ j. server_state (swept j) fids' msize settings) ∙ (λ j. kept_state (server_state t (is j) msize settings)) ∙ kept_state_kept state kept in
+          subst (λ (d : HostError). IsStep (attach n 0 [] [] 0) attaches state (server_state t' fids' msize settings) steady f0 f1 (Err d)) (sym memory)
           (step_no_memory (attach n 0 [] [] 0) attaches state (server_state t' fids' msize settings) steady f0 f1 same count)

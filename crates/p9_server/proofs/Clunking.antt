@@ -12,11 +12,11 @@ use Rattle.tree_host.specs.Holds.{Holds, hold_count, held_less, is_held}
 use Rattle.port_base.specs.declared.errno.TheConstants.{EBADF}
 use Rattle.p9_tmsg.specs.Messages.Message.{clunk}
 use Rattle.p9_rmsg.specs.Replies.Reply.{clunk as clunked}
-use Rattle.fid_model.specs.Fids.{Fids, Fid, fid_count, settled, is_held as is_named}
+use Rattle.fid_model.specs.Fids.{Fids, Fid, fid_count, kept_state, is_held as is_named}
 use Rattle.fid_model.specs.Answers.{clunk_by}
 use Rattle.fid_model.proofs.FidCounts.{fid_count-gone, fid_count-named}
 use Rattle.p9_server.specs.Holding.{AreFids, IsSound}
-use Rattle.p9_server.specs.Steps.{Steps, server_state}
+use Rattle.p9_server.specs.Steps.{IsStep, server_state}
 use Rattle.p9_server.proofs.HoldCounts.{less_counts_of, keep_named}
 use Rattle.p9_server.proofs.Stepping.{pair, step_ok, step_refused}
 
@@ -29,7 +29,7 @@ module _ (h : Holds) (fids : Fids) (msize : ℕ) (settings : Settings) (sound : 
   absent_sound none fids' is = subst (λ (f : Fids). IsSound h f msize settings) (sym (is ∙ remove_absent fids n (sym none))) sound
 
   pub absent_step : None ≡ get fids n → (fids' : Fids) → fids' ≡ remove fids n → (t : Tree) → IsKept t.records (is_named fids) → (steady : Bool) (f : ℕ)
-      → Steps {A = Unit {0}} (clunk n) (λ _. clunked) (server_state t fids msize settings) (server_state t fids' msize settings) steady f f (Err (Errno EBADF))
+      → IsStep {A = Unit {0}} (clunk n) (λ _. clunked) (server_state t fids msize settings) (server_state t fids' msize settings) steady f f (Err (Errno EBADF))
   absent_step none fids' is t kept steady f = step_refused (clunk n) (λ _. clunked) (server_state t fids msize settings) (server_state t fids' msize settings) steady f f EBADF
       (ap (clunk_by (server_state t fids msize settings) n) (sym none)) kept (λ j. server_state t ((is ∙ remove_absent fids n (sym none)) j) msize settings) refl
 
@@ -57,8 +57,8 @@ module _ (h : Holds) (fids : Fids) (msize : ℕ) (settings : Settings) (sound : 
       gone_sound = record { held = subst (AreFids h') (sym rest) fewer; few = fewer_fids; bounded = sound.bounded; roomy = sound.roomy; below = sound.below; plain = sound.plain }
 
       pub gone_step : (t t' : Tree) → t' ≡ keep (is_held h') t → (steady : Bool) (f0 f1 : ℕ) → f1 ≡ f0
-          → Steps (clunk n) (λ _. clunked) (server_state t fids msize settings) (server_state t' fids' msize settings) steady f0 f1 (Ok (tt {0}))
+          → IsStep (clunk n) (λ _. clunked) (server_state t fids msize settings) (server_state t' fids' msize settings) steady f0 f1 (Ok (tt {0}))
       gone_step t t' swept steady f0 f1 count = step_ok (clunk n) (λ _. clunked) (server_state t fids msize settings) (server_state t' fids' msize settings) steady f0 f1 tt
           ((λ j. pair clunked (server_state ((swept ∙ keep_named h' fids' gone_sound.held t) j) fids' msize settings))
-          ∙ (λ j. pair clunked (settled (server_state t (rest j) msize settings)))
-          ∙ ap (λ (o : Option Fid). pair (clunk_by (server_state t fids msize settings) n o).0 (settled (clunk_by (server_state t fids msize settings) n o).1)) at) count
+          ∙ (λ j. pair clunked (kept_state (server_state t (rest j) msize settings)))
+          ∙ ap (λ (o : Option Fid). pair (clunk_by (server_state t fids msize settings) n o).0 (kept_state (clunk_by (server_state t fids msize settings) n o).1)) at) count

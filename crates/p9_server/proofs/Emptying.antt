@@ -3,6 +3,7 @@ use Rattle.std.proofs.Common.{◌≡◌, ℕ, ◌<◌, ◌≤◌, ◌^◌, Bool,
 use Rattle.std.specs.Prelude.{nat_lt, unwrap_or}
 use Rattle.std.specs.Ordering.{nat_cmp}
 use Rattle.std.specs.FinMap.{empty, len, len-empty, get-empty, retain_keys}
+use Rattle.port_base.specs.Paths.{is_rooted_path}
 use Rattle.tree_model.specs.Tree.{Tree, keep, linked, is_linked}
 use Rattle.tree_model.specs.Settings.{Settings}
 use Rattle.tree_host.specs.Holds.{Holds, hold_count}
@@ -10,7 +11,7 @@ use Rattle.fid_model.specs.Fids.{Fids, Fid, fid_count, is_held as is_named}
 use Rattle.fid_model.proofs.FidCounts.{fid_count-few}
 use Rattle.std.proofs.lemmas.Bool.Decides.{nat_tests}
 use Rattle.p9_server.specs.Holding.{IsSound}
-use Rattle.p9_server.specs.Configs.{config_refused, is_good_root}
+use Rattle.p9_server.specs.Configs.{config_refused}
 use Rattle.p9_server.specs.declared.config.ConfigError.{ConfigError}
 use Rattle.p9_server.specs.declared.config.ConfigError.TheVariants.{MsizeTooSmall, BadRoot}
 
@@ -41,4 +42,16 @@ roomy_by false msize o is e = grind (arith, nat_tests)
 
 -- a configuration that isn't refused has room for each reply
 pub config_roomy : (msize : ℕ) (root : List ℕ) → None ≡ config_refused msize root → 256 ≤ msize
-config_roomy msize root e = roomy_by (nat_lt msize 256) msize (cond (not (is_good_root root)) (Some BadRoot) None) refl e
+config_roomy msize root e = roomy_by (nat_lt msize 256) msize (cond (not (is_rooted_path root)) (Some BadRoot) None) refl e
+
+rooted_by : (rooted : Bool) → None ≡ cond (not rooted) (Some BadRoot) None → rooted ≡ true
+rooted_by true e = refl
+rooted_by false e = absurd (cc)
+
+behind_size : (small : Bool) (o : Option ConfigError) → None ≡ cond small (Some MsizeTooSmall) o → None ≡ o
+behind_size true o e = absurd (cc)
+behind_size false o e = e
+
+-- and its root is one
+pub config_rooted : (msize : ℕ) (root : List ℕ) → None ≡ config_refused msize root → is_rooted_path root ≡ true
+config_rooted msize root e = rooted_by (is_rooted_path root) (behind_size (nat_lt msize 256) (cond (not (is_rooted_path root)) (Some BadRoot) None) e)

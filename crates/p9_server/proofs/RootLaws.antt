@@ -1,54 +1,56 @@
--- A path is good where each part between its slashes is.
-use Rattle.std.proofs.Common.{◌≡◌, ℕ, Bool, true, false, cond, not, ◌&&◌, ◌||◌, List, [], ◌∷◌, ◌++◌, length, map, refl, sym, ap, ◌∙◌, Some}
-use Rattle.std.specs.Prelude.{◌==◌, filter, is_none, slice_get}
-use Rattle.std.specs.List.{list_all, slice_split}
+-- The names of a root have no fault.
+use Rattle.std.proofs.Common.{◌≡◌, ℕ, Bool, true, false, cond, not, ◌&&◌, ◌||◌, List, [], ◌∷◌, length, refl, sym, ap, subst, Option, Some, None, arith}
+use Rattle.std.specs.Prelude.{◌==◌, filter, is_none, slice_get, All}
+use Rattle.std.specs.List.{list_all, onto_first, slice_split, AllByRecursion}
+use Rattle.std.proofs.lemmas.Bool.Decides.{nat_tests}
+use Rattle.std.proofs.lemmas.List.{nil_from_length}
+use Rattle.std.proofs.lemmas.List.Elements.{All-filter, All-from_recursion, All-nil}
 use Rattle.port_base.specs.Names.{name_fault}
+use Rattle.port_base.specs.Paths.{are_joined_names, is_rooted_path}
 use Rattle.tree_model.specs.Finding.{path_names}
-use Rattle.p9_server.specs.Roots.{begins_with_slash, is_good_root, is_good_part, parts_good}
 
-pub parts_good-push : {A : Type 0} (f : A → List ℕ) (b : Bool) (xs : List A) (y : A) → parts_good b (map f (xs ++ y ∷ [])) ≡ (parts_good b (map f xs) && is_good_part (f y))
-parts_good-push f b [] y = refl
-parts_good-push f b (x ∷ xs) y = parts_good-push f (b && is_good_part (f x)) xs y
+and_true : (a b : Bool) → (a && b) ≡ true → (a ≡ true) × (b ≡ true)
+and_true true b h = (refl, h)
+and_true false b h = absurd (cc)
 
-one_part : (empty good b rest : Bool) → ((b && (empty || good)) && cond (not empty) rest rest) ≡ (b && cond (not empty) (good && rest) rest)
-one_part true good true rest = refl
-one_part true good false rest = refl
-one_part false true true rest = refl
-one_part false true false rest = refl
-one_part false false true rest = refl
-one_part false false false rest = refl
+none_of : (o : Option ℕ) → is_none o ≡ true → o ≡ None
+none_of None h = refl
+none_of (Some e) h = absurd (cc)
 
-abbrev good_names : List (List ℕ) → Bool
-good_names names = list_all (λ name. is_none (name_fault name)) names
+abbrev HasNoFault : List ℕ → Type 0
+HasNoFault name = name_fault name ≡ None
+
+all_good : (parts : List (List ℕ)) → list_all (λ part. is_none (name_fault part)) parts ≡ true → AllByRecursion HasNoFault parts
+all_good [] h = tt
+all_good (part ∷ parts) h =
+    let both = and_true (is_none (name_fault part)) (list_all (λ part. is_none (name_fault part)) parts) h in
+    (none_of (name_fault part) both.0, all_good parts both.1)
+
+abbrev parts_of : List ℕ → List (List ℕ)
+parts_of = slice_split (λ b. b == 47)
 
 abbrev named : List (List ℕ) → List (List ℕ)
-named parts = filter (λ part. not (length part == 0)) parts
+named = filter (λ part. not (length part == 0))
 
-cond_names : (b : Bool) (part : List ℕ) (names : List (List ℕ)) → good_names (cond b (part ∷ names) names) ≡ cond b (is_none (name_fault part) && good_names names) (good_names names)
-cond_names true part names = refl
-cond_names false part names = refl
+is_slash_byte : (b : ℕ) → (b == 47) ≡ true → b ≡ 47
+is_slash_byte b h = grind (arith, nat_tests)
 
-same_cond : (b rest : Bool) → cond b rest rest ≡ rest
-same_cond true rest = refl
-same_cond false rest = refl
+alone : (b : ℕ) (rest : List ℕ) → (length (b ∷ rest) == 1) ≡ true → rest ≡ []
+alone b rest h = let one : length (b ∷ rest) ≡ 1 = grind (arith, nat_tests) in nil_from_length rest (omega arith)
 
-parts_good-names : (b : Bool) (parts : List (List ℕ)) → parts_good b parts ≡ (b && good_names (named parts))
-parts_good-names true [] = refl
-parts_good-names false [] = refl
-parts_good-names b (part ∷ parts) =
-    parts_good-names (b && is_good_part part) parts
-    ∙ ap (λ (r : Bool). (b && is_good_part part) && r) (sym (same_cond (not (length part == 0)) (good_names (named parts))))
-    ∙ one_part (length part == 0) (is_none (name_fault part)) b (good_names (named parts))
-    ∙ ap (λ (r : Bool). b && r) (sym (cond_names (not (length part == 0)) part (named parts)))
+behind_slash : (b : ℕ) (rest : List ℕ) (short : Bool) → (length (b ∷ rest) == 1) ≡ short → (short || are_joined_names rest) ≡ true → All HasNoFault (named (parts_of rest))
+behind_slash b rest true is h = subst (λ (r : List ℕ). All HasNoFault (named (parts_of r))) (sym (alone b rest is)) (All-nil HasNoFault)
+behind_slash b rest false is h = All-filter (λ part. not (length part == 0)) HasNoFault (parts_of rest) (All-from_recursion HasNoFault (parts_of rest) (all_good (parts_of rest) h))
 
--- the parts of a path that begins with a slash decide
-pub root_by_parts : (path : List ℕ) → parts_good true (slice_split (λ b. b == 47) path) ≡ good_names (path_names path)
-root_by_parts path = parts_good-names true (slice_split (λ b. b == 47) path)
+-- the names of a root have no fault
+pub root_named : (path : List ℕ) → is_rooted_path path ≡ true → All (λ name. name_fault name ≡ None) (path_names path)
+root_named [] h = absurd (cc)
+root_named (b ∷ rest) h =
+    let both = and_true (b == 47) ((length (b ∷ rest) == 1) || are_joined_names rest) h in
+    subst (λ (slash : Bool). All HasNoFault (named (cond slash ([] ∷ parts_of rest) (onto_first b (parts_of rest))))) (sym both.0)
+    (behind_slash b rest (length (b ∷ rest) == 1) refl both.1)
 
-pub begins_at : (path : List ℕ) → slice_get path 0 ≡ Some 47 → begins_with_slash path ≡ true
-begins_at [] e = absurd (cc)
-begins_at (b ∷ path) e = let same : b ≡ 47 = cc in ap (λ (n : ℕ). n == 47) same
-
--- a path that begins with a slash, by its parts
-pub root_is : (path : List ℕ) (good : Bool) → slice_get path 0 ≡ Some 47 → good ≡ parts_good true (slice_split (λ b. b == 47) path) → good ≡ is_good_root path
-root_is path good first is = is ∙ root_by_parts path ∙ ap (λ (b : Bool). b && good_names (path_names path)) (sym (begins_at path first))
+-- a root begins with a slash
+pub root_absolute : (path : List ℕ) → is_rooted_path path ≡ true → slice_get path 0 ≡ Some 47
+root_absolute [] h = absurd (cc)
+root_absolute (b ∷ rest) h = ap Some (is_slash_byte b (and_true (b == 47) ((length (b ∷ rest) == 1) || are_joined_names rest) h).0)

@@ -1,5 +1,5 @@
 -- What a small server refuses: it follows by computation from what its map of fids has.
-use Rattle.std.proofs.Common.{◌≡◌, ℕ, Bool, true, false, cond, ◌&&◌, ap, ◌∙◌, Option, Some, None, Result, Ok, Err}
+use Rattle.std.proofs.Common.{◌≡◌, ℕ, Bool, true, false, cond, not, ◌&&◌, ap, ◌∙◌, Option, Some, None, Result, Ok, Err}
 use Rattle.std.specs.Prelude.{codes, is_none, is_some, nat_le}
 use Rattle.std.specs.FinMap.{get, len}
 use Rattle.port_base.specs.declared.errno.TheConstants.{EBADF, EINVAL, ENFILE}
@@ -7,11 +7,17 @@ use Rattle.port_base.proofs.ByComputing.{name_word}
 use Rattle.fid_model.specs.Fids.{Fid, Fids, closed}
 use Rattle.fid_model.specs.Samples.{server, with_open}
 use Rattle.fid_model.proofs.Sampling.{seven, eight, nine, eight_open, nine_with_open, opened_file, room, no_room}
-use Rattle.p9_server.specs.Roots.{is_good_root}
+use Rattle.p9_server.specs.Configs.{config_refused}
+use Rattle.p9_server.specs.declared.config.ConfigError.TheVariants.{BadRoot}
 use Rattle.p9_server.specs.Steps.{attach_refused, walk_start, start_from}
 
-pub named_root : is_good_root (codes "//hello/") ≡ true
-named_root = ap (λ (o : Option ℕ). is_none o && true) name_word
+-- ---- roots
+
+pub good_root : config_refused 256 (codes "/hello") ≡ None
+good_root = ap (λ (o : Option ℕ). cond (not (is_none o && true)) (Some BadRoot) None) name_word
+
+pub last_slash : config_refused 256 (codes "/hello/") ≡ Some BadRoot
+last_slash = ap (λ (o : Option ℕ). cond (not (is_none o && false)) (Some BadRoot) None) name_word
 
 -- ---- new fids
 

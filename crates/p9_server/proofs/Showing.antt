@@ -12,17 +12,18 @@ use Rattle.tree_model.specs.declared.attributes.Attr.{Attr}
 use Rattle.tree_model.specs.declared.attributes.HostError.{HostError}
 use Rattle.tree_model.specs.declared.attributes.HostError.TheVariants.{Errno, Fault, NoMemory}
 use Rattle.tree_host.specs.Holds.{Holds, hold_count}
-use Rattle.tree_host.specs.Host.{Answers, Causes}
+use Rattle.tree_host.specs.Host.{Answers}
+use Rattle.tree_host.specs.Calls.{Causes}
 use Rattle.port_base.specs.declared.errno.TheConstants.{EBADF}
 use Rattle.p9_tmsg.specs.Messages.Message.{getattr}
 use Rattle.p9_rmsg.specs.Replies.{Reply}
 use Rattle.p9_rmsg.specs.Replies.Reply.{getattr as shown, lerror}
-use Rattle.fid_model.specs.Fids.{Fids, Fid, ServerState, settled, is_held as is_named}
-use Rattle.fid_model.specs.Answers.{answer, getattr_by, got, attributes_of}
+use Rattle.fid_model.specs.Fids.{Fids, Fid, ServerState, kept_state, is_held as is_named}
+use Rattle.fid_model.specs.Answers.{answer, getattr_by, getattr_reply, attributes_of}
 use Rattle.fid_model.proofs.FidCounts.{fid_count-named}
-use Rattle.fid_model.proofs.Keeping.{settled_kept}
+use Rattle.fid_model.proofs.Keeping.{kept_state_kept}
 use Rattle.p9_server.specs.Holding.{AreFids}
-use Rattle.p9_server.specs.Steps.{Steps, server_state, ino_told}
+use Rattle.p9_server.specs.Steps.{IsStep, server_state, ino_told}
 use Rattle.p9_server.proofs.Stepping.{pair, step_ok, step_errno, step_refused, step_fault, step_no_memory}
 
 -- what the exit of a `?` returns
@@ -73,10 +74,10 @@ module _ (t : Tree) (fids : Fids) (msize : ℕ) (settings : Settings) (n : ℕ) 
   abbrev pub state : ServerState
   state = server_state t fids msize settings
 
-  pub unknown_step : (f : ℕ) (e : HostError) → Err e ≡ ino_told (get fids n) → Steps (getattr n 0) shows state state steady f f (Err e)
+  pub unknown_step : (f : ℕ) (e : HostError) → Err e ≡ ino_told (get fids n) → IsStep (getattr n 0) shows state state steady f f (Err e)
   unknown_step f e is =
       let none = unnamed fids n e is in
-      subst (λ (e : HostError). Steps (getattr n 0) shows state state steady f f (Err e)) (sym none.1)
+      subst (λ (e : HostError). IsStep (getattr n 0) shows state state steady f f (Err e)) (sym none.1)
       (step_refused (getattr n 0) shows state state steady f f EBADF (ap (λ (o : Option Fid). pair (getattr_by state o) state) none.0) kept refl refl)
 
   module _ (ino : ℕ) (known : Ok ino ≡ ino_told (get fids n)) (t' : Tree) (same : t' ≡ t) (f0 f1 : ℕ) where
@@ -86,18 +87,18 @@ module _ (t : Tree) (fids : Fids) (msize : ℕ) (settings : Settings) (n : ℕ) 
     after_same : after ≡ state
     after_same j = server_state (same j) fids msize settings
 
-    told : (r : Result Attr ℕ) → stat_of t ino ≡ r → answer state (getattr n 0) ≡ pair (got settings r) state
+    told : (r : Result Attr ℕ) → stat_of t ino ≡ r → answer state (getattr n 0) ≡ pair (getattr_reply settings r) state
     told r is =
         let f = named fids n ino known in
-        ap (λ (o : Option Fid). pair (getattr_by state o) (settled state)) f.1
-        ∙ ap (λ (i : ℕ). pair (got settings (stat_of t i)) (settled state)) f.2
-        ∙ ap (λ (r : Result Attr ℕ). pair (got settings r) (settled state)) is
-        ∙ (λ j. pair (got settings r) (settled_kept state kept j))
+        ap (λ (o : Option Fid). pair (getattr_by state o) (kept_state state)) f.1
+        ∙ ap (λ (i : ℕ). pair (getattr_reply settings (stat_of t i)) (kept_state state)) f.2
+        ∙ ap (λ (r : Result Attr ℕ). pair (getattr_reply settings r) (kept_state state)) is
+        ∙ (λ j. pair (getattr_reply settings r) (kept_state_kept state kept j))
 
-    pub shown_step : (a b : Attr) → stat_of t ino ≡ Ok a → b ≡ shown_of settings a → f1 ≡ f0 → Steps (getattr n 0) shows state after steady f0 f1 (Ok b)
+    pub shown_step : (a b : Attr) → stat_of t ino ≡ Ok a → b ≡ shown_of settings a → f1 ≡ f0 → IsStep (getattr n 0) shows state after steady f0 f1 (Ok b)
     shown_step a b is seen count = step_ok (getattr n 0) shows state after steady f0 f1 b ((λ j. pair (shows (seen j)) (after_same j)) ∙ sym (told (Ok a) is)) count
 
-    pub failed_step : (e : HostError) → Answers (stat_of t ino) (Err e) → Causes {A = Attr} steady f0 f1 (Err e) → Steps (getattr n 0) shows state after steady f0 f1 (Err e)
+    pub failed_step : (e : HostError) → Answers (stat_of t ino) (Err e) → Causes {A = Attr} steady f0 f1 (Err e) → IsStep (getattr n 0) shows state after steady f0 f1 (Err e)
     failed_step (Errno e) a c = step_errno (getattr n 0) shows state after steady f0 f1 e ((λ j. pair (lerror e) (after_same j)) ∙ sym (told (Err e) a.exactly)) c.counted
     failed_step Fault a c = step_fault (getattr n 0) shows state after steady f0 f1 refl after_same c.counted.0 c.counted.1
     failed_step NoMemory a c = step_no_memory (getattr n 0) shows state after steady f0 f1 after_same c.counted

@@ -11,7 +11,8 @@ use Rattle.tree_model.specs.declared.attributes.Attr.{Attr}
 use Rattle.tree_model.specs.declared.attributes.HostError.{HostError}
 use Rattle.tree_model.specs.declared.attributes.HostError.TheVariants.{Errno, Fault, NoMemory}
 use Rattle.tree_host.specs.Holds.{Holds, hold_count, held_more, held_less, is_held}
-use Rattle.tree_host.specs.Host.{Answers, Causes}
+use Rattle.tree_host.specs.Host.{Answers}
+use Rattle.tree_host.specs.Calls.{Causes}
 use Rattle.p9_server.specs.Holding.{IsMore, IsSame}
 use Rattle.p9_server.specs.Walking.{Finds}
 use Rattle.p9_server.proofs.HoldCounts.{more_counts_of, less_counts_of, more_held, kept_more}

@@ -1,5 +1,5 @@
 -- The reply to a message, from what a step gives.
-use Rattle.std.specs.Prelude.{◌≡◌, ◌⊎◌, ℕ, ◌+◌, ◌≤◌, Bool, List, length, Result, Ok, Err}
+use Rattle.std.specs.Prelude.{◌≡◌, ◌⊎◌, ℕ, ◌+◌, ◌≤◌, List, length, Result, Ok, Err}
 use Rattle.std.specs.declared.option.Option.{Option}
 use Rattle.std.specs.Io.KnownBytes.{Appends}
 use Rattle.port_base.specs.Faults.{Faulted}
@@ -14,14 +14,15 @@ use Rattle.p9_rmsg.specs.Replies.{Reply, ReplySpells, reply_spelling, reply_of}
 use Rattle.p9_rmsg.specs.Replies.Reply.{lerror}
 use Rattle.p9_rmsg.specs.declared.message.Rmessage.{Rmessage}
 use Rattle.fid_model.specs.Fids.{ServerState}
-use Rattle.fid_model.specs.Handling.{BodyOutcome, Steadily}
+use Rattle.fid_model.specs.Handling.{BodyOutcome, IsLeft}
+use Rattle.fid_model.specs.Moments.{Moment, Stays}
 
 abbrev pub refusal_told : HostError → Result Reply WireError
 refusal_told (host.Errno e) = Ok (lerror e)
 refusal_told host.Fault = Ok (lerror EIO)
 refusal_told host.NoMemory = Err NoMemory
 
--- a fault is answered EIO, and want of memory not at all
+-- a fault is answered EIO, and out of memory not at all
 abbrev pub reply_told : {A : Type 0} → (A → Reply) → Result A HostError → Result Reply WireError
 reply_told reply (Ok a) = Ok (reply a)
 reply_told reply (Err e) = refusal_told e
@@ -44,16 +45,19 @@ pub record IsSized (s0 s1 : ServerState) (r : Reply) : Type 0 where
   pub fits : Fits s0.msize r
   pub room : IsShort r ⊎ (s1 ≡ s0)
 
-abbrev pub AnsweredBy : Result Message WireError → ServerState → ServerState → ℕ → ℕ → Result Rmessage WireError → Type 0
-AnsweredBy body s0 s1 f0 f1 (Ok m) = BodyOutcome s0 body (reply_of m) s1 f0 f1 × IsSized s0 s1 (reply_of m)
-AnsweredBy body s0 s1 f0 f1 (Err e) = (e ≡ NoMemory) × (s1 ≡ s0)
+-- what out of memory leaves of what a body says
+abbrev pub LeavesBody : Result Message WireError → ServerState → ServerState → Type 0
+LeavesBody (Ok m) s0 s1 = IsLeft s0 m s1
+LeavesBody (Err fault) s0 s1 = s1 ≡ s0
 
--- what a body says is answered, or, for want of memory, nothing is changed
-pub record Answered (body : Result Message WireError) (s0 s1 : ServerState) (steady : Bool) (f0 f1 : ℕ) (result : Result Rmessage WireError) : Type 0 where
-  pub answer : AnsweredBy body s0 s1 f0 f1 result
-  pub rises : f0 ≤ f1
-  pub steadily : Steadily steady f0 f1
-  pub fixed : s1.settings ≡ s0.settings
+abbrev pub AnsweredBy : Result Message WireError → Moment → Moment → Result Rmessage WireError → Type 0
+AnsweredBy body old new (Ok m) = BodyOutcome old.state body (reply_of m) new.state old.faults new.faults × IsSized old.state new.state (reply_of m)
+AnsweredBy body old new (Err e) = (e ≡ NoMemory) × LeavesBody body old.state new.state
+
+-- what a body says is answered, or there was no memory
+pub record Answered (body : Result Message WireError) (old new : Moment) (result : Result Rmessage WireError) : Type 0 where
+  pub answer : AnsweredBy body old new result
+  pub stays : Stays old new
 
 abbrev pub SentBy : {T : Type 0} → List ℕ → Option (List ℕ) → Option (List ℕ) → ℕ → ℕ → Result T WireError → Type 0
 SentBy bytes s0 s1 f0 f1 (Ok x) = Appends s0 s1 bytes × (f1 ≡ f0)

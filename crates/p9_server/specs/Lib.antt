@@ -1,6 +1,5 @@
 pub mod Holding
 pub mod OpenModes
-pub mod Roots
 pub mod Steps
 pub mod Walking
 pub mod Answering

@@ -1,5 +1,5 @@
 -- What a step of the server promises: the machine's answer to one message, on values.
-use Rattle.std.specs.Prelude.{◌≡◌, ℕ, ◌≤◌, Bool, not, ◌&&◌, ◌==◌, nat_lt, nat_le, if◌then◌else◌, Option, Some, None, Result, Ok, Err}
+use Rattle.std.specs.Prelude.{ℕ, ◌≤◌, Bool, not, ◌&&◌, ◌==◌, nat_lt, nat_le, if◌then◌else◌, Option, Some, None, Result, Ok, Err}
 use Rattle.std.specs.FinMap as map
 use Rattle.port_base.specs.declared.errno.TheConstants.{EBADF, EINVAL, EIO, ENFILE}
 use Rattle.tree_model.specs.Tree.{Tree}
@@ -9,25 +9,35 @@ use Rattle.tree_model.specs.declared.attributes.HostError.TheVariants.{Errno, Fa
 use Rattle.p9_tmsg.specs.Messages.{Message}
 use Rattle.p9_rmsg.specs.Replies.{Reply}
 use Rattle.p9_rmsg.specs.Replies.Reply.{lerror}
+use Rattle.p9_wire.specs.declared.protocol.TheConstants.{P9_MAXWELEM}
 use Rattle.fid_model.specs.Fids.{ServerState, Fids, Fid, is_readable}
-use Rattle.fid_model.specs.Answers.{WALK_LIMIT}
-use Rattle.fid_model.specs.Handling.{Outcome, Steadily}
+use Rattle.fid_model.specs.Handling.{IsLeft, Outcome}
+use Rattle.fid_model.specs.Moments.{Moment, Steadily}
+use Rattle.tree_host.specs.Calls.{Calls}
 
 abbrev pub server_state : Tree → Fids → ℕ → Settings → ServerState
 server_state tree fids msize settings = record { tree = tree; fids = fids; msize = msize; settings = settings }
 
--- the answer, a refusal or EIO for a fault; for want of memory the state stays
+-- what a server shows, by the tree and the calls of its host
+abbrev pub moment_of : Tree → Calls → Fids → ℕ → Settings → ℕ → Moment
+moment_of tree calls fids msize settings asked = record { state = server_state tree fids msize settings; faults = calls.faults; steady = calls.steady; asked = asked }
+
+-- the answer, a refusal or EIO for a fault; out of memory leaves no more than a front part of the message
 abbrev pub StepBy : {A : Type 0} → Message → (A → Reply) → ServerState → ServerState → ℕ → ℕ → Result A HostError → Type 0
 StepBy m reply s0 s1 f0 f1 (Ok a) = Outcome s0 m (reply a) s1 f0 f1
 StepBy m reply s0 s1 f0 f1 (Err (Errno e)) = Outcome s0 m (lerror e) s1 f0 f1
 StepBy m reply s0 s1 f0 f1 (Err Fault) = Outcome s0 m (lerror EIO) s1 f0 f1
-StepBy m reply s0 s1 f0 f1 (Err NoMemory) = s1 ≡ s0
+StepBy m reply s0 s1 f0 f1 (Err NoMemory) = IsLeft s0 m s1
 
 -- one message is answered; the count of faults doesn't fall, and stays where it is steady
-pub record Steps {A : Type 0} (m : Message) (reply : A → Reply) (s0 s1 : ServerState) (steady : Bool) (f0 f1 : ℕ) (result : Result A HostError) : Type 0 where
+pub record IsStep {A : Type 0} (m : Message) (reply : A → Reply) (s0 s1 : ServerState) (steady : Bool) (f0 f1 : ℕ) (result : Result A HostError) : Type 0 where
   pub answer : StepBy m reply s0 s1 f0 f1 result
   pub rises : f0 ≤ f1
   pub steadily : Steadily steady f0 f1
+
+-- the same of two moments
+abbrev pub Steps : {A : Type 0} → Message → (A → Reply) → Moment → Moment → Result A HostError → Type 0
+Steps m reply old new result = IsStep m reply old.state new.state old.steady old.faults new.faults result
 
 -- the inode that a fid names
 abbrev pub ino_told : Option Fid → Result ℕ HostError
@@ -56,7 +66,7 @@ abbrev pub start_from : Bool → Bool → ℕ → Option Fid → Result ℕ ℕ
 start_from same full count None = Err EBADF
 start_from same full count (Some f) =
     if not same && full then Err ENFILE else
-    if nat_lt WALK_LIMIT count then Err EINVAL else Ok f.ino
+    if nat_lt P9_MAXWELEM count then Err EINVAL else Ok f.ino
 
 -- the inode that a walk of so many names begins at, or why it can't begin
 abbrev pub walk_start : Fids → ℕ → ℕ → ℕ → ℕ → Result ℕ ℕ

@@ -5,8 +5,13 @@ use Rattle.tree_model.specs.Attributes.{Qid, stat_of}
 use Rattle.tree_model.specs.declared.attributes.Attr.{Attr}
 use Rattle.tree_model.specs.declared.attributes.HostError.{HostError}
 use Rattle.tree_model.specs.declared.attributes.HostError.TheVariants.{Errno, Fault, NoMemory}
+use Rattle.tree_host.specs.Calls.{Calls, Causes}
 use Rattle.fid_model.specs.Answers.{walk_names}
 use Rattle.fid_model.specs.Handling.{IsFrontOfWalk}
+
+-- a fault is counted, and no other answer is
+abbrev pub Counts : {A : Type 0} → Calls → Calls → Result A HostError → Type 0
+Counts old new result = Causes old.steady old.faults new.faults result
 
 abbrev pub FindsBy : Tree → Result ℕ ℕ → Result Attr HostError → Type 0
 FindsBy t told (Ok a) = (told ≡ Ok a.ino) × (stat_of t a.ino ≡ Ok a)

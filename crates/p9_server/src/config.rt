@@ -1,14 +1,13 @@
 //! How a server is set up.
-ghost use Rattle.std.specs.Prelude.{◌≡◌, ◌∷◌, [], ◌&&◌, ◌==◌, true, IfOk};
-ghost use Rattle.std.specs.List.{slice_split};
-ghost use Rattle.p9_server.specs.Roots.{is_good_part, parts_good};
-ghost use Rattle.p9_server.specs.Configs.{config_refused, is_good_root};
+ghost use Rattle.std.specs.Prelude.{◌≡◌, ◌∷◌, [], IfOk};
+ghost use Rattle.p9_server.specs.Configs.{config_refused};
 
 use crate::share::{ServerGidMap, ServerUidMap, Share};
-use port_base::names::name_fault;
+use port_base::paths::is_rooted_path;
 use port_base::sink::NoMemory;
 use std::alloc::Global;
 use std::collections::BTreeMap;
+use std::fmt;
 
 /// The least greatest size of a frame, in bytes: each reply has room.
 pub const MIN_MSIZE: u32 = 256;
@@ -19,7 +18,7 @@ pub const STANDARD_MSIZE: u32 = 65560;
 /// How a server is set up.
 #[derive(Drop)]
 pub struct Config {
-    /// The path of the directory that is shared: `/`, or an absolute path of names without fault.
+    /// The path of the directory that is shared: `/`, or `/` and names without fault joined by single slashes.
     pub root: Vec<u8>,
     /// The greatest size of a frame, in bytes: at least 256.
     pub msize: u32,
@@ -36,10 +35,23 @@ pub struct Config {
 pub enum ConfigError {
     /// The greatest size of a frame is below 256.
     MsizeTooSmall,
-    /// The root isn't `/` or an absolute path of names without fault.
+    /// The root isn't `/`, nor `/` and names without fault joined by single slashes.
     BadRoot,
-    /// There was no memory.
+    /// Out of memory.
     NoMemory,
+}
+
+impl fmt::Display for ConfigError {
+    fn fmt<W: fmt::Write>(&self, f: &mut fmt::Formatter<W>) -> fmt::Result {
+        match self {
+            ConfigError::MsizeTooSmall => write!(f, "frames of less than 256 bytes are too small"),
+            ConfigError::BadRoot => write!(
+                f,
+                "the root isn't `/` or names joined by single slashes"
+            ),
+            ConfigError::NoMemory => write!(f, "out of memory"),
+        }
+    }
 }
 
 /// A host that isn't served, and why.
@@ -57,9 +69,7 @@ impl Config {
         ensures maps { IfOk result (λ c. (c.uid_map.entries ≡ []) × (c.gid_map.entries ≡ [])) }
         ensures fids { IfOk result (λ c. c.fid_limit ≡ 4294967295) }
     {
-        let Ok(root) = Vec::from_slice(alloc, b"/") else {
-            return Err(NoMemory);
-        };
+        let root = Vec::from_slice(alloc, b"/").map_err(|_| NoMemory)?;
         Ok(Config {
             root,
             msize: STANDARD_MSIZE,
@@ -70,42 +80,14 @@ impl Config {
     }
 }
 
-// Whether all parts so far are empty or names without fault, this one too.
-fn still_good(so_far: bool, part: &[u8]) -> bool
-    ensures { result ≡ (so_far && is_good_part part.now) }
-{
-    so_far && (part.is_empty() || name_fault(part).is_none())
-}
-
-// Whether each part between slashes is empty, or a name without fault.
-fn has_good_parts(path: &[u8]) -> bool
-    ensures { result ≡ parts_good true (slice_split (λ b. b == 47) path.now) }
-{
-    let mut good = true;
-    for part in path.split(|b| *b == b'/') {
-        good = still_good(good, part);
-    }
-    good
-}
-
-// Whether a path is `/` or an absolute path of names without fault.
-fn is_good_root(path: &[u8]) -> bool
-    ensures { result ≡ is_good_root path.now }
-{
-    match path.first() {
-        Some(b'/') => has_good_parts(path),
-        _ => false,
-    }
-}
-
-// Why a server can't be set up so.
+/// Why a server can't be set up so: its frames are too small, or its root isn't one.
 pub fn config_refused(config: &Config) -> Option<ConfigError>
     ensures { result ≡ config_refused config.now.msize config.now.root.items }
 {
     if config.msize < MIN_MSIZE {
         return Some(ConfigError::MsizeTooSmall);
     }
-    if !is_good_root(&config.root) {
+    if !is_rooted_path(&config.root) {
         return Some(ConfigError::BadRoot);
     }
     None

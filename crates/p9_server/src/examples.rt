@@ -9,17 +9,16 @@ ghost use Rattle.fid_model.specs.Fids.{closed};
 ghost use Rattle.fid_model.specs.Fids.OpenState.{Opened};
 ghost use Rattle.fid_model.specs.Samples.{server, with_open};
 ghost use Rattle.p9_server.specs.Answering.{reply_told};
-ghost use Rattle.p9_server.specs.Configs.{config_refused, is_good_root};
+ghost use Rattle.p9_server.specs.Configs.{config_refused};
 ghost use Rattle.p9_server.specs.Steps.{attach_refused, walk_start, ino_told, readable_told};
 ghost use Rattle.p9_server.specs.declared.config.ConfigError.TheVariants.{MsizeTooSmall, BadRoot};
 
-/// Roots are absolute paths of names without fault; the message size is looked at first.
-#[tactic(auto, using(crate::proofs::Sampling::named_root))]
+/// The message size is looked at first, then the root: `/`, or names joined by single slashes.
+#[tactic(auto, using(crate::proofs::Sampling::good_root, crate::proofs::Sampling::last_slash))]
 pub fn setting_up()
-    ensures top { is_good_root (codes "/") ≡ true }
-    ensures named { is_good_root (codes "//hello/") ≡ true }
-    ensures relative { is_good_root (codes "hello") ≡ false }
-    ensures above { is_good_root (codes "/..") ≡ false }
+    ensures named { config_refused 256 (codes "/hello") ≡ None }
+    ensures double { config_refused 256 (codes "//hello") ≡ Some BadRoot }
+    ensures last { config_refused 256 (codes "/hello/") ≡ Some BadRoot }
     ensures small { config_refused 255 (codes "hello") ≡ Some MsizeTooSmall }
     ensures bad { config_refused 256 (codes "hello") ≡ Some BadRoot }
     ensures good { config_refused 256 (codes "/") ≡ None }

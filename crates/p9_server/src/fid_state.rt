@@ -3,7 +3,7 @@ ghost use Rattle.std.specs.Prelude.{◌≡◌};
 ghost use Rattle.fid_model.specs.Fids.{closed, is_readable};
 ghost use Rattle.fid_model.specs.Answers.{opened};
 
-use port_base::oflag::APPEND;
+use port_base::oflag::{O_APPEND, O_WRONLY, access_mode, has_flag};
 use std::marker::Model;
 
 /// Whether a fid is open, and how.
@@ -47,8 +47,8 @@ impl FidState {
         FidState {
             ino,
             mode: OpenMode::Opened {
-                access: flags % 4,
-                append: flags & APPEND != 0,
+                access: access_mode(flags),
+                append: has_flag(flags, O_APPEND),
             },
         }
     }
@@ -59,7 +59,7 @@ impl FidState {
     {
         match &self.mode {
             OpenMode::Closed => false,
-            OpenMode::Opened { access, .. } => *access != 1,
+            OpenMode::Opened { access, .. } => *access != O_WRONLY,
         }
     }
 

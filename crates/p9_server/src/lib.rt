@@ -2,7 +2,7 @@
 #![tactic(auto)]
 
 mod config;
-pub mod examples;
+mod examples;
 mod fid_state;
 mod naming;
 mod qids;

@@ -37,8 +37,7 @@ pub fn name_by_fid<H: Host>(
     ensures memory { OnErr result ((fids.new ≡ fids.old) × (result ≡ Err HostError.NoMemory)) }
     ensures held { AreFids (H.holds host.new) fids.new }
     ensures tree { H.tree host.new ≡ keep (is_held fids.new) (H.tree host.old) }
-    ensures faults { H.faults host.new ≡ H.faults host.old }
-    ensures steady { H.steady host.new ≡ H.steady host.old }
+    ensures calls { H.calls host.new ≡ H.calls host.old }
 {
     let before = ino_before(fids, fid);
     match fids.insert(fid as u64, FidState::closed(ino)) {
@@ -63,8 +62,7 @@ pub fn release_all<H: Host>(host: &mut H, fids: &mut Table<FidState>)
     ensures fids { fids.new ≡ map.empty }
     ensures holds { H.holds host.new ≡ map.empty }
     ensures tree { H.tree host.new ≡ keep (is_held map.empty) (H.tree host.old) }
-    ensures faults { H.faults host.new ≡ H.faults host.old }
-    ensures steady { H.steady host.new ≡ H.steady host.old }
+    ensures calls { H.calls host.new ≡ H.calls host.old }
 {
     while let Some((_, state)) = fids.pop_first() {
         host.release(state.ino());

@@ -4,6 +4,7 @@ ghost use Rattle.tree_model.specs.Attributes.{qid_type, qid_of};
 ghost use Rattle.p9_wire.specs.Qids.{qid_of as qid_plain};
 
 use p9_wire::qid::Qid;
+use tree_model::attributes::{QTDIR, QTFILE, QTSYMLINK};
 use tree_model::{Attr, Kind};
 
 // The type byte of a qid (9P2000.L, `P9_QTDIR` and others).
@@ -11,9 +12,9 @@ fn qid_type(kind: Kind) -> u8
     ensures { result ≡ qid_type kind }
 {
     match kind {
-        Kind::File => 0x00,
-        Kind::Directory => 0x80,
-        Kind::Link => 0x02,
+        Kind::File => QTFILE,
+        Kind::Directory => QTDIR,
+        Kind::Link => QTSYMLINK,
     }
 }
 

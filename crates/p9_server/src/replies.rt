@@ -2,7 +2,7 @@
 ghost use Rattle.std.specs.Prelude.{◌≡◌, ◌+◌, ◌≤◌, ◌<◌, ◌^◌, Err, length, map, IfOk, IfErr, OnOk};
 ghost use Rattle.std.specs.Io.KnownBytes.{Keeps};
 ghost use Rattle.tree_model.specs.Attributes.{blocks_of};
-ghost use Rattle.fid_model.specs.declared.sizes.TheConstants.{READ_HEAD};
+ghost use Rattle.p9_wire.specs.declared.protocol.TheConstants.{RREAD_HEADER_SIZE};
 ghost use Rattle.fid_model.specs.Answers.{attributes_of};
 ghost use Rattle.std.specs.List.{AllByRecursion};
 ghost use Rattle.p9_wire.specs.Values.{QidSpells};
@@ -18,19 +18,15 @@ use p9_rmsg::{Rattach, Rgetattr, Rlerror, Rlopen, Rmessage, Rread, Rwalk};
 use p9_wire::data::Data;
 use p9_wire::error::WireError;
 use p9_wire::frame::frame_size;
+use p9_wire::protocol::P9_GETATTR_BASIC;
 use p9_wire::qid::Qid;
 use port_base::errno::EIO;
 use port_base::sink::{Sink, SinkFault};
+use tree_model::attributes::BLOCK_SIZE;
 use tree_model::{Attr, HostError};
 
 /// The room for a reply, in bytes: none that changes anything is longer.
 pub const REPLY_ROOM: usize = 256;
-
-/// The valid fields of Rgetattr: all basic ones, mode to blocks (`P9_GETATTR_BASIC`).
-pub const GETATTR_BASIC: u64 = 0x7ff;
-
-/// The size of a block for a reader, in bytes.
-pub const BLOCK_SIZE: u64 = 4096;
 
 // Blocks of 512 bytes, rounded up.
 fn blocks_of(size: u64) -> u64
@@ -87,7 +83,7 @@ fn attributes_told(attr: Attr) -> Rmessage
     ensures short { IsShort (reply_of result) }
 {
     Rmessage::GetAttr(Rgetattr {
-        valid: GETATTR_BASIC,
+        valid: P9_GETATTR_BASIC,
         qid: qid_of(&attr),
         mode: attr.mode,
         uid: attr.uid,
@@ -95,7 +91,7 @@ fn attributes_told(attr: Attr) -> Rmessage
         nlink: attr.links,
         rdev: 0,
         size: attr.size,
-        blksize: BLOCK_SIZE,
+        blksize: BLOCK_SIZE as u64,
         blocks: blocks_of(attr.size),
         atime_sec: attr.atime.sec,
         atime_nsec: attr.atime.nsec as u64,
@@ -178,7 +174,7 @@ pub fn open_reply(step: Result<Qid, HostError>) -> Result<Rmessage, WireError>
 /// The reply to Tread, in a frame of at most `msize` bytes.
 pub fn read_reply(step: Result<Vec<u8>, HostError>, msize: u32) -> Result<Rmessage, WireError>
     requires roomy { 256 ≤ msize }
-    requires fits { IfOk step (λ bytes. length bytes.items + READ_HEAD ≤ msize) }
+    requires fits { IfOk step (λ bytes. length bytes.items + RREAD_HEADER_SIZE ≤ msize) }
     ensures reply { result_view reply_of result ≡ reply_told (λ bytes. read bytes.items) step }
     ensures fits { IfOk result (λ m. Fits msize (reply_of m)) }
 {

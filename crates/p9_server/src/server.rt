@@ -34,7 +34,7 @@ impl<H: Host> Server<H> {
     ghost use Rattle.p9_tmsg.specs.Messages.Message.{clunk, getattr};
     ghost use Rattle.p9_rmsg.specs.Replies.Reply.{clunk as clunked, getattr as got};
     ghost use Rattle.fid_model.specs.Answers.{attributes_of};
-    ghost use Rattle.p9_server.specs.Steps.{server_state, Steps, ino_told};
+    ghost use Rattle.p9_server.specs.Steps.{moment_of, Steps, ino_told};
 
     // The inode that a fid names.
     fn ino_of(&self, fid: u32) -> Result<u64, HostError>
@@ -48,8 +48,12 @@ impl<H: Host> Server<H> {
 
     // Takes a fid away, with its hold.
     fn clunk(&mut self, fid: u32) -> Result<(), HostError>
-        ensures step { Steps (clunk fid) (λ _. clunked) (server_state (H.tree self.old.host) self.old.fids self.old.msize self.old.share) (server_state (H.tree self.new.host) self.new.fids self.new.msize self.new.share) (H.steady self.old.host) (H.faults self.old.host) (H.faults self.new.host) result }
-        ensures steady { H.steady self.new.host ≡ H.steady self.old.host }
+        ensures step { Steps (clunk fid) (λ _. clunked)
+            (moment_of (H.tree self.old.host) (H.calls self.old.host)
+            self.old.fids self.old.msize self.old.share self.old.asked)
+            (moment_of (H.tree self.new.host) (H.calls self.new.host)
+            self.new.fids self.new.msize self.new.share self.new.asked) result }
+        ensures steady { (H.calls self.new.host).steady ≡ (H.calls self.old.host).steady }
         ensures fixed { (self.new.msize ≡ self.old.msize) × (self.new.share ≡ self.old.share) }
         ensures asked { self.new.asked ≡ self.old.asked }
     {
@@ -62,8 +66,12 @@ impl<H: Host> Server<H> {
 
     // What is shown of the inode that a fid names.
     fn get_attr(&mut self, fid: u32) -> Result<Attr, HostError>
-        ensures step { Steps (getattr fid 0) (λ a. got (attributes_of a)) (server_state (H.tree self.old.host) self.old.fids self.old.msize self.old.share) (server_state (H.tree self.new.host) self.new.fids self.new.msize self.new.share) (H.steady self.old.host) (H.faults self.old.host) (H.faults self.new.host) result }
-        ensures steady { H.steady self.new.host ≡ H.steady self.old.host }
+        ensures step { Steps (getattr fid 0) (λ a. got (attributes_of a))
+            (moment_of (H.tree self.old.host) (H.calls self.old.host)
+            self.old.fids self.old.msize self.old.share self.old.asked)
+            (moment_of (H.tree self.new.host) (H.calls self.new.host)
+            self.new.fids self.new.msize self.new.share self.new.asked) result }
+        ensures steady { (H.calls self.new.host).steady ≡ (H.calls self.old.host).steady }
         ensures fixed { (self.new.msize ≡ self.old.msize) × (self.new.share ≡ self.old.share) }
         ensures asked { self.new.asked ≡ self.old.asked }
     {

@@ -5,7 +5,7 @@ ghost use Rattle.tree_model.specs.Finding.{path_names};
 ghost use Rattle.tree_model.specs.Settings.{mapped, shown_of};
 ghost use Rattle.tree_model.specs.Attributes.{type_bits};
 ghost use Rattle.std.specs.FinMap as map;
-ghost use Rattle.p9_server.specs.Roots.{is_good_root};
+ghost use Rattle.port_base.specs.Paths.{is_rooted_path};
 
 use std::collections::BTreeMap;
 use std::marker::Model;
@@ -34,7 +34,7 @@ impl Model for Share {
     ghost use Rattle.std.specs.FinMap as map;
     ghost use Rattle.tree_model.specs.Finding.{path_names};
     ghost use Rattle.tree_model.specs.Settings.{Settings};
-    ghost use Rattle.p9_server.specs.Roots.{is_good_root};
+    ghost use Rattle.port_base.specs.Paths.{is_rooted_path};
 
     ghost Value = { Settings };
 
@@ -50,7 +50,7 @@ impl Model for Share {
       limit = a.fid_limit;
     } };
 
-    ghost invariant = { λ a. (is_good_root a.root.items ≡ true) × (a.fid_limit < 2 ^ 32) };
+    ghost invariant = { λ a. (is_rooted_path a.root.items ≡ true) × (a.fid_limit < 2 ^ 32) };
 }
 
 // The bits of a mode that tell its kind.
@@ -76,7 +76,7 @@ fn mapped(ids: &ServerIdMap<u32>, id: u32) -> u32
 
 impl Share {
     pub fn new(root: Vec<u8>, uid_map: ServerUidMap, gid_map: ServerGidMap, fid_limit: u32) -> Self
-        requires { is_good_root root.items ≡ true }
+        requires { is_rooted_path root.items ≡ true }
         ensures { result ≡ record { root = path_names root.items; uid_map = map.from_entries uid_map.entries; gid_map = map.from_entries gid_map.entries; casefold = false; limit = fid_limit } }
     {
         Share {

@@ -28,10 +28,212 @@ fn small_host(alloc: Global) -> Result<TreeHost, Fail>
         nsec: 5,
     };
     let Ok(host) = TreeHost::new(alloc, limits, moment, born, 0o755, 0, 0) else {
-        return Err(Fail::from("no memory"));
+        return Err(Fail::from("out of memory"));
     };
     Ok(host)
 }
+
+// Frames and their replies: fids are made, refused and let go.
+const FRAMES: [(&[u8], &[u8]); 7] = [
+    // a clunk with a byte too many
+    (
+        b"\x0c\0\0\0\x78\x05\0\x01\0\0\0\xaa",
+        b"\x0b\0\0\0\x07\x05\0\x16\0\0\0",
+    ),
+    // an attach of fid 1, and another
+    (
+        b"\x17\0\0\0\x68\0\0\x01\0\0\0\xff\xff\xff\xff\0\0\0\0\0\0\0\0",
+        b"\x14\0\0\0\x69\0\0\x80\0\x10\x5e\x5f\x01\0\0\0\0\0\0\0",
+    ),
+    (
+        b"\x17\0\0\0\x68\0\0\x01\0\0\0\xff\xff\xff\xff\0\0\0\0\0\0\0\0",
+        b"\x0b\0\0\0\x07\0\0\x09\0\0\0",
+    ),
+    // a walk to `nope`
+    (
+        b"\x17\0\0\0\x6e\x01\0\x01\0\0\0\x02\0\0\0\x01\0\x04\0nope",
+        b"\x0b\0\0\0\x07\x01\0\x02\0\0\0",
+    ),
+    // a walk of no names, to fid 2
+    (
+        b"\x11\0\0\0\x6e\x01\0\x01\0\0\0\x02\0\0\0\0\0",
+        b"\x09\0\0\0\x6f\x01\0\0\0",
+    ),
+    // a walk to two dots
+    (
+        b"\x15\0\0\0\x6e\x01\0\x01\0\0\0\x03\0\0\0\x01\0\x02\0..",
+        b"\x0b\0\0\0\x07\x01\0\x16\0\0\0",
+    ),
+    // a clunk of fid 1
+    (b"\x0b\0\0\0\x78\x02\0\x01\0\0\0", b"\x07\0\0\0\x79\x02\0"),
+];
+
+// Opens and reads of a file.
+const OPENS: [(&[u8], &[u8]); 11] = [
+    // an attach of fid 1
+    (
+        b"\x17\0\0\0\x68\0\0\x01\0\0\0\xff\xff\xff\xff\0\0\0\0\0\0\0\0",
+        b"\x14\0\0\0\x69\0\0\x80\0\x10\x5e\x5f\x01\0\0\0\0\0\0\0",
+    ),
+    // a walk to `f`, as fid 2
+    (
+        b"\x14\0\0\0\x6e\x01\0\x01\0\0\0\x02\0\0\0\x01\0\x01\0f",
+        b"\x16\0\0\0\x6f\x01\0\x01\0\0\0\x10\x5e\x5f\x02\0\0\0\0\0\0\0",
+    ),
+    // a walk on to `nope` tells one qid, and makes no fid 3
+    (
+        b"\x1a\0\0\0\x6e\x01\0\x01\0\0\0\x03\0\0\0\x02\0\x01\0f\x04\0nope",
+        b"\x16\0\0\0\x6f\x01\0\x01\0\0\0\x10\x5e\x5f\x02\0\0\0\0\0\0\0",
+    ),
+    (
+        b"\x0b\0\0\0\x78\x02\0\x03\0\0\0",
+        b"\x0b\0\0\0\x07\x02\0\x09\0\0\0",
+    ),
+    // a fid that isn't open isn't read
+    (
+        b"\x17\0\0\0\x74\x03\0\x02\0\0\0\0\0\0\0\0\0\0\0\x05\0\0\0",
+        b"\x0b\0\0\0\x07\x03\0\x09\0\0\0",
+    ),
+    // an open that empties the file, an open to read, an open of a directory to write
+    (
+        b"\x0f\0\0\0\x0c\x04\0\x02\0\0\0\0\x02\0\0",
+        b"\x0b\0\0\0\x07\x04\0\x5f\0\0\0",
+    ),
+    (
+        b"\x0f\0\0\0\x0c\x05\0\x02\0\0\0\0\0\0\0",
+        b"\x18\0\0\0\x0d\x05\0\0\0\x10\x5e\x5f\x02\0\0\0\0\0\0\0\0\0\0\0",
+    ),
+    (
+        b"\x0f\0\0\0\x0c\x06\0\x01\0\0\0\x01\0\0\0",
+        b"\x0b\0\0\0\x07\x06\0\x15\0\0\0",
+    ),
+    // three bytes from 1 on, and all that is left from 5 on
+    (
+        b"\x17\0\0\0\x74\x07\0\x02\0\0\0\x01\0\0\0\0\0\0\0\x03\0\0\0",
+        b"\x0e\0\0\0\x75\x07\0\x03\0\0\0ell",
+    ),
+    (
+        b"\x17\0\0\0\x74\x08\0\x02\0\0\0\x05\0\0\0\0\0\0\0\xff\xff\xff\xff",
+        b"\x0b\0\0\0\x75\x08\0\0\0\0\0",
+    ),
+    // a message that isn't served yet
+    (
+        b"\x0b\0\0\0\x08\x09\0\x01\0\0\0",
+        b"\x0b\0\0\0\x07\x09\0\x5f\0\0\0",
+    ),
+];
+
+// Opens and reads that are refused.
+const REFUSALS: [(&[u8], &[u8]); 15] = [
+    // an attach of fid 1, and a walk to `f` as fid 2
+    (
+        b"\x17\0\0\0\x68\0\0\x01\0\0\0\xff\xff\xff\xff\0\0\0\0\0\0\0\0",
+        b"\x14\0\0\0\x69\0\0\x80\0\x10\x5e\x5f\x01\0\0\0\0\0\0\0",
+    ),
+    (
+        b"\x14\0\0\0\x6e\x01\0\x01\0\0\0\x02\0\0\0\x01\0\x01\0\x66",
+        b"\x16\0\0\0\x6f\x01\0\x01\0\0\0\x10\x5e\x5f\x02\0\0\0\0\0\0\0",
+    ),
+    // fid 9 is unknown
+    (
+        b"\x0f\0\0\0\x0c\x02\0\x09\0\0\0\0\0\0\0",
+        b"\x0b\0\0\0\x07\x02\0\x09\0\0\0",
+    ),
+    (
+        b"\x17\0\0\0\x74\x03\0\x09\0\0\0\0\0\0\0\0\0\0\0\x05\0\0\0",
+        b"\x0b\0\0\0\x07\x03\0\x09\0\0\0",
+    ),
+    // an access of 3, a file that is to be made anew, a file as a directory
+    (
+        b"\x0f\0\0\0\x0c\x04\0\x02\0\0\0\x03\0\0\0",
+        b"\x0b\0\0\0\x07\x04\0\x16\0\0\0",
+    ),
+    (
+        b"\x0f\0\0\0\x0c\x05\0\x02\0\0\0\xc0\0\0\0",
+        b"\x0b\0\0\0\x07\x05\0\x11\0\0\0",
+    ),
+    (
+        b"\x0f\0\0\0\x0c\x06\0\x02\0\0\0\0\0\x01\0",
+        b"\x0b\0\0\0\x07\x06\0\x14\0\0\0",
+    ),
+    // after refusals it is not open
+    (
+        b"\x17\0\0\0\x74\x07\0\x02\0\0\0\0\0\0\0\0\0\0\0\x05\0\0\0",
+        b"\x0b\0\0\0\x07\x07\0\x09\0\0\0",
+    ),
+    // a directory is opened to be read, but has no bytes
+    (
+        b"\x0f\0\0\0\x0c\x08\0\x01\0\0\0\0\0\0\0",
+        b"\x18\0\0\0\x0d\x08\0\x80\0\x10\x5e\x5f\x01\0\0\0\0\0\0\0\0\0\0\0",
+    ),
+    (
+        b"\x17\0\0\0\x74\x09\0\x01\0\0\0\0\0\0\0\0\0\0\0\x05\0\0\0",
+        b"\x0b\0\0\0\x07\x09\0\x15\0\0\0",
+    ),
+    // what is open to be written is not read
+    (
+        b"\x0f\0\0\0\x0c\x0a\0\x02\0\0\0\x01\0\0\0",
+        b"\x18\0\0\0\x0d\x0a\0\0\0\x10\x5e\x5f\x02\0\0\0\0\0\0\0\0\0\0\0",
+    ),
+    (
+        b"\x17\0\0\0\x74\x0b\0\x02\0\0\0\0\0\0\0\0\0\0\0\x05\0\0\0",
+        b"\x0b\0\0\0\x07\x0b\0\x09\0\0\0",
+    ),
+    // opened once more, for both, it is; a refusal leaves it open so
+    (
+        b"\x0f\0\0\0\x0c\x0c\0\x02\0\0\0\x02\0\0\0",
+        b"\x18\0\0\0\x0d\x0c\0\0\0\x10\x5e\x5f\x02\0\0\0\0\0\0\0\0\0\0\0",
+    ),
+    (
+        b"\x0f\0\0\0\x0c\x0d\0\x02\0\0\0\x03\0\0\0",
+        b"\x0b\0\0\0\x07\x0d\0\x16\0\0\0",
+    ),
+    (
+        b"\x17\0\0\0\x74\x0e\0\x02\0\0\0\0\0\0\0\0\0\0\0\x05\0\0\0",
+        b"\x10\0\0\0\x75\x0e\0\x05\0\0\0\x68\x65\x6c\x6c\x6f",
+    ),
+];
+
+// Fid 2 is the file `f`, opened to be read.
+const BEFORE_READS: [(&[u8], &[u8]); 3] = [
+    (
+        b"\x17\0\0\0\x68\0\0\x01\0\0\0\xff\xff\xff\xff\0\0\0\0\0\0\0\0",
+        b"\x14\0\0\0\x69\0\0\x80\0\x10\x5e\x5f\x01\0\0\0\0\0\0\0",
+    ),
+    (
+        b"\x14\0\0\0\x6e\x01\0\x01\0\0\0\x02\0\0\0\x01\0\x01\0f",
+        b"\x16\0\0\0\x6f\x01\0\x01\0\0\0\x10\x5e\x5f\x02\0\0\0\0\0\0\0",
+    ),
+    (
+        b"\x0f\0\0\0\x0c\x05\0\x02\0\0\0\0\0\0\0",
+        b"\x18\0\0\0\x0d\x05\0\0\0\x10\x5e\x5f\x02\0\0\0\0\0\0\0\0\0\0\0",
+    ),
+];
+
+// What a file of 300 bytes tells in frames of 256 bytes: as many bytes as fit behind 11, and from there on the rest.
+const READS: [(&[u8], &[u8], usize); 2] = [
+    (
+        b"\x17\0\0\0\x74\x03\0\x02\0\0\0\0\0\0\0\0\0\0\0\x2c\x01\0\0",
+        b"\0\x01\0\0\x75\x03\0\xf5\0\0\0\x61",
+        256,
+    ),
+    (
+        b"\x17\0\0\0\x74\x04\0\x02\0\0\0\xf5\0\0\0\0\0\0\0\x2c\x01\0\0",
+        b"\x42\0\0\0\x75\x04\0\x37\0\0\0\x61",
+        66,
+    ),
+];
+
+// Roots and message sizes, and why they are refused.
+const CONFIGURATIONS: [(&[u8], u32, Option<ConfigError>); 7] = [
+    (b"/", 256, None),
+    (b"/a/b", 65560, None),
+    (b"", 255, Some(ConfigError::MsizeTooSmall)),
+    (b"sub", 256, Some(ConfigError::BadRoot)),
+    (b"//", 256, Some(ConfigError::BadRoot)),
+    (b"/a/", 256, Some(ConfigError::BadRoot)),
+    (b"/a//b", 256, Some(ConfigError::BadRoot)),
+];
 
 // The reply to a frame.
 fn reply_to(alloc: Global, server: &mut Server<TreeHost>, frame: &[u8]) -> Result<MemSink, Fail> {
@@ -41,59 +243,18 @@ fn reply_to(alloc: Global, server: &mut Server<TreeHost>, frame: &[u8]) -> Resul
     Ok(reply)
 }
 
-#[test]
-fn a_server_answers_frames(rt: HostRuntime) -> Result<(), Fail> {
-    let alloc = rt.alloc();
-    let host = small_host(alloc)?;
-    let Ok(config) = Config::standard(alloc) else {
-        return Err(Fail::from("no memory"));
-    };
-    let Ok(mut server) = Server::with_config(alloc, host, config) else {
-        return Err(Fail::from("no server"));
-    };
-    assert_eq!(rt; server.msize(), 65560);
-    assert_eq!(rt; server.fid_limit(), 4294967295);
-    let exchanges: [(&[u8], &[u8]); 7] = [
-        // a clunk with a byte too many
-        (
-            b"\x0c\0\0\0\x78\x05\0\x01\0\0\0\xaa",
-            b"\x0b\0\0\0\x07\x05\0\x16\0\0\0",
-        ),
-        // an attach of fid 1, and another
-        (
-            b"\x17\0\0\0\x68\0\0\x01\0\0\0\xff\xff\xff\xff\0\0\0\0\0\0\0\0",
-            b"\x14\0\0\0\x69\0\0\x80\0\x10\x5e\x5f\x01\0\0\0\0\0\0\0",
-        ),
-        (
-            b"\x17\0\0\0\x68\0\0\x01\0\0\0\xff\xff\xff\xff\0\0\0\0\0\0\0\0",
-            b"\x0b\0\0\0\x07\0\0\x09\0\0\0",
-        ),
-        // a walk to `nope`
-        (
-            b"\x17\0\0\0\x6e\x01\0\x01\0\0\0\x02\0\0\0\x01\0\x04\0nope",
-            b"\x0b\0\0\0\x07\x01\0\x02\0\0\0",
-        ),
-        // a walk of no names, to fid 2
-        (
-            b"\x11\0\0\0\x6e\x01\0\x01\0\0\0\x02\0\0\0\0\0",
-            b"\x09\0\0\0\x6f\x01\0\0\0",
-        ),
-        // a walk to two dots
-        (
-            b"\x15\0\0\0\x6e\x01\0\x01\0\0\0\x03\0\0\0\x01\0\x02\0..",
-            b"\x0b\0\0\0\x07\x01\0\x16\0\0\0",
-        ),
-        // a clunk of fid 1
-        (b"\x0b\0\0\0\x78\x02\0\x01\0\0\0", b"\x07\0\0\0\x79\x02\0"),
-    ];
-    for (frame, want) in exchanges {
-        let reply = reply_to(alloc, &mut server, frame)?;
-        assert_eq!(rt; reply.as_bytes(), want);
+// Asks frame after frame; each has to be answered by the reply beside it.
+fn check(
+    alloc: Global,
+    server: &mut Server<TreeHost>,
+    table: &[(&[u8], &[u8])],
+) -> Result<(), Fail> {
+    for (frame, want) in table {
+        let reply = reply_to(alloc, server, frame)?;
+        if reply.as_bytes() != *want {
+            return Err(Fail::from("another reply"));
+        }
     }
-    assert_eq!(rt; server.fid_count(), 1);
-    server.clear_fids();
-    assert_eq!(rt; server.fid_count(), 0);
-    let _host = server.into_host();
     Ok(())
 }
 
@@ -111,7 +272,7 @@ fn server_of_a_file(alloc: Global, bytes: &[u8], msize: u32) -> Result<Server<Tr
     };
     host.add(1, b"f", item)?;
     let Ok(mut config) = Config::standard(alloc) else {
-        return Err(Fail::from("no memory"));
+        return Err(Fail::from("out of memory"));
     };
     config.msize = msize;
     match Server::with_config(alloc, host, config) {
@@ -121,147 +282,35 @@ fn server_of_a_file(alloc: Global, bytes: &[u8], msize: u32) -> Result<Server<Tr
 }
 
 #[test]
-fn a_file_is_opened_and_read(rt: HostRuntime) -> Result<(), Fail> {
+fn a_server_answers_frames(rt: HostRuntime) -> Result<(), Fail> {
     let alloc = rt.alloc();
     let mut server = server_of_a_file(alloc, b"hello", 65560)?;
-    let exchanges: [(&[u8], &[u8]); 11] = [
-        // an attach of fid 1
-        (
-            b"\x17\0\0\0\x68\0\0\x01\0\0\0\xff\xff\xff\xff\0\0\0\0\0\0\0\0",
-            b"\x14\0\0\0\x69\0\0\x80\0\x10\x5e\x5f\x01\0\0\0\0\0\0\0",
-        ),
-        // a walk to `f`, as fid 2
-        (
-            b"\x14\0\0\0\x6e\x01\0\x01\0\0\0\x02\0\0\0\x01\0\x01\0f",
-            b"\x16\0\0\0\x6f\x01\0\x01\0\0\0\x10\x5e\x5f\x02\0\0\0\0\0\0\0",
-        ),
-        // a walk on to `nope` tells one qid, and makes no fid 3
-        (
-            b"\x1a\0\0\0\x6e\x01\0\x01\0\0\0\x03\0\0\0\x02\0\x01\0f\x04\0nope",
-            b"\x16\0\0\0\x6f\x01\0\x01\0\0\0\x10\x5e\x5f\x02\0\0\0\0\0\0\0",
-        ),
-        (
-            b"\x0b\0\0\0\x78\x02\0\x03\0\0\0",
-            b"\x0b\0\0\0\x07\x02\0\x09\0\0\0",
-        ),
-        // a fid that isn't open isn't read
-        (
-            b"\x17\0\0\0\x74\x03\0\x02\0\0\0\0\0\0\0\0\0\0\0\x05\0\0\0",
-            b"\x0b\0\0\0\x07\x03\0\x09\0\0\0",
-        ),
-        // an open that empties the file, an open to read, an open of a directory to write
-        (
-            b"\x0f\0\0\0\x0c\x04\0\x02\0\0\0\0\x02\0\0",
-            b"\x0b\0\0\0\x07\x04\0\x5f\0\0\0",
-        ),
-        (
-            b"\x0f\0\0\0\x0c\x05\0\x02\0\0\0\0\0\0\0",
-            b"\x18\0\0\0\x0d\x05\0\0\0\x10\x5e\x5f\x02\0\0\0\0\0\0\0\0\0\0\0",
-        ),
-        (
-            b"\x0f\0\0\0\x0c\x06\0\x01\0\0\0\x01\0\0\0",
-            b"\x0b\0\0\0\x07\x06\0\x15\0\0\0",
-        ),
-        // three bytes from 1 on, and all that is left from 5 on
-        (
-            b"\x17\0\0\0\x74\x07\0\x02\0\0\0\x01\0\0\0\0\0\0\0\x03\0\0\0",
-            b"\x0e\0\0\0\x75\x07\0\x03\0\0\0ell",
-        ),
-        (
-            b"\x17\0\0\0\x74\x08\0\x02\0\0\0\x05\0\0\0\0\0\0\0\xff\xff\xff\xff",
-            b"\x0b\0\0\0\x75\x08\0\0\0\0\0",
-        ),
-        // a message that isn't served yet
-        (
-            b"\x0b\0\0\0\x08\x09\0\x01\0\0\0",
-            b"\x0b\0\0\0\x07\x09\0\x5f\0\0\0",
-        ),
-    ];
-    for (frame, want) in exchanges {
-        let reply = reply_to(alloc, &mut server, frame)?;
-        assert_eq!(rt; reply.as_bytes(), want);
-    }
+    check(alloc, &mut server, &FRAMES)?;
+    assert_eq!(rt; server.fid_count(), 1);
+    server.clear_fids();
+    assert_eq!(rt; server.fid_count(), 0);
+    let _host = server.into_host();
     Ok(())
+}
+
+#[test]
+fn a_file_is_opened_and_read(rt: HostRuntime) -> Result<(), Fail> {
+    let alloc = rt.alloc();
+    check(
+        alloc,
+        &mut server_of_a_file(alloc, b"hello", 65560)?,
+        &OPENS,
+    )
 }
 
 #[test]
 fn opens_and_reads_are_refused(rt: HostRuntime) -> Result<(), Fail> {
     let alloc = rt.alloc();
-    let mut server = server_of_a_file(alloc, b"hello", 65560)?;
-    let exchanges: [(&[u8], &[u8]); 15] = [
-        // an attach of fid 1, and a walk to `f` as fid 2
-        (
-            b"\x17\0\0\0\x68\0\0\x01\0\0\0\xff\xff\xff\xff\0\0\0\0\0\0\0\0",
-            b"\x14\0\0\0\x69\0\0\x80\0\x10\x5e\x5f\x01\0\0\0\0\0\0\0",
-        ),
-        (
-            b"\x14\0\0\0\x6e\x01\0\x01\0\0\0\x02\0\0\0\x01\0\x01\0\x66",
-            b"\x16\0\0\0\x6f\x01\0\x01\0\0\0\x10\x5e\x5f\x02\0\0\0\0\0\0\0",
-        ),
-        // fid 9 is unknown
-        (
-            b"\x0f\0\0\0\x0c\x02\0\x09\0\0\0\0\0\0\0",
-            b"\x0b\0\0\0\x07\x02\0\x09\0\0\0",
-        ),
-        (
-            b"\x17\0\0\0\x74\x03\0\x09\0\0\0\0\0\0\0\0\0\0\0\x05\0\0\0",
-            b"\x0b\0\0\0\x07\x03\0\x09\0\0\0",
-        ),
-        // an access of 3, a file that is to be made anew, a file as a directory
-        (
-            b"\x0f\0\0\0\x0c\x04\0\x02\0\0\0\x03\0\0\0",
-            b"\x0b\0\0\0\x07\x04\0\x16\0\0\0",
-        ),
-        (
-            b"\x0f\0\0\0\x0c\x05\0\x02\0\0\0\xc0\0\0\0",
-            b"\x0b\0\0\0\x07\x05\0\x11\0\0\0",
-        ),
-        (
-            b"\x0f\0\0\0\x0c\x06\0\x02\0\0\0\0\0\x01\0",
-            b"\x0b\0\0\0\x07\x06\0\x14\0\0\0",
-        ),
-        // after refusals it is not open
-        (
-            b"\x17\0\0\0\x74\x07\0\x02\0\0\0\0\0\0\0\0\0\0\0\x05\0\0\0",
-            b"\x0b\0\0\0\x07\x07\0\x09\0\0\0",
-        ),
-        // a directory is opened to be read, but has no bytes
-        (
-            b"\x0f\0\0\0\x0c\x08\0\x01\0\0\0\0\0\0\0",
-            b"\x18\0\0\0\x0d\x08\0\x80\0\x10\x5e\x5f\x01\0\0\0\0\0\0\0\0\0\0\0",
-        ),
-        (
-            b"\x17\0\0\0\x74\x09\0\x01\0\0\0\0\0\0\0\0\0\0\0\x05\0\0\0",
-            b"\x0b\0\0\0\x07\x09\0\x15\0\0\0",
-        ),
-        // what is open to be written is not read
-        (
-            b"\x0f\0\0\0\x0c\x0a\0\x02\0\0\0\x01\0\0\0",
-            b"\x18\0\0\0\x0d\x0a\0\0\0\x10\x5e\x5f\x02\0\0\0\0\0\0\0\0\0\0\0",
-        ),
-        (
-            b"\x17\0\0\0\x74\x0b\0\x02\0\0\0\0\0\0\0\0\0\0\0\x05\0\0\0",
-            b"\x0b\0\0\0\x07\x0b\0\x09\0\0\0",
-        ),
-        // opened once more, for both, it is; a refusal leaves it open so
-        (
-            b"\x0f\0\0\0\x0c\x0c\0\x02\0\0\0\x02\0\0\0",
-            b"\x18\0\0\0\x0d\x0c\0\0\0\x10\x5e\x5f\x02\0\0\0\0\0\0\0\0\0\0\0",
-        ),
-        (
-            b"\x0f\0\0\0\x0c\x0d\0\x02\0\0\0\x03\0\0\0",
-            b"\x0b\0\0\0\x07\x0d\0\x16\0\0\0",
-        ),
-        (
-            b"\x17\0\0\0\x74\x0e\0\x02\0\0\0\0\0\0\0\0\0\0\0\x05\0\0\0",
-            b"\x10\0\0\0\x75\x0e\0\x05\0\0\0\x68\x65\x6c\x6c\x6f",
-        ),
-    ];
-    for (frame, want) in exchanges {
-        let reply = reply_to(alloc, &mut server, frame)?;
-        assert_eq!(rt; reply.as_bytes(), want);
-    }
-    Ok(())
+    check(
+        alloc,
+        &mut server_of_a_file(alloc, b"hello", 65560)?,
+        &REFUSALS,
+    )
 }
 
 #[test]
@@ -269,28 +318,8 @@ fn a_read_fits_a_frame(rt: HostRuntime) -> Result<(), Fail> {
     let alloc = rt.alloc();
     let bytes = vec![in alloc; b'a'; 300]?;
     let mut server = server_of_a_file(alloc, &bytes, 256)?;
-    let before: [&[u8]; 3] = [
-        b"\x17\0\0\0\x68\0\0\x01\0\0\0\xff\xff\xff\xff\0\0\0\0\0\0\0\0",
-        b"\x14\0\0\0\x6e\x01\0\x01\0\0\0\x02\0\0\0\x01\0\x01\0\x66",
-        b"\x0f\0\0\0\x0c\x02\0\x02\0\0\0\0\0\0\0",
-    ];
-    for frame in before {
-        let _reply = reply_to(alloc, &mut server, frame)?;
-    }
-    // of all bytes, as many as fit 256 behind 11; from there on the rest
-    let reads: [(&[u8], &[u8], usize); 2] = [
-        (
-            b"\x17\0\0\0\x74\x03\0\x02\0\0\0\0\0\0\0\0\0\0\0\x2c\x01\0\0",
-            b"\0\x01\0\0\x75\x03\0\xf5\0\0\0\x61",
-            256,
-        ),
-        (
-            b"\x17\0\0\0\x74\x04\0\x02\0\0\0\xf5\0\0\0\0\0\0\0\x2c\x01\0\0",
-            b"\x42\0\0\0\x75\x04\0\x37\0\0\0\x61",
-            66,
-        ),
-    ];
-    for (frame, head, length) in reads {
+    check(alloc, &mut server, &BEFORE_READS)?;
+    for (frame, head, length) in READS {
         let reply = reply_to(alloc, &mut server, frame)?;
         assert!(rt; reply.as_bytes().starts_with(head));
         assert_eq!(rt; reply.as_bytes().len(), length);
@@ -303,7 +332,7 @@ fn attributes_are_told(rt: HostRuntime) -> Result<(), Fail> {
     let alloc = rt.alloc();
     let host = small_host(alloc)?;
     let Ok(config) = Config::standard(alloc) else {
-        return Err(Fail::from("no memory"));
+        return Err(Fail::from("out of memory"));
     };
     let Ok(mut server) = Server::with_config(alloc, host, config) else {
         return Err(Fail::from("no server"));
@@ -328,18 +357,10 @@ fn attributes_are_told(rt: HostRuntime) -> Result<(), Fail> {
 #[test]
 fn a_configuration_is_refused(rt: HostRuntime) -> Result<(), Fail> {
     let alloc = rt.alloc();
-    let cases: [(&[u8], u32, Option<ConfigError>); 6] = [
-        (b"/", 256, None),
-        (b"/", 255, Some(ConfigError::MsizeTooSmall)),
-        (b"", 255, Some(ConfigError::MsizeTooSmall)),
-        (b"sub", 256, Some(ConfigError::BadRoot)),
-        (b"/a/../b", 65560, Some(ConfigError::BadRoot)),
-        (b"/a/b", 65560, None),
-    ];
-    for (root, msize, want) in cases {
+    for (root, msize, want) in CONFIGURATIONS {
         let host = small_host(alloc)?;
         let Ok(standard) = Config::standard(alloc) else {
-            return Err(Fail::from("no memory"));
+            return Err(Fail::from("out of memory"));
         };
         let Config {
             root: _root,

@@ -5,13 +5,12 @@ ghost use Rattle.tree_model.specs.Sound.{IsKept};
 ghost use Rattle.tree_model.specs.Finding.{root_of, path_names};
 ghost use Rattle.tree_model.specs.Attributes.{stat_of};
 ghost use Rattle.tree_host.specs.Holds.{hold_count, is_held, held_less};
-ghost use Rattle.tree_host.specs.Host.{Causes};
 ghost use Rattle.fid_model.specs.Answers.{step_to};
 ghost use Rattle.p9_server.specs.Holding.{IsMore, IsSame};
 ghost use Rattle.std.specs.List.{AllByRecursion};
 ghost use Rattle.p9_wire.specs.Values.{QidSpells};
 ghost use Rattle.p9_wire.specs.Qids.{qid_of as qid_plain};
-ghost use Rattle.p9_server.specs.Walking.{Finds, Walks, own_hold};
+ghost use Rattle.p9_server.specs.Walking.{Counts, Finds, Walks, own_hold};
 
 use crate::qids::qid_of;
 use p9_wire::qid::Qid;
@@ -29,8 +28,8 @@ fn told_of<H: Host>(host: &mut H, ino: u64) -> Result<Attr, HostError>
     ensures error { OnErr result (result ≡ Err HostError.Fault) }
     ensures released { OnErr result (H.holds host.new ≡ held_less (H.holds host.old) ino) }
     ensures kept { OnErr result (IsKept (H.tree host.old).records (is_held (H.holds host.new)) → H.tree host.new ≡ H.tree host.old) }
-    ensures cause { Causes (H.steady host.old) (H.faults host.old) (H.faults host.new) result }
-    ensures steady { H.steady host.new ≡ H.steady host.old }
+    ensures cause { Counts (H.calls host.old) (H.calls host.new) result }
+    ensures steady { (H.calls host.new).steady ≡ (H.calls host.old).steady }
 {
     match host.stat(ino) {
         Ok(attr) => Ok(attr),
@@ -50,8 +49,8 @@ pub fn attach_path<H: Host>(host: &mut H, path: &[u8]) -> Result<Attr, HostError
     ensures tree { H.tree host.new ≡ H.tree host.old }
     ensures held { IfOk result (λ a. IsMore (H.holds host.old) (H.holds host.new) a.ino) }
     ensures refused { OnErr result (IsSame (H.holds host.old) (H.holds host.new)) }
-    ensures cause { Causes (H.steady host.old) (H.faults host.old) (H.faults host.new) result }
-    ensures steady { H.steady host.new ≡ H.steady host.old }
+    ensures cause { Counts (H.calls host.old) (H.calls host.new) result }
+    ensures steady { (H.calls host.new).steady ≡ (H.calls host.old).steady }
 {
     match host.attach_path(path) {
         Ok(ino) => told_of(host, ino),
@@ -67,8 +66,8 @@ fn step_to<H: Host>(host: &mut H, dir: u64, name: &[u8]) -> Result<Attr, HostErr
     ensures tree { H.tree host.new ≡ H.tree host.old }
     ensures held { IfOk result (λ a. IsMore (H.holds host.old) (H.holds host.new) a.ino) }
     ensures refused { OnErr result (IsSame (H.holds host.old) (H.holds host.new)) }
-    ensures cause { Causes (H.steady host.old) (H.faults host.old) (H.faults host.new) result }
-    ensures steady { H.steady host.new ≡ H.steady host.old }
+    ensures cause { Counts (H.calls host.old) (H.calls host.new) result }
+    ensures steady { (H.calls host.new).steady ≡ (H.calls host.old).steady }
 {
     if let Some(fault) = name_fault(name) {
         return Err(HostError::Errno(fault));
@@ -84,8 +83,7 @@ fn let_go<H: Host>(host: &mut H, walked: usize, at: u64)
     requires { 0 < hold_count (H.holds host.old) at }
     ensures released { (i : ℕ) → hold_count (H.holds host.new) i + own_hold walked at i ≡ hold_count (H.holds host.old) i }
     ensures kept { IsKept (H.tree host.old).records (is_held (H.holds host.new)) → H.tree host.new ≡ H.tree host.old }
-    ensures faults { H.faults host.new ≡ H.faults host.old }
-    ensures steady { H.steady host.new ≡ H.steady host.old }
+    ensures calls { H.calls host.new ≡ H.calls host.old }
 {
     if walked != 0 {
         host.release(at);
@@ -124,8 +122,8 @@ fn walk<H: Host>(
     ensures tree { H.tree host.new ≡ H.tree host.old }
     ensures held { IfOk result (λ at. (i : ℕ) → hold_count (H.holds host.new) i ≡ hold_count (H.holds host.old) i + own_hold (length names.now) at i) }
     ensures refused { OnErr result (IsSame (H.holds host.old) (H.holds host.new)) }
-    ensures cause { Causes (H.steady host.old) (H.faults host.old) (H.faults host.new) result }
-    ensures steady { H.steady host.new ≡ H.steady host.old }
+    ensures cause { Counts (H.calls host.old) (H.calls host.new) result }
+    ensures steady { (H.calls host.new).steady ≡ (H.calls host.old).steady }
 {
     let mut at = start;
     for (walked, name) in names.iter().enumerate() {
@@ -162,8 +160,8 @@ pub fn reach<H: Host>(
     ensures tree { H.tree host.new ≡ H.tree host.old }
     ensures held { IfOk result (λ at. IsMore (H.holds host.old) (H.holds host.new) at) }
     ensures refused { OnErr result (IsSame (H.holds host.old) (H.holds host.new)) }
-    ensures cause { Causes (H.steady host.old) (H.faults host.old) (H.faults host.new) result }
-    ensures steady { H.steady host.new ≡ H.steady host.old }
+    ensures cause { Counts (H.calls host.old) (H.calls host.new) result }
+    ensures steady { (H.calls host.new).steady ≡ (H.calls host.old).steady }
 {
     if !names.is_empty() {
         return walk(host, start, names, qids);

@@ -2,7 +2,7 @@
 ghost use Rattle.std.specs.Prelude.{◌≡◌, Ok};
 ghost use Rattle.p9_wire.specs.Frames.{result_view};
 ghost use Rattle.p9_tmsg.specs.Messages.{message_of};
-ghost use Rattle.p9_server.specs.Steps.{server_state};
+ghost use Rattle.p9_server.specs.Steps.{moment_of};
 ghost use Rattle.p9_server.specs.Answering.{Answered};
 
 use super::Server;
@@ -16,10 +16,14 @@ use port_base::errno::{EINVAL, EOPNOTSUPP};
 use tree_host::Host;
 
 impl<H: Host> Server<H> {
-    // Answers a message; one that isn't served yet is EOPNOTSUPP.
+    // Answers a message; each that isn't served yet is EOPNOTSUPP.
     fn answer_message(&mut self, message: Tmessage) -> Result<Rmessage, WireError>
-        ensures answered { Answered (Ok (message_of message)) (server_state (H.tree self.old.host) self.old.fids self.old.msize self.old.share) (server_state (H.tree self.new.host) self.new.fids self.new.msize self.new.share) (H.steady self.old.host) (H.faults self.old.host) (H.faults self.new.host) result }
-        ensures steady { H.steady self.new.host ≡ H.steady self.old.host }
+        ensures answered { Answered (Ok (message_of message))
+            (moment_of (H.tree self.old.host) (H.calls self.old.host)
+            self.old.fids self.old.msize self.old.share self.old.asked)
+            (moment_of (H.tree self.new.host) (H.calls self.new.host)
+            self.new.fids self.new.msize self.new.share self.new.asked) result }
+        ensures steady { (H.calls self.new.host).steady ≡ (H.calls self.old.host).steady }
         ensures asked { self.new.asked ≡ self.old.asked }
     {
         match message {
@@ -29,7 +33,28 @@ impl<H: Host> Server<H> {
             Tmessage::Clunk(m) => clunk_reply(self.clunk(m.fid)),
             Tmessage::Lopen(m) => open_reply(self.open(m.fid, m.flags)),
             Tmessage::Read(m) => read_reply(self.read(m.fid, m.offset, m.count), self.msize),
-            _ => Ok(refused(EOPNOTSUPP)),
+            Tmessage::Statfs(_) => Ok(refused(EOPNOTSUPP)),
+            Tmessage::Lcreate(_) => Ok(refused(EOPNOTSUPP)),
+            Tmessage::Symlink(_) => Ok(refused(EOPNOTSUPP)),
+            Tmessage::Mknod(_) => Ok(refused(EOPNOTSUPP)),
+            Tmessage::Rename(_) => Ok(refused(EOPNOTSUPP)),
+            Tmessage::Readlink(_) => Ok(refused(EOPNOTSUPP)),
+            Tmessage::SetAttr(_) => Ok(refused(EOPNOTSUPP)),
+            Tmessage::XattrWalk(_) => Ok(refused(EOPNOTSUPP)),
+            Tmessage::XattrCreate(_) => Ok(refused(EOPNOTSUPP)),
+            Tmessage::Readdir(_) => Ok(refused(EOPNOTSUPP)),
+            Tmessage::Fsync(_) => Ok(refused(EOPNOTSUPP)),
+            Tmessage::Lock(_) => Ok(refused(EOPNOTSUPP)),
+            Tmessage::GetLock(_) => Ok(refused(EOPNOTSUPP)),
+            Tmessage::Link(_) => Ok(refused(EOPNOTSUPP)),
+            Tmessage::Mkdir(_) => Ok(refused(EOPNOTSUPP)),
+            Tmessage::RenameAt(_) => Ok(refused(EOPNOTSUPP)),
+            Tmessage::UnlinkAt(_) => Ok(refused(EOPNOTSUPP)),
+            Tmessage::Version(_) => Ok(refused(EOPNOTSUPP)),
+            Tmessage::Auth(_) => Ok(refused(EOPNOTSUPP)),
+            Tmessage::Flush(_) => Ok(refused(EOPNOTSUPP)),
+            Tmessage::Write(_) => Ok(refused(EOPNOTSUPP)),
+            Tmessage::Remove(_) => Ok(refused(EOPNOTSUPP)),
         }
     }
 
@@ -38,8 +63,12 @@ impl<H: Host> Server<H> {
         &mut self,
         body: Result<Tmessage, WireError>,
     ) -> Result<Rmessage, WireError>
-        ensures answered { Answered (result_view message_of body) (server_state (H.tree self.old.host) self.old.fids self.old.msize self.old.share) (server_state (H.tree self.new.host) self.new.fids self.new.msize self.new.share) (H.steady self.old.host) (H.faults self.old.host) (H.faults self.new.host) result }
-        ensures steady { H.steady self.new.host ≡ H.steady self.old.host }
+        ensures answered { Answered (result_view message_of body)
+            (moment_of (H.tree self.old.host) (H.calls self.old.host)
+            self.old.fids self.old.msize self.old.share self.old.asked)
+            (moment_of (H.tree self.new.host) (H.calls self.new.host)
+            self.new.fids self.new.msize self.new.share self.new.asked) result }
+        ensures steady { (H.calls self.new.host).steady ≡ (H.calls self.old.host).steady }
         ensures asked { self.new.asked ≡ self.old.asked }
     {
         match body {

@@ -4,7 +4,7 @@ ghost use Rattle.std.specs.FinMap as map;
 ghost use Rattle.p9_wire.specs.Qids.{qid_of};
 ghost use Rattle.p9_tmsg.specs.Messages.Message.{attach};
 ghost use Rattle.p9_rmsg.specs.Replies.Reply.{attach as attached};
-ghost use Rattle.p9_server.specs.Steps.{server_state, Steps, attach_refused};
+ghost use Rattle.p9_server.specs.Steps.{moment_of, Steps, attach_refused};
 
 use super::Server;
 use crate::naming::name_by_fid;
@@ -31,8 +31,12 @@ impl<H: Host> Server<H> {
 
     // Names the root of the share by a new fid.
     pub(super) fn attach(&mut self, fid: u32) -> Result<Qid, HostError>
-        ensures step { Steps (attach fid 0 [] [] 0) (λ q. attached (qid_of q)) (server_state (H.tree self.old.host) self.old.fids self.old.msize self.old.share) (server_state (H.tree self.new.host) self.new.fids self.new.msize self.new.share) (H.steady self.old.host) (H.faults self.old.host) (H.faults self.new.host) result }
-        ensures steady { H.steady self.new.host ≡ H.steady self.old.host }
+        ensures step { Steps (attach fid 0 [] [] 0) (λ q. attached (qid_of q))
+            (moment_of (H.tree self.old.host) (H.calls self.old.host)
+            self.old.fids self.old.msize self.old.share self.old.asked)
+            (moment_of (H.tree self.new.host) (H.calls self.new.host)
+            self.new.fids self.new.msize self.new.share self.new.asked) result }
+        ensures steady { (H.calls self.new.host).steady ≡ (H.calls self.old.host).steady }
         ensures fixed { (self.new.msize ≡ self.old.msize) × (self.new.share ≡ self.old.share) }
         ensures asked { self.new.asked ≡ self.old.asked }
     {

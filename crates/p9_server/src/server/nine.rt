@@ -30,13 +30,12 @@ fn read_frame<S: Source>(alloc: Global, reader: &mut S, limit: u32) -> Result<Tf
 impl<H: Host> Nine for Server<H> {
     ghost use Rattle.p9_server.specs.GoodServer.{server_good};
 
-    ghost state = { λ s. server_state (H.tree s.host) s.fids s.msize s.share };
-
-    ghost faults = { λ s. H.faults s.host };
-
-    ghost steady = { λ s. H.steady s.host };
-
-    ghost asked = { λ s. s.asked };
+    ghost at = { λ s. record {
+      state = server_state (H.tree s.host) s.fids s.msize s.share;
+      faults = (H.calls s.host).faults;
+      steady = (H.calls s.host).steady;
+      asked = s.asked;
+    } };
 
     fn handle_message<S: Source, K: Sink>(
         &mut self,

@@ -4,19 +4,18 @@ ghost use Rattle.std.specs.FinMap as map;
 ghost use Rattle.p9_wire.specs.Qids.{qid_of};
 ghost use Rattle.p9_tmsg.specs.Messages.Message.{lopen, read};
 ghost use Rattle.p9_rmsg.specs.Replies.Reply.{lopen as opened, read as was_read};
-ghost use Rattle.tree_model.specs.Opening.{has_flag};
 ghost use Rattle.tree_host.specs.Holds.{hold_count};
-ghost use Rattle.tree_host.specs.Host.{Causes};
-ghost use Rattle.p9_server.specs.Steps.{server_state, Steps, readable_told};
+ghost use Rattle.p9_server.specs.Walking.{Counts};
+ghost use Rattle.p9_server.specs.Steps.{moment_of, server_state, Steps, readable_told};
 ghost use Rattle.p9_server.specs.Opening.{Opens};
 
 use super::Server;
 use crate::fid_state::FidState;
 use crate::qids::qid_of;
-use fid_model::sizes::READ_HEAD;
+use p9_wire::protocol::RREAD_HEADER_SIZE;
 use p9_wire::qid::Qid;
 use port_base::errno::{EBADF, EOPNOTSUPP};
-use port_base::oflag::TRUNC;
+use port_base::oflag::{O_TRUNC, has_flag};
 use tree_host::Host;
 use tree_model::{Attr, HostError};
 
@@ -40,12 +39,16 @@ impl<H: Host> Server<H> {
     // Opens a fid by the flags of `open(2)`, also where it is open already. That a file is emptied isn't served
     // yet.
     pub(super) fn open(&mut self, fid: u32, flags: u32) -> Result<Qid, HostError>
-        ensures step { Steps (lopen fid flags) (λ q. opened (qid_of q) 0) (server_state (H.tree self.old.host) self.old.fids self.old.msize self.old.share) (server_state (H.tree self.new.host) self.new.fids self.new.msize self.new.share) (H.steady self.old.host) (H.faults self.old.host) (H.faults self.new.host) result }
-        ensures steady { H.steady self.new.host ≡ H.steady self.old.host }
+        ensures step { Steps (lopen fid flags) (λ q. opened (qid_of q) 0)
+            (moment_of (H.tree self.old.host) (H.calls self.old.host)
+            self.old.fids self.old.msize self.old.share self.old.asked)
+            (moment_of (H.tree self.new.host) (H.calls self.new.host)
+            self.new.fids self.new.msize self.new.share self.new.asked) result }
+        ensures steady { (H.calls self.new.host).steady ≡ (H.calls self.old.host).steady }
         ensures fixed { (self.new.msize ≡ self.old.msize) × (self.new.share ≡ self.old.share) }
         ensures asked { self.new.asked ≡ self.old.asked }
     {
-        if empties(flags) {
+        if has_flag(flags, O_TRUNC) {
             return Err(HostError::Errno(EOPNOTSUPP));
         }
         let ino = match self.ino_of(fid) {
@@ -64,17 +67,23 @@ impl<H: Host> Server<H> {
 
     // Reads the bytes of a fid that is open to be read, as many as there are, are asked for, and fit a reply.
     pub(super) fn read(&mut self, fid: u32, offset: u64, count: u32) -> Result<Vec<u8>, HostError>
-        ensures step { Steps (read fid offset count) (λ v. was_read v.items) (server_state (H.tree self.old.host) self.old.fids self.old.msize self.old.share) (server_state (H.tree self.new.host) self.new.fids self.new.msize self.new.share) (H.steady self.old.host) (H.faults self.old.host) (H.faults self.new.host) result }
-        ensures fits { IfOk result (λ v. length v.items + READ_HEAD ≤ self.old.msize) }
-        ensures same { server_state (H.tree self.new.host) self.new.fids self.new.msize self.new.share ≡ server_state (H.tree self.old.host) self.old.fids self.old.msize self.old.share }
-        ensures steady { H.steady self.new.host ≡ H.steady self.old.host }
+        ensures step { Steps (read fid offset count) (λ v. was_read v.items)
+            (moment_of (H.tree self.old.host) (H.calls self.old.host)
+            self.old.fids self.old.msize self.old.share self.old.asked)
+            (moment_of (H.tree self.new.host) (H.calls self.new.host)
+            self.new.fids self.new.msize self.new.share self.new.asked) result }
+        ensures fits { IfOk result (λ v. length v.items + RREAD_HEADER_SIZE ≤ self.old.msize) }
+        ensures same { server_state (H.tree self.new.host)
+            self.new.fids self.new.msize self.new.share ≡ server_state (H.tree self.old.host)
+            self.old.fids self.old.msize self.old.share }
+        ensures steady { (H.calls self.new.host).steady ≡ (H.calls self.old.host).steady }
         ensures asked { self.new.asked ≡ self.old.asked }
     {
         let ino = match self.readable_ino(fid) {
             Ok(ino) => ino,
             Err(e) => return Err(e),
         };
-        let most = count.min(self.msize - READ_HEAD) as usize;
+        let most = count.min(self.msize - RREAD_HEADER_SIZE) as usize;
         let mut bytes = match vec![in self.alloc; 0u8; most] {
             Ok(bytes) => bytes,
             Err(_) => return Err(HostError::NoMemory),
@@ -89,21 +98,14 @@ impl<H: Host> Server<H> {
     }
 }
 
-// Whether a file is to be emptied.
-fn empties(flags: u32) -> bool
-    ensures { result ≡ has_flag TRUNC flags }
-{
-    flags & TRUNC != 0
-}
-
 // What is told of an inode that may be opened so.
 fn open_inode<H: Host>(host: &mut H, ino: u64, flags: u32) -> Result<Attr, HostError>
     requires { 0 < hold_count (H.holds host.old) ino }
     ensures answer { Opens (H.tree host.old) ino flags result }
     ensures tree { H.tree host.new ≡ H.tree host.old }
     ensures holds { H.holds host.new ≡ H.holds host.old }
-    ensures cause { Causes (H.steady host.old) (H.faults host.old) (H.faults host.new) result }
-    ensures steady { H.steady host.new ≡ H.steady host.old }
+    ensures cause { Counts (H.calls host.old) (H.calls host.new) result }
+    ensures steady { (H.calls host.new).steady ≡ (H.calls host.old).steady }
 {
     match host.open_check(ino, flags) {
         Ok(()) => host.stat(ino),

@@ -45,12 +45,11 @@ impl<H: Host> Server<H> {
         })
     }
 
-    /// The host, with all holds released.
+    /// The host, with all holds released: of its tree the linked records are left, and its calls fail as they did.
     pub fn into_host(self) -> H
         ensures tree { H.tree result ≡ linked (H.tree self.host) }
         ensures holds { H.holds result ≡ map.empty }
-        ensures faults { H.faults result ≡ H.faults self.host }
-        ensures steady { H.steady result ≡ H.steady self.host }
+        ensures calls { H.calls result ≡ H.calls self.host }
     {
         let Server {
             alloc: _,

@@ -5,19 +5,17 @@ ghost use Rattle.p9_wire.specs.Values.{QidSpells};
 ghost use Rattle.p9_wire.specs.Qids.{qid_of};
 ghost use Rattle.p9_tmsg.specs.Messages.Message.{walk};
 ghost use Rattle.p9_rmsg.specs.Replies.Reply.{walk as walked};
-ghost use Rattle.p9_server.specs.Steps.{server_state, Steps, walk_start};
+ghost use Rattle.p9_server.specs.Steps.{moment_of, Steps, walk_start};
 
 use super::Server;
 use crate::naming::name_by_fid;
 use crate::walking::reach;
+use p9_wire::protocol::P9_MAXWELEM;
 use p9_wire::qid::Qid;
 use p9_wire::text::P9String;
 use port_base::errno::{EBADF, EINVAL, ENFILE};
 use tree_host::Host;
 use tree_model::HostError;
-
-/// The most names of a walk (9P2000.L, `P9_MAXWELEM`).
-pub const WALK_LIMIT: usize = 16;
 
 // What a walk tells that didn't come to its end: the qids so far, or why it has none.
 fn told_so_far(qids: Vec<Qid>, e: HostError) -> Result<Vec<Qid>, HostError>
@@ -46,7 +44,7 @@ impl<H: Host> Server<H> {
         if is_other && self.fids.len() >= self.share.fid_limit() as usize {
             return Err(ENFILE);
         }
-        if count > WALK_LIMIT {
+        if count > P9_MAXWELEM {
             return Err(EINVAL);
         }
         Ok(state.ino())
@@ -59,10 +57,14 @@ impl<H: Host> Server<H> {
         newfid: u32,
         names: &[P9String],
     ) -> Result<Vec<Qid>, HostError>
-        ensures step { Steps (walk fid newfid names.now) (λ qids. walked (map qid_of qids.items)) (server_state (H.tree self.old.host) self.old.fids self.old.msize self.old.share) (server_state (H.tree self.new.host) self.new.fids self.new.msize self.new.share) (H.steady self.old.host) (H.faults self.old.host) (H.faults self.new.host) result }
+        ensures step { Steps (walk fid newfid names.now) (λ qids. walked (map qid_of qids.items))
+            (moment_of (H.tree self.old.host) (H.calls self.old.host)
+            self.old.fids self.old.msize self.old.share self.old.asked)
+            (moment_of (H.tree self.new.host) (H.calls self.new.host)
+            self.new.fids self.new.msize self.new.share self.new.asked) result }
         ensures few { IfOk result (λ qids. length qids.items ≤ 16) }
         ensures spells { IfOk result (λ qids. AllByRecursion QidSpells (map qid_of qids.items)) }
-        ensures steady { H.steady self.new.host ≡ H.steady self.old.host }
+        ensures steady { (H.calls self.new.host).steady ≡ (H.calls self.old.host).steady }
         ensures fixed { (self.new.msize ≡ self.old.msize) × (self.new.share ≡ self.old.share) }
         ensures asked { self.new.asked ≡ self.old.asked }
     {

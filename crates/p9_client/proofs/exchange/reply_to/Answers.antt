@@ -1,16 +1,25 @@
--- What a server answers to a frame that spells a message, and that the greatest size of a frame stays.
-use Rattle.std.proofs.Common.{◌∙◌}
-use Rattle.p9_client.proofs.Replies.{replied}
-use Rattle.p9_client.proofs.Sizes.{handled_sized}
+-- What a server answers to a frame that spells a message, and what it keeps.
+use Rattle.std.proofs.Common.{◌∙◌, Ok, Err}
+use Rattle.p9_client.proofs.Replies.{replied, left_by, kept_by}
 use Rattle.p9_client.proofs.exchange.reply_to.Goals as goal
 
 pub returns-in-Ok-clause-reply : goal.returns-in-Ok-clause-reply
-returns-in-Ok-clause-reply g c m is ask =
-    let h = c.in-Ok.ensures.handled.answer.2 in
-    replied _ _ (g.met.N.Nine.good c.args.nine.now) _ _ m _ c.handle_message.new.reader.rest.now c.new-writer.result.bytes.items _ (c.new-reader.ensures ∙ is) ask c.new-writer.ensures h.0 h.1 h.2
+returns-in-Ok-clause-reply g c m request =
+    let h = c.in-Ok.ensures.handled.answer.1 in
+    replied (g.N.Nine.at c.args.nine.now) (g.N.Nine.at c.handle_message.new.self) (g.met.N.Nine.good c.args.nine.now) m c.new-reader.result.rest.now c.handle_message.new.reader.rest.now
+    (record { spelled = c.new-reader.ensures ∙ request.spelled; askable = request.askable }) c.new-writer.result.bytes.items c.handle_message.new.writer.bytes.items h.0 c.new-writer.ensures h.1 h.2
 
-pub returns-in-Ok-clause-sized : goal.returns-in-Ok-clause-sized
-returns-in-Ok-clause-sized g c = handled_sized _ _ _ _ _ _ _ _ _ _ _ _ _ c.in-Ok.ensures.handled
+pub returns-in-Err-clause-left : goal.returns-in-Err-clause-left
+returns-in-Err-clause-left g c m request =
+    left_by (g.N.Nine.at c.args.nine.now) (g.N.Nine.at c.handle_message.new.self) (g.met.N.Nine.good c.args.nine.now) m c.new-reader.result.rest.now c.handle_message.new.reader.rest.now
+    (record { spelled = c.new-reader.ensures ∙ request.spelled; askable = request.askable }) _ _ c.in-Err.field-0 c.in-Err.ensures.handled
 
-pub returns-in-Err-clause-sized : goal.returns-in-Err-clause-sized
-returns-in-Err-clause-sized g c = handled_sized _ _ _ _ _ _ _ _ _ _ _ _ _ c.in-Err.ensures.handled
+pub returns-in-Ok-clause-kept : goal.returns-in-Ok-clause-kept
+returns-in-Ok-clause-kept g c m request =
+    kept_by (g.N.Nine.at c.args.nine.now) (g.N.Nine.at c.handle_message.new.self) (g.met.N.Nine.good c.args.nine.now) m c.new-reader.result.rest.now c.handle_message.new.reader.rest.now
+    (record { spelled = c.new-reader.ensures ∙ request.spelled; askable = request.askable }) _ _ (Ok c.in-Ok.field-0) c.in-Ok.ensures.handled c.in-Ok.ensures.stays
+
+pub returns-in-Err-clause-kept : goal.returns-in-Err-clause-kept
+returns-in-Err-clause-kept g c m request =
+    kept_by (g.N.Nine.at c.args.nine.now) (g.N.Nine.at c.handle_message.new.self) (g.met.N.Nine.good c.args.nine.now) m c.new-reader.result.rest.now c.handle_message.new.reader.rest.now
+    (record { spelled = c.new-reader.ensures ∙ request.spelled; askable = request.askable }) _ _ (Err c.in-Err.field-0) c.in-Err.ensures.handled c.in-Err.ensures.stays

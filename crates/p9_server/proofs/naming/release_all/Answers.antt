@@ -9,7 +9,7 @@ use Rattle.p9_server.proofs.naming.release_all.Goals as goal
 pub loop-state-init : goal.loop-state-init
 loop-state-init g c =
     let h = c.args.host.now in
-    record { left = releasing_none (g.H.Host.tree h) (g.H.Host.holds h) c.args.fids.now c.requires (g.met.H.Host.stored h).kept; faults = refl; steady = refl }
+    record { left = releasing_none (g.H.Host.tree h) (g.H.Host.holds h) c.args.fids.now c.requires (g.met.H.Host.stored h).kept; calls = refl }
 
 pub release-requires : goal.release-requires
 release-requires g c =
@@ -29,8 +29,7 @@ loop-state-preserved g c =
     record {
       left = releasing_more (g.H.Host.tree c.args.host.now) (g.H.Host.tree l.host) (g.H.Host.holds l.host) l.fids l.invariant.left c.in-Some.field-0-0 c.in-Some.state c.in-Some.ensures.value
           (g.H.Host.holds c.release.new.self) (e.holds ∙ ap (held_less (g.H.Host.holds l.host)) c.ino.ensures) c.pop_first.new.self c.in-Some.ensures.removed (g.H.Host.tree c.release.new.self) (g.met.H.Host.good c.args.host.now) e.tree;
-      faults = e.faults ∙ l.invariant.faults;
-      steady = e.steady ∙ l.invariant.steady;
+      calls = e.calls ∙ l.invariant.calls;
     }
 
 pub returns-clause-holds : goal.returns-clause-holds

@@ -7,8 +7,7 @@ use Rattle.p9_server.proofs.naming.release_all.Given as goal
 abbrev pub invariant-loop-state : goal.invariant-loop-state
 invariant-loop-state g l = record {
   left : Releasing (g.H.Host.tree l.initial.host) (g.H.Host.tree l.host) (g.H.Host.holds l.host) l.fids;
-  faults : g.H.Host.faults l.host ≡ g.H.Host.faults l.initial.host;
-  steady : g.H.Host.steady l.host ≡ g.H.Host.steady l.initial.host;
+  calls : g.H.Host.calls l.host ≡ g.H.Host.calls l.initial.host;
 }
 
 abbrev pub decreases-loop-state : goal.decreases-loop-state

@@ -1,4 +1,5 @@
 -- Each name takes the walk a step on, or ends it with all holds let go.
+use Rattle.tree_host.specs.Calls.{Calls}
 use Rattle.std.proofs.Common.{◌≡◌, ◌∙◌, ℕ, List, [], ◌∷◌, ◌++◌, map, ap, sym, subst, arith, get_or}
 use Rattle.tree_model.specs.Attributes.{Qid}
 use Rattle.p9_wire.specs.Qids.{qid_of as qid_plain}
@@ -25,9 +26,9 @@ returns-in-Err g c =
       tree = d.kept (stopped_kept w c.as_bytes.result.now here is h1 h2 e.refused d.released (g.H.Host.tree c.step_to.new.host) kept e.tree) ∙ e.tree ∙ w.tree;
       held = tt;
       refused = stopped_holds w c.as_bytes.result.now here is h1 h2 e.refused d.released;
-      cause = failed_cause (g.H.Host.steady c.args.host.now) (g.H.Host.steady l.host) (g.H.Host.faults c.args.host.now) (g.H.Host.faults l.host) (g.H.Host.faults c.step_to.new.host) (g.H.Host.faults c.let_go-in-Err.new.host)
-          c.in-Err.e l.invariant.steady l.invariant.faults d.faults e.cause;
-      steady = d.steady ∙ e.steady ∙ l.invariant.steady;
+      cause = failed_cause (g.H.Host.calls c.args.host.now).steady (g.H.Host.calls l.host).steady (g.H.Host.calls c.args.host.now).faults (g.H.Host.calls l.host).faults (g.H.Host.calls c.step_to.new.host).faults (g.H.Host.calls c.let_go-in-Err.new.host).faults
+          c.in-Err.e l.invariant.steady l.invariant.faults (ap (λ (k : Calls). k.faults) d.calls) e.cause;
+      steady = ap (λ (k : Calls). k.steady) d.calls ∙ e.steady ∙ l.invariant.steady;
     }
 
 pub loop-walked-preserved : goal.loop-walked-preserved
@@ -49,6 +50,6 @@ loop-walked-preserved g c =
           (d.kept (walked_kept w c.as_bytes.result.now here is c.in-Ok.attr t1 t2 h1 h2 e.answer e.held d.released kept e.tree) ∙ e.tree ∙ w.tree);
       spells = c.push_qid.ensures.spells;
       room = let more = c.push_qid.ensures.capacity in let had = l.invariant.room in omega arith;
-      faults = d.faults ∙ e.cause.counted ∙ l.invariant.faults;
-      steady = d.steady ∙ e.steady ∙ l.invariant.steady;
+      faults = ap (λ (k : Calls). k.faults) d.calls ∙ e.cause.counted ∙ l.invariant.faults;
+      steady = ap (λ (k : Calls). k.steady) d.calls ∙ e.steady ∙ l.invariant.steady;
     }

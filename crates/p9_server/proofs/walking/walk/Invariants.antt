@@ -11,6 +11,6 @@ invariant-loop-walked g l = record {
   walking : Walking (g.H.Host.tree l.initial.host) (g.H.Host.tree l.host) (g.H.Host.holds l.initial.host) (g.H.Host.holds l.host) l.names l.fn.start l.at l.walked l.qids.items;
   spells : AllByRecursion QidSpells (map qid_of l.qids.items);
   room : length l.names ≤ vec_capacity l.qids;
-  faults : g.H.Host.faults l.host ≡ g.H.Host.faults l.initial.host;
-  steady : g.H.Host.steady l.host ≡ g.H.Host.steady l.initial.host;
+  faults : (g.H.Host.calls l.host).faults ≡ (g.H.Host.calls l.initial.host).faults;
+  steady : (g.H.Host.calls l.host).steady ≡ (g.H.Host.calls l.initial.host).steady;
 }

@@ -1,4 +1,5 @@
 -- The root of the share has a new fid, or all is as it was.
+use Rattle.tree_host.specs.Calls.{Calls}
 use Rattle.std.proofs.Common.{◌∙◌, ap, sym, subst, Ok, Err, List, ℕ}
 use Rattle.tree_model.specs.Tree.{Tree, keep}
 use Rattle.tree_model.specs.Sound.{IsKept}
@@ -15,7 +16,7 @@ returns-in-Some-clause-step g c =
     let s = c.args.self.now in
     let tree = g.H.Host.tree s.host in
     let kept = kept_named (g.H.Host.holds s.host) s.fids s.sound.held tree (g.met.H.Host.stored s.host).kept in
-    attach_unknown tree s.fids s.msize s.share c.args.fid kept (g.H.Host.steady s.host) c.in-Some.e (g.H.Host.faults s.host) c.in-Some.ensures
+    attach_unknown tree s.fids s.msize s.share c.args.fid kept (g.H.Host.calls s.host).steady c.in-Some.e (g.H.Host.calls s.host).faults c.in-Some.ensures
 
 pub attach_path-requires-clause-room : goal.attach_path-requires-clause-room
 attach_path-requires-clause-room g c = let s = c.args.self.now in sound_roomy (g.H.Host.holds s.host) s.fids s.msize s.share s.sound
@@ -27,7 +28,7 @@ returns-in-Err-clause-step g c =
     let kept = kept_named (g.H.Host.holds s.host) s.fids s.sound.held tree (g.met.H.Host.stored s.host).kept in
     let allowed = sym c.in_default.is ∙ c.attach_refused.ensures in
     let e = c.in-Err.ensures in
-    attach_failed tree s.fids s.msize s.share c.args.fid kept (g.H.Host.steady s.host) allowed (g.H.Host.tree c.attach_path.new.host) (g.H.Host.faults s.host) (g.H.Host.faults c.attach_path.new.host) e.tree c.in-Err.e
+    attach_failed tree s.fids s.msize s.share c.args.fid kept (g.H.Host.calls s.host).steady allowed (g.H.Host.tree c.attach_path.new.host) (g.H.Host.calls s.host).faults (g.H.Host.calls c.attach_path.new.host).faults e.tree c.in-Err.e
     (subst (λ (names : List (List ℕ)). Finds tree (root_of tree names) (Err c.in-Err.e)) c.root.ensures.root e.answer) e.cause
 
 pub name_by_fid-requires-clause-kept : goal.name_by_fid-requires-clause-kept
@@ -54,6 +55,6 @@ returns-in-Err-name_by_fid-clause-step g c =
     let allowed = sym c.in_default.is ∙ c.attach_refused.ensures in
     let a = c.in-Ok.ensures in
     let e = c.in-Err-name_by_fid.ensures in
-    attach_no_memory tree s.fids s.msize s.share c.args.fid kept (g.H.Host.steady s.host) allowed (g.H.Host.tree c.name_by_fid.new.host) (g.H.Host.faults s.host) (g.H.Host.faults c.name_by_fid.new.host)
+    attach_no_memory tree s.fids s.msize s.share c.args.fid kept (g.H.Host.calls s.host).steady allowed (g.H.Host.tree c.name_by_fid.new.host) (g.H.Host.calls s.host).faults (g.H.Host.calls c.name_by_fid.new.host).faults
     c.in-Ok.attr (subst (λ (names : List (List ℕ)). Finds tree (root_of tree names) (Ok c.in-Ok.attr)) c.root.ensures.root a.answer) c.name_by_fid.new.fids
-    (e.tree ∙ ap (keep (is_held c.name_by_fid.new.fids)) a.tree) (e.faults ∙ a.cause.counted) c.in-Err-name_by_fid.e e.memory.0 e.memory.1
+    (e.tree ∙ ap (keep (is_held c.name_by_fid.new.fids)) a.tree) (ap (λ (k : Calls). k.faults) e.calls ∙ a.cause.counted) c.in-Err-name_by_fid.e e.memory.0 e.memory.1

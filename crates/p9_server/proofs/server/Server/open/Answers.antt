@@ -7,19 +7,19 @@ use Rattle.p9_server.proofs.Showing.{named_held}
 use Rattle.p9_server.proofs.Opening.{emptied_step, unknown_step, failed_step, opened_step, inserted_sound}
 use Rattle.p9_server.proofs.server.Server.open.Goals as goal
 
-pub returns-then-empties-clause-step : goal.returns-then-empties-clause-step
-returns-then-empties-clause-step g c =
+pub returns-then-has_flag-clause-step : goal.returns-then-has_flag-clause-step
+returns-then-has_flag-clause-step g c =
     let s = c.args.self.now in
     let tree = g.H.Host.tree s.host in
     let kept = kept_named (g.H.Host.holds s.host) s.fids s.sound.held tree (g.met.H.Host.stored s.host).kept in
-    emptied_step tree s.fids s.msize s.share c.args.fid c.args.flags kept (g.H.Host.steady s.host) (g.H.Host.faults s.host) c.if-empties.ensures
+    emptied_step tree s.fids s.msize s.share c.args.fid c.args.flags kept (g.H.Host.calls s.host).steady (g.H.Host.calls s.host).faults c.if-has_flag.ensures
 
 pub returns-in-Err-clause-step : goal.returns-in-Err-clause-step
 returns-in-Err-clause-step g c =
     let s = c.args.self.now in
     let tree = g.H.Host.tree s.host in
     let kept = kept_named (g.H.Host.holds s.host) s.fids s.sound.held tree (g.met.H.Host.stored s.host).kept in
-    unknown_step tree s.fids s.msize s.share c.args.fid c.args.flags kept (g.H.Host.steady s.host) c.if-empties.ensures (g.H.Host.faults s.host) c.in-Err.e c.in-Err.ensures
+    unknown_step tree s.fids s.msize s.share c.args.fid c.args.flags kept (g.H.Host.calls s.host).steady c.if-has_flag.ensures (g.H.Host.calls s.host).faults c.in-Err.e c.in-Err.ensures
 
 pub open_inode-requires : goal.open_inode-requires
 open_inode-requires g c = let s = c.args.self.now in named_held (g.H.Host.holds s.host) s.fids s.sound.held c.args.fid c.in-Ok.ino c.in-Ok.ensures
@@ -30,7 +30,7 @@ returns-in-Err-open_inode-clause-step g c =
     let tree = g.H.Host.tree s.host in
     let kept = kept_named (g.H.Host.holds s.host) s.fids s.sound.held tree (g.met.H.Host.stored s.host).kept in
     let e = c.in-Err-open_inode.ensures in
-    failed_step tree s.fids s.msize s.share c.args.fid c.args.flags kept (g.H.Host.steady s.host) c.if-empties.ensures c.in-Ok.ino c.in-Ok.ensures (g.H.Host.tree c.open_inode.new.host) e.tree (g.H.Host.faults s.host) (g.H.Host.faults c.open_inode.new.host)
+    failed_step tree s.fids s.msize s.share c.args.fid c.args.flags kept (g.H.Host.calls s.host).steady c.if-has_flag.ensures c.in-Ok.ino c.in-Ok.ensures (g.H.Host.tree c.open_inode.new.host) e.tree (g.H.Host.calls s.host).faults (g.H.Host.calls c.open_inode.new.host).faults
     s.fids refl c.in-Err-open_inode.e e.answer e.cause
 
 pub invariant_of-self-2 : goal.invariant_of-self-2
@@ -47,5 +47,5 @@ returns-in-Ok-insert-clause-step g c =
     let tree = g.H.Host.tree s.host in
     let kept = kept_named (g.H.Host.holds s.host) s.fids s.sound.held tree (g.met.H.Host.stored s.host).kept in
     let e = c.in-Ok-open_inode.ensures in
-    opened_step tree s.fids s.msize s.share c.args.fid c.args.flags kept (g.H.Host.steady s.host) c.if-empties.ensures c.in-Ok.ino c.in-Ok.ensures (g.H.Host.tree c.open_inode.new.host) e.tree (g.H.Host.faults s.host) (g.H.Host.faults c.open_inode.new.host)
+    opened_step tree s.fids s.msize s.share c.args.fid c.args.flags kept (g.H.Host.calls s.host).steady c.if-has_flag.ensures c.in-Ok.ino c.in-Ok.ensures (g.H.Host.tree c.open_inode.new.host) e.tree (g.H.Host.calls s.host).faults (g.H.Host.calls c.open_inode.new.host).faults
     c.insert.new.self (c.in-Ok-insert.ensures.ok ∙ ap (λ (f : Fid). insert s.fids c.args.fid f) c.opened.ensures) c.qid_of.result c.in-Ok-open_inode.attr e.answer c.qid_of.ensures e.cause.counted

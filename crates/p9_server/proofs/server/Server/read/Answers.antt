@@ -11,7 +11,7 @@ returns-in-Err-clause-step g c =
     let s = c.args.self.now in
     let tree = g.H.Host.tree s.host in
     let kept = kept_named (g.H.Host.holds s.host) s.fids s.sound.held tree (g.met.H.Host.stored s.host).kept in
-    unreadable_step (λ (v : Vec _ _). v.items) tree s.fids s.msize s.share c.args.fid c.args.offset c.args.count kept (g.H.Host.steady s.host) (g.H.Host.faults s.host) c.in-Err.e c.in-Err.ensures
+    unreadable_step (λ (v : Vec _ _). v.items) tree s.fids s.msize s.share c.args.fid c.args.offset c.args.count kept (g.H.Host.calls s.host).steady (g.H.Host.calls s.host).faults c.in-Err.e c.in-Err.ensures
 
 pub read_at-requires : goal.read_at-requires
 read_at-requires g c =
@@ -24,8 +24,8 @@ returns-in-Ok-read_at-clause-step g c =
     let tree = g.H.Host.tree s.host in
     let kept = kept_named (g.H.Host.holds s.host) s.fids s.sound.held tree (g.met.H.Host.stored s.host).kept in
     let e = c.in-Ok-read_at.ensures in
-    read_step (λ (v : Vec _ _). v.items) tree s.fids s.msize s.share c.args.fid c.args.offset c.args.count kept (g.H.Host.steady s.host) c.in-Ok.ino c.in-Ok.ensures (g.H.Host.tree c.read_at.new.self) e.tree (g.H.Host.faults s.host) (g.H.Host.faults c.read_at.new.self)
-    _ (search rules) _ _ c.truncate.new.self c.in-Ok-read_at.n e.answer (grind (arith, common_steps)) e.cause.counted
+    read_step (λ (v : Vec _ _). v.items) tree s.fids s.msize s.share c.args.fid c.args.offset c.args.count kept (g.H.Host.calls s.host).steady c.in-Ok.ino c.in-Ok.ensures (g.H.Host.tree c.read_at.new.self) e.tree (g.H.Host.calls s.host).faults (g.H.Host.calls c.read_at.new.self).faults
+    _ (search rules) _ _ c.truncate.new.self c.in-Ok-read_at.n e.answer (grind (arith, common_steps)) e.caused.cause.counted
 
 pub returns-in-Err-read_at-clause-step : goal.returns-in-Err-read_at-clause-step
 returns-in-Err-read_at-clause-step g c =
@@ -33,5 +33,5 @@ returns-in-Err-read_at-clause-step g c =
     let tree = g.H.Host.tree s.host in
     let kept = kept_named (g.H.Host.holds s.host) s.fids s.sound.held tree (g.met.H.Host.stored s.host).kept in
     let e = c.in-Err-read_at.ensures in
-    failed_step (λ (v : Vec _ _). v.items) tree s.fids s.msize s.share c.args.fid c.args.offset c.args.count kept (g.H.Host.steady s.host) c.in-Ok.ino c.in-Ok.ensures (g.H.Host.tree c.read_at.new.self) e.tree (g.H.Host.faults s.host) (g.H.Host.faults c.read_at.new.self)
-    _ (search rules) _ _ c.in-Err-read_at.e e.answer e.cause
+    failed_step (λ (v : Vec _ _). v.items) tree s.fids s.msize s.share c.args.fid c.args.offset c.args.count kept (g.H.Host.calls s.host).steady c.in-Ok.ino c.in-Ok.ensures (g.H.Host.tree c.read_at.new.self) e.tree (g.H.Host.calls s.host).faults (g.H.Host.calls c.read_at.new.self).faults
+    _ (search rules) _ _ c.in-Err-read_at.e e.answer e.caused.cause

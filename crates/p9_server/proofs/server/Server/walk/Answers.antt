@@ -1,4 +1,5 @@
 -- The new fid names what the names lead to, or all is as it was.
+use Rattle.tree_host.specs.Calls.{Calls}
 use Rattle.std.proofs.Common.{◌∙◌, ap, sym, subst, Vec}
 use Rattle.tree_model.specs.Tree.{Tree, keep}
 use Rattle.tree_model.specs.Sound.{IsKept}
@@ -13,7 +14,7 @@ returns-in-Err-clause-step g c =
     let s = c.args.self.now in
     let tree = g.H.Host.tree s.host in
     let kept = kept_named (g.H.Host.holds s.host) s.fids s.sound.held tree (g.met.H.Host.stored s.host).kept in
-    walk_unstarted (λ (v : Vec _ _). v.items) tree s.fids s.msize s.share s.sound.plain c.args.fid c.args.newfid c.args.names.now kept (g.H.Host.steady s.host) c.in-Err.e (g.H.Host.faults s.host) c.in-Err.ensures
+    walk_unstarted (λ (v : Vec _ _). v.items) tree s.fids s.msize s.share s.sound.plain c.args.fid c.args.newfid c.args.names.now kept (g.H.Host.calls s.host).steady c.in-Err.e (g.H.Host.calls s.host).faults c.in-Err.ensures
 
 pub reach-requires-clause-held : goal.reach-requires-clause-held
 reach-requires-clause-held g c =
@@ -29,8 +30,8 @@ returns-in-Err-reach-clause-step g c =
     let tree = g.H.Host.tree s.host in
     let kept = kept_named (g.H.Host.holds s.host) s.fids s.sound.held tree (g.met.H.Host.stored s.host).kept in
     let e = c.in-Err-reach.ensures in
-    walk_stopped (λ (v : Vec _ _). v.items) tree s.fids s.msize s.share s.sound.plain c.args.fid c.args.newfid c.args.names.now kept (g.H.Host.steady s.host) c.in-Ok.start c.in-Ok.ensures
-    (g.H.Host.tree c.reach.new.host) (g.H.Host.faults s.host) (g.H.Host.faults c.reach.new.host) c.reach.new.qids e.tree c.in-Err-reach.e c.told_so_far.result c.told_so_far.ensures.told c.told_so_far.ensures.error e.answer e.cause
+    walk_stopped (λ (v : Vec _ _). v.items) tree s.fids s.msize s.share s.sound.plain c.args.fid c.args.newfid c.args.names.now kept (g.H.Host.calls s.host).steady c.in-Ok.start c.in-Ok.ensures
+    (g.H.Host.tree c.reach.new.host) (g.H.Host.calls s.host).faults (g.H.Host.calls c.reach.new.host).faults c.reach.new.qids e.tree c.in-Err-reach.e c.told_so_far.result c.told_so_far.ensures.told c.told_so_far.ensures.error e.answer e.cause
 
 pub name_by_fid-requires-clause-kept : goal.name_by_fid-requires-clause-kept
 name_by_fid-requires-clause-kept g c =
@@ -54,6 +55,6 @@ returns-in-Err-name_by_fid-clause-step g c =
     let kept = kept_named (g.H.Host.holds s.host) s.fids s.sound.held tree (g.met.H.Host.stored s.host).kept in
     let w = c.in-Ok-reach.ensures in
     let e = c.in-Err-name_by_fid.ensures in
-    walk_no_memory (λ (v : Vec _ _). v.items) tree s.fids s.msize s.share s.sound.plain c.args.fid c.args.newfid c.args.names.now kept (g.H.Host.steady s.host) c.in-Ok.start c.in-Ok.ensures
-    (g.H.Host.tree c.name_by_fid.new.host) (g.H.Host.faults s.host) (g.H.Host.faults c.name_by_fid.new.host) c.name_by_fid.new.fids
-    (e.tree ∙ ap (keep (is_held c.name_by_fid.new.fids)) w.tree) (e.faults ∙ w.cause.counted) c.in-Err-name_by_fid.e e.memory.0 e.memory.1
+    walk_no_memory (λ (v : Vec _ _). v.items) tree s.fids s.msize s.share s.sound.plain c.args.fid c.args.newfid c.args.names.now kept (g.H.Host.calls s.host).steady c.in-Ok.start c.in-Ok.ensures
+    (g.H.Host.tree c.name_by_fid.new.host) (g.H.Host.calls s.host).faults (g.H.Host.calls c.name_by_fid.new.host).faults c.name_by_fid.new.fids
+    (e.tree ∙ ap (keep (is_held c.name_by_fid.new.fids)) w.tree) (ap (λ (k : Calls). k.faults) e.calls ∙ w.cause.counted) c.in-Err-name_by_fid.e e.memory.0 e.memory.1

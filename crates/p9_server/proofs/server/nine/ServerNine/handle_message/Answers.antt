@@ -1,5 +1,5 @@
 -- A frame, its answer, and the reply.
-use Rattle.p9_server.specs.Steps.{server_state}
+use Rattle.p9_server.specs.Steps.{moment_of}
 use Rattle.p9_server.proofs.Replying.{answered_sent, kept_twice}
 use Rattle.std.proofs.Common.{◌∙◌}
 use Rattle.p9_server.proofs.server.nine.ServerNine.handle_message.Goals as goal
@@ -8,12 +8,12 @@ pub returns-in-Ok-reserve_long-clause-handled : goal.returns-in-Ok-reserve_long-
 returns-in-Ok-reserve_long-clause-handled g c =
     let s = c.args.self.now in
     let n = c.answer.new.self in
-    answered_sent (server_state (g.H.Host.tree s.host) s.fids s.msize s.share) (server_state (g.H.Host.tree n.host) n.fids n.msize n.share) (g.H.Host.faults s.host) (g.H.Host.faults n.host)
+    answered_sent (moment_of (g.H.Host.tree s.host) (g.H.Host.calls s.host) s.fids s.msize s.share s.asked) (moment_of (g.H.Host.tree n.host) (g.H.Host.calls n.host) n.fids n.msize n.share n.asked) c.saturating_add-self.result
     (g.S.Source.left c.args.reader.now) (g.S.Source.left c.read_frame.new.reader)
     (g.K.Sink.sent c.args.writer.now) (g.K.Sink.sent c.reserve_long.new.writer) (g.K.Sink.sent c.send_reply.new.writer)
     (g.S.Source.faults c.args.reader.now) (g.S.Source.faults c.read_frame.new.reader)
     (g.K.Sink.faults c.args.writer.now) (g.K.Sink.faults c.reserve_long.new.writer) (g.K.Sink.faults c.send_reply.new.writer)
     c.in-Ok.frame c.in-Ok.ensures.frame
     (kept_twice (g.K.Sink.sent c.args.writer.now) (g.K.Sink.sent c.make_room.new.writer) (g.K.Sink.sent c.reserve_long.new.writer) c.make_room.ensures.sent c.reserve_long.ensures.sent)
-    (c.reserve_long.ensures.faults ∙ c.make_room.ensures.faults) (g.H.Host.steady s.host)
+    (c.reserve_long.ensures.faults ∙ c.make_room.ensures.faults)
     c.in-Ok-answer.reply c.in-Ok-answer.ensures.answered c.send_reply.result c.send_reply.ensures.sent

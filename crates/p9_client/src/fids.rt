@@ -1,0 +1,181 @@
+//! Fids: they are made for the root, by a walk or as copies, opened, and let go. Each call sends one message.
+ghost use Rattle.std.specs.Prelude.{◌≡◌, ◌<◌, ◌∷◌, [], false, IfOk, OnOk, OnErr, IsSome, None};
+ghost use Rattle.std.specs.FinMap as map;
+ghost use Rattle.port_base.specs.Names.{name_fault};
+ghost use Rattle.port_base.specs.OpenFlags.{has_flag};
+ghost use Rattle.port_base.specs.declared.oflag.TheConstants.{O_TRUNC};
+ghost use Rattle.p9_tmsg.specs.Messages.{message_of};
+ghost use Rattle.p9_tmsg.specs.Messages.Message.{attach as attach_message, walk};
+ghost use Rattle.fid_model.specs.Calls.{attach_told, walk_one_told};
+ghost use Rattle.fid_model.specs.Moments.{Answered, FidAnswered, Keeps, SameTree, Untouched};
+ghost use Rattle.p9_client.specs.Views.{IsRoomy, FidGone, FidGoneOrNot, qid_answer};
+ghost use Rattle.p9_client.specs.Opening.{copied_told, opened_told};
+
+use crate::exchange::exchange;
+use fid_model::Nine;
+use p9_rmsg::Rmessage;
+use p9_tmsg::{Tattach, Tclunk, Tlopen, Tmessage, Twalk};
+use p9_wire::protocol::P9_NOFID;
+use p9_wire::qid::Qid;
+use p9_wire::text::P9String;
+use port_base::sink::NoMemory;
+use std::alloc::Global;
+
+// The empty text.
+fn no_text(alloc: Global) -> Result<P9String, NoMemory>
+    ensures { IfOk result (λ s. s ≡ []) }
+{
+    P9String::new(alloc, b"").map_err(|_| NoMemory)
+}
+
+// An attach without authentication, to no particular tree, for no particular user.
+fn attach_to(alloc: Global, fid: u32) -> Result<Tmessage, NoMemory>
+    ensures { IfOk result (λ m. message_of m ≡ attach_message fid P9_NOFID [] [] 0) }
+{
+    let uname = no_text(alloc)?;
+    let aname = no_text(alloc)?;
+    Ok(Tmessage::Attach(Tattach {
+        fid,
+        afid: P9_NOFID,
+        uname,
+        aname,
+        n_uname: 0,
+    }))
+}
+
+/// Makes a fid for the root of the share, of a server that has none.
+pub fn attach<N: Nine>(alloc: Global, nine: &mut N, fid: u32) -> Result<Result<Qid, u32>, NoMemory>
+    requires roomy { IsRoomy (N.at nine.old).state }
+    requires none { (N.at nine.old).state.fids ≡ map.empty }
+    ensures answer { IfOk result (λ r. Answered
+        (attach_told (N.at nine.old).state fid) Untouched (qid_answer r)
+        (N.at nine.old) (N.at nine.new)) }
+    ensures unfinished { OnErr result (SameTree (N.at nine.old) (N.at nine.new)) }
+    ensures kept { Keeps (N.at nine.old) (N.at nine.new) }
+{
+    let message = attach_to(alloc, fid)?;
+    match exchange(alloc, nine, &message)? {
+        Rmessage::Attach(reply) => Ok(Ok(reply.qid)),
+        Rmessage::Lerror(reply) => Ok(Err(reply.ecode)),
+        _ => unreachable!(),
+    }
+}
+
+// A name without a fault as a text.
+fn text_of(alloc: Global, name: &[u8]) -> Result<P9String, NoMemory>
+    requires { name_fault name.now ≡ None }
+    ensures { IfOk result (λ s. s ≡ name.now) }
+{
+    P9String::new(alloc, name).map_err(|_| NoMemory)
+}
+
+// A walk by one name.
+fn walk_message(alloc: Global, fid: u32, newfid: u32, name: &[u8]) -> Result<Tmessage, NoMemory>
+    requires { name_fault name.now ≡ None }
+    ensures { IfOk result (λ m. message_of m ≡ walk fid newfid (name.now ∷ [])) }
+{
+    let text = text_of(alloc, name)?;
+    match vec![in alloc; text] {
+        Ok(wnames) => Ok(Tmessage::Walk(Twalk {
+            fid,
+            newfid,
+            wnames,
+        })),
+        Err(_) => Err(NoMemory),
+    }
+}
+
+/// Walks by one name without a fault, to a new fid.
+pub fn walk_one<N: Nine>(
+    alloc: Global,
+    nine: &mut N,
+    fid: u32,
+    newfid: u32,
+    name: &[u8],
+) -> Result<Result<Qid, u32>, NoMemory>
+    requires roomy { IsRoomy (N.at nine.old).state }
+    requires known { IsSome (map.get (N.at nine.old).state.fids fid) }
+    requires fresh { map.get (N.at nine.old).state.fids newfid ≡ None }
+    requires below { map.len (N.at nine.old).state.fids < (N.at nine.old).state.settings.limit }
+    requires named { name_fault name.now ≡ None }
+    ensures answer { IfOk result (λ r. FidAnswered
+        (λ s f. walk_one_told s f.ino newfid name.now) Untouched fid (qid_answer r)
+        (N.at nine.old) (N.at nine.new)) }
+    ensures unfinished { OnErr result (SameTree (N.at nine.old) (N.at nine.new)) }
+    ensures kept { Keeps (N.at nine.old) (N.at nine.new) }
+{
+    let message = walk_message(alloc, fid, newfid, name)?;
+    match exchange(alloc, nine, &message)? {
+        Rmessage::Walk(reply) => match reply.wqids.first() {
+            Some(qid) => Ok(Ok(*qid)),
+            None => unreachable!(),
+        },
+        Rmessage::Lerror(reply) => Ok(Err(reply.ecode)),
+        _ => unreachable!(),
+    }
+}
+
+/// Names the inode of a fid by a new fid too, which isn't open.
+pub fn copy_fid<N: Nine>(
+    alloc: Global,
+    nine: &mut N,
+    fid: u32,
+    newfid: u32,
+) -> Result<Result<(), u32>, NoMemory>
+    requires roomy { IsRoomy (N.at nine.old).state }
+    requires known { IsSome (map.get (N.at nine.old).state.fids fid) }
+    requires fresh { map.get (N.at nine.old).state.fids newfid ≡ None }
+    requires below { map.len (N.at nine.old).state.fids < (N.at nine.old).state.settings.limit }
+    ensures answer { IfOk result (λ r. FidAnswered
+        (λ s f. copied_told s f.ino newfid) Untouched fid r (N.at nine.old) (N.at nine.new)) }
+    ensures unfinished { OnErr result (SameTree (N.at nine.old) (N.at nine.new)) }
+    ensures kept { Keeps (N.at nine.old) (N.at nine.new) }
+{
+    let message = Tmessage::Walk(Twalk {
+        fid,
+        newfid,
+        wnames: Vec::new(alloc),
+    });
+    match exchange(alloc, nine, &message)? {
+        Rmessage::Walk(_reply) => Ok(Ok(())),
+        Rmessage::Lerror(reply) => Ok(Err(reply.ecode)),
+        _ => unreachable!(),
+    }
+}
+
+/// Opens a fid by the flags of `open(2)`, without O_TRUNC.
+pub fn open<N: Nine>(
+    alloc: Global,
+    nine: &mut N,
+    fid: u32,
+    flags: u32,
+) -> Result<Result<Qid, u32>, NoMemory>
+    requires roomy { IsRoomy (N.at nine.old).state }
+    requires known { IsSome (map.get (N.at nine.old).state.fids fid) }
+    requires whole { has_flag O_TRUNC flags ≡ false }
+    ensures answer { IfOk result (λ r. FidAnswered
+        (λ s f. opened_told s fid f flags) Untouched fid (qid_answer r)
+        (N.at nine.old) (N.at nine.new)) }
+    ensures unfinished { OnErr result (SameTree (N.at nine.old) (N.at nine.new)) }
+    ensures kept { Keeps (N.at nine.old) (N.at nine.new) }
+{
+    let message = Tmessage::Lopen(Tlopen { fid, flags });
+    match exchange(alloc, nine, &message)? {
+        Rmessage::Lopen(reply) => Ok(Ok(reply.qid)),
+        Rmessage::Lerror(reply) => Ok(Err(reply.ecode)),
+        _ => unreachable!(),
+    }
+}
+
+/// Lets a fid go.
+pub fn clunk<N: Nine>(alloc: Global, nine: &mut N, fid: u32) -> Result<(), NoMemory>
+    requires roomy { IsRoomy (N.at nine.old).state }
+    requires known { IsSome (map.get (N.at nine.old).state.fids fid) }
+    ensures gone { OnOk result (FidGone fid (N.at nine.old) (N.at nine.new)) }
+    ensures unfinished { OnErr result (FidGoneOrNot fid (N.at nine.old) (N.at nine.new)) }
+    ensures kept { Keeps (N.at nine.old) (N.at nine.new) }
+{
+    let message = Tmessage::Clunk(Tclunk { fid });
+    exchange(alloc, nine, &message)?;
+    Ok(())
+}
