@@ -14,9 +14,9 @@ use Rattle.fuse_wire.proofs.Fronts.{front-nil}
 use Rattle.fuse_wire.proofs.Cutting.{with_frames, cut-frames, cut-spent, cut-nothing, cut-part, cut-odd_length}
 use Rattle.fuse_wire.proofs.Takings.{Consumes-if}
 use Rattle.frame_pump.specs.Sessions.{Session, Answered}
-use Rattle.frame_pump.specs.Turns.{Streams, Quiet, Turn, AreFirst, Fronts, Ended, ReadStopped, HaltsBy, Completes}
-use Rattle.frame_pump.specs.declared.outcome.Cause.{Cause}
-use Rattle.frame_pump.specs.declared.outcome.Cause.TheVariants as cause
+use Rattle.frame_pump.specs.Turns.{Streams, Quiet, Turn, AreFirst, Fronts, Ended, ReadStopped, TookTo, StopsBy, EndsQuietly}
+use Rattle.frame_pump.specs.declared.outcome.BridgeError.{BridgeError}
+use Rattle.frame_pump.specs.declared.outcome.BridgeError.TheVariants as cause
 use Rattle.frame_pump.proofs.Answering.{Answered-none, Answered-more}
 
 -- ---- frames one after another
@@ -101,13 +101,14 @@ module _ (s0 s1 s2 : Session) (stands1 stands2 : Type 0) (p0 p1 p2 : Streams) (h
 
 module _ (s0 s1 s2 : Session) (stands1 : Type 0) (p0 p1 p2 : Streams) (handled turns : ℕ) (h : Pumping s0 s1 stands1 p0 p1 handled) where
   -- nothing more is answered, where the cut of what is left has no more frames
-  ended : (end : End) → handled ≤ turns → IfSome p1.left (λ rest. cut (turns - handled) rest ≡ ends end) → s2 ≡ s1 → Keeps p1.sent p2.sent → Ended s0 s2 p0 p2 turns handled end
-  ended end le at same keeps = record {
+  ended : (end : End) → handled ≤ turns → IfSome p1.left (λ rest. cut (turns - handled) rest ≡ ends end) → TookTo end h.frames p0.left p2.left → s2 ≡ s1 → Keeps p1.sent p2.sent → Ended s0 s2 p0 p2 turns handled end
+  ended end le at took same keeps = record {
     frames = h.frames;
     whole = h.whole;
     number = h.number;
     cut = whole_cut p0.left p1.left turns end h.frames h.whole (omega (arith, h.number, le)) h.taken
         (subst (λ (n : ℕ). IfSome p1.left (λ rest. cut (turns - n) rest ≡ ends end)) (sym h.number) at);
+    taken = took;
     replies = h.replies;
     answered = subst (λ s. Answered s0 s h.frames h.replies) (sym same) h.answered;
     sent = Appends-kept p0.sent p1.sent p2.sent h.replies h.sent keeps;
@@ -123,12 +124,11 @@ module _ (s0 s1 s2 : Session) (stands1 : Type 0) (p0 p1 p2 : Streams) (handled t
       (omega (arith, length-append h.frames (frame ∷ []), h.number, lt)) (Consumes-snoc p0.left p1.left p2.left h.frames frame h.taken consumed)
 
   -- the input ended at a frame's end
-  pub Completes-turn : (stands2 : Type 0) → handled ≤ turns → Turn s1 s2 stands2 p1 p2 (Ok false) → Completes s0 s2 stands2 p0 p2 turns handled
+  pub Completes-turn : (stands2 : Type 0) → handled ≤ turns → Turn s1 s2 stands2 p1 p2 (Ok false) → EndsQuietly s0 s2 stands2 p0 p2 turns handled done
   Completes-turn stands2 le (quiet, now, idle, at, end) = (
     quiet_after p0 p1 p2 h.quiet quiet,
     now,
-    end,
-    ended done le (IfSome-weaker p1.left _ _ (λ rest at. cut-nothing (turns - handled) rest at) at) idle.0 idle.1,
+    ended done le (IfSome-weaker p1.left _ _ (λ rest at. cut-nothing (turns - handled) rest at) at) end idle.0 idle.1,
   )
 
   read_stopped : handled ≤ turns → (more : List ℕ) → Consumes p1.left p2.left more → IsPart more → s2 ≡ s1 → Keeps p1.sent p2.sent → ReadStopped s0 s2 p0 p2 turns handled
@@ -147,24 +147,24 @@ module _ (s0 s1 s2 : Session) (stands1 : Type 0) (p0 p1 p2 : Streams) (handled t
   read_faults fault = subst (λ (n : ℕ). Faulted n p2.read_faults) h.quiet.0 fault
 
   -- a turn stopped
-  pub HaltsBy-turn : (stands2 : Type 0) (e : Cause) → handled < turns → Turn s1 s2 stands2 p1 p2 (Err e) → HaltsBy s0 s2 stands2 p0 p2 turns handled e
-  HaltsBy-turn stands2 cause.Torn lt (quiet, now, idle, at) = (
+  pub StopsBy-turn : (stands2 : Type 0) (e : BridgeError) → handled < turns → Turn s1 s2 stands2 p1 p2 (Err e) → StopsBy s0 s2 stands2 p0 p2 turns handled e
+  StopsBy-turn stands2 cause.Torn lt (quiet, now, idle, at, end) = (
     quiet_after p0 p1 p2 h.quiet quiet,
     now,
-    ended torn (omega (arith, lt)) (IfSome-weaker p1.left _ _ (λ rest at. cut-part (turns - handled) rest (omega (arith, lt)) at) at) idle.0 idle.1,
+    ended torn (omega (arith, lt)) (IfSome-weaker p1.left _ _ (λ rest at. cut-part (turns - handled) rest (omega (arith, lt)) at) at) end idle.0 idle.1,
   )
-  HaltsBy-turn stands2 cause.BadLength lt (quiet, now, idle, at) = (
+  StopsBy-turn stands2 cause.BadLength lt (quiet, now, idle, at, (more, consumed, four)) = (
     quiet_after p0 p1 p2 h.quiet quiet,
     now,
-    ended bad_length (omega (arith, lt)) (IfSome-weaker p1.left _ _ (λ rest at. cut-odd_length (turns - handled) rest (omega (arith, lt)) at) at) idle.0 idle.1,
+    ended bad_length (omega (arith, lt)) (IfSome-weaker p1.left _ _ (λ rest at. cut-odd_length (turns - handled) rest (omega (arith, lt)) at) at)
+        (more, four, Consumes-trans p0.left p1.left p2.left (concat h.frames) more h.taken consumed) idle.0 idle.1,
   )
-  HaltsBy-turn stands2 cause.TurnsSpent lt t = absurd t
-  HaltsBy-turn stands2 cause.Read lt (failed, now, idle, (more, consumed, short)) = (
+  StopsBy-turn stands2 cause.Read lt (failed, now, idle, (more, consumed, short)) = (
     (read_faults failed.0, failed.1 ∙ h.quiet.1),
     now,
     read_stopped (omega (arith, lt)) more consumed short idle.0 idle.1,
   )
-  HaltsBy-turn stands2 cause.Write lt (failed, now, (frame, bytes, t, (n, sends))) = (
+  StopsBy-turn stands2 cause.Write lt (failed, now, (frame, bytes, t, (n, sends))) = (
     (failed.0 ∙ h.quiet.0, subst (λ (k : ℕ). Faulted k p2.write_faults) h.quiet.1 failed.1),
     now,
     record {
@@ -181,7 +181,7 @@ module _ (s0 s1 s2 : Session) (stands1 : Type 0) (p0 p1 p2 : Streams) (handled t
       sent = (n, Appends-trans p0.sent p1.sent p2.sent h.replies (take n bytes) h.sent sends);
     },
   )
-  HaltsBy-turn stands2 cause.NoMemory lt (quiet, keeps, after) = (
+  StopsBy-turn stands2 cause.NoMemory lt (quiet, keeps, after) = (
     quiet_after p0 p1 p2 h.quiet quiet,
     record {
       frames = h.frames;
@@ -196,6 +196,7 @@ module _ (s0 s1 s2 : Session) (stands1 : Type 0) (p0 p1 p2 : Streams) (handled t
       ];
     },
   )
+  StopsBy-turn stands2 _ lt t = absurd t
 
 -- after the last turn
 module _ (s0 s1 : Session) (stands : Type 0) (p0 p1 p2 : Streams) (handled turns : ℕ) (h : Pumping s0 s1 stands p0 p1 handled) (last : handled ≡ turns) (sent : p2.sent ≡ p1.sent) (write_faults : p2.write_faults ≡ p1.write_faults) where
@@ -206,31 +207,31 @@ module _ (s0 s1 : Session) (stands : Type 0) (p0 p1 p2 : Streams) (handled turns
   quiet_at read = (read ∙ h.quiet.0, write_faults ∙ h.quiet.1)
 
   -- nothing is left
-  pub Completes-last : (bytes : List ℕ) → p2.read_faults ≡ p1.read_faults → length bytes ≡ 0 → Consumes p1.left p2.left bytes → IsAtEnd p2.left → Completes s0 s1 stands p0 p2 turns turns
+  pub Completes-last : (bytes : List ℕ) → p2.read_faults ≡ p1.read_faults → length bytes ≡ 0 → Consumes p1.left p2.left bytes → IsAtEnd p2.left → EndsQuietly s0 s1 stands p0 p2 turns turns done
   Completes-last bytes read none consumed end = (
     quiet_at read,
     h.standing,
-    end,
     subst (λ (n : ℕ). Ended s0 s1 p0 p2 turns n done) last
         (ended s0 s1 s1 stands p0 p1 p2 handled turns h done (omega (arith, last))
-        (IfSome-weaker p1.left _ _ (λ rest at. cut-nothing (turns - handled) rest at) (Consumes-whole p1.left p2.left bytes (λ bs. front bs ≡ nothing) consumed end (front-nil bytes none))) refl keeps),
+        (IfSome-weaker p1.left _ _ (λ rest at. cut-nothing (turns - handled) rest at) (Consumes-whole p1.left p2.left bytes (λ bs. front bs ≡ nothing) consumed end (front-nil bytes none))) end refl keeps),
   )
 
   -- another byte follows
-  pub HaltsBy-spent : (bytes : List ℕ) → p2.read_faults ≡ p1.read_faults → 0 < length bytes → Consumes p1.left p2.left bytes → HaltsBy s0 s1 stands p0 p2 turns turns cause.TurnsSpent
-  HaltsBy-spent bytes read some consumed =
+  pub StopsBy-spent : (bytes : List ℕ) → p2.read_faults ≡ p1.read_faults → length bytes ≡ 1 → Consumes p1.left p2.left bytes → StopsBy s0 s1 stands p0 p2 turns turns cause.TurnsSpent
+  StopsBy-spent bytes read some consumed =
       let none : turns - handled ≡ 0 = omega (arith, last) in (
         quiet_at read,
         h.standing,
         subst (λ (n : ℕ). Ended s0 s1 p0 p2 turns n turns_spent) last
             (ended s0 s1 s1 stands p0 p1 p2 handled turns h turns_spent (omega (arith, last))
             (Consumes-if p1.left p2.left bytes (λ bs. cut (turns - handled) bs ≡ ends turns_spent) consumed
-            (λ more. ap (λ (k : ℕ). cut k (bytes ++ more)) none ∙ cut-spent (bytes ++ more) (omega (arith, length-append bytes more, some)))) refl keeps),
+            (λ more. ap (λ (k : ℕ). cut k (bytes ++ more)) none ∙ cut-spent (bytes ++ more) (omega (arith, length-append bytes more, some))))
+            (bytes, some, Consumes-trans p0.left p1.left p2.left (concat h.frames) bytes h.taken consumed) refl keeps),
       )
 
   -- the input failed
-  pub HaltsBy-read : (more : List ℕ) → Faulted p1.read_faults p2.read_faults → Consumes p1.left p2.left more → length more < 1 → HaltsBy s0 s1 stands p0 p2 turns turns cause.Read
-  HaltsBy-read more fault consumed few = (
+  pub StopsBy-read : (more : List ℕ) → Faulted p1.read_faults p2.read_faults → Consumes p1.left p2.left more → length more < 1 → StopsBy s0 s1 stands p0 p2 turns turns cause.Read
+  StopsBy-read more fault consumed few = (
     (read_faults s0 s1 s1 stands p0 p1 p2 handled turns h fault, write_faults ∙ h.quiet.1),
     h.standing,
     subst (λ (n : ℕ). ReadStopped s0 s1 p0 p2 turns n) last

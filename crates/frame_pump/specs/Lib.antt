@@ -1,3 +1,3 @@
 pub mod Sessions
-pub mod Ends
+pub mod Causes
 pub mod Turns

@@ -3,7 +3,7 @@ use Rattle.std.specs.Prelude.{◌≡◌, ◌⊎◌, ℕ, Bool, true, false, List
 use Rattle.std.specs.Io.KnownBytes.{Appends, Consumes, Keeps, IsAtEnd}
 use Rattle.std.specs.List.{concat}
 use Rattle.port_base.specs.Faults.{Faulted}
-use Rattle.port_base.specs.Streams.{SentFront}
+use Rattle.port_base.specs.Streams.{SentFront, TookExactly}
 use Rattle.port_base.specs.declared.sink.SinkFault.{SinkFault}
 use Rattle.port_base.specs.declared.sink.SinkFault.TheVariants as sink
 use Rattle.fuse_wire.specs.Cuts.{IsFrame, AreFrames, cut, End}
@@ -11,11 +11,9 @@ use Rattle.fuse_wire.specs.Cuts.Front.{nothing, part, odd_length}
 use Rattle.fuse_wire.specs.Cuts.End.{done, turns_spent, torn, bad_length}
 use Rattle.fuse_wire.specs.Taking.{Stands, IsPart, TookPart}
 use Rattle.frame_pump.specs.Sessions.{Session, Stays, Answers, Answered, LeavesPart}
-use Rattle.frame_pump.specs.declared.outcome.Cause.{Cause}
-use Rattle.frame_pump.specs.declared.outcome.Cause.TheVariants as cause
+use Rattle.frame_pump.specs.declared.outcome.BridgeError.{BridgeError}
+use Rattle.frame_pump.specs.declared.outcome.BridgeError.TheVariants as cause
 use Rattle.frame_pump.specs.declared.outcome.Halt.{Halt}
-use Rattle.frame_pump.specs.declared.outcome.PumpError.{PumpError}
-use Rattle.frame_pump.specs.declared.outcome.PumpError.TheVariants as error
 use Rattle.frame_pump.specs.declared.outcome.Pumped.{Pumped}
 use Rattle.frame_pump.specs.declared.outcome.Stopped.{Stopped}
 
@@ -25,6 +23,10 @@ pub record Streams : Type 0 where
   pub sent : Option (List ℕ)
   pub read_faults : ℕ
   pub write_faults : ℕ
+
+abbrev pub streams : Option (List ℕ) → Option (List ℕ) → ℕ → ℕ → Streams
+streams left sent read_faults write_faults =
+    record { left = left; sent = sent; read_faults = read_faults; write_faults = write_faults }
 
 -- neither stream failed
 abbrev pub Quiet : Streams → Streams → Type 0
@@ -58,16 +60,29 @@ Idle s0 s1 p0 p1 = (s1 ≡ s0) × Keeps p0.sent p1.sent
 abbrev pub Unanswered : Session → Session → Streams → Streams → Type 0
 Unanswered s0 s1 p0 p1 = (s1 ≡ s0) ⊎ ((frame : List ℕ) × IsFrame frame × Consumes p0.left p1.left frame × LeavesPart s0 s1 frame)
 
+-- a frame was taken and answered, and of the reply was sent what `sent` says
+abbrev pub Answering : Session → Session → Streams → Streams → (List ℕ → Type 0) → Type 0
+Answering s0 s1 p0 p1 sent =
+    (frame : List ℕ) × (bytes : List ℕ) × Takes s0 s1 p0 p1 frame bytes × sent bytes
+
 -- one turn, by its answer: true for an answered frame, false at the end
-abbrev pub Turn : Session → Session → Type 0 → Streams → Streams → Result Bool Cause → Type 0
-Turn s0 s1 stands p0 p1 (Ok true) = Quiet p0 p1 × stands × ((frame : List ℕ) × (bytes : List ℕ) × Takes s0 s1 p0 p1 frame bytes × Appends p0.sent p1.sent bytes)
-Turn s0 s1 stands p0 p1 (Ok false) = Quiet p0 p1 × stands × Idle s0 s1 p0 p1 × Stands p0.left nothing × IsAtEnd p1.left
-Turn s0 s1 stands p0 p1 (Err cause.Torn) = Quiet p0 p1 × stands × Idle s0 s1 p0 p1 × Stands p0.left part
-Turn s0 s1 stands p0 p1 (Err cause.BadLength) = Quiet p0 p1 × stands × Idle s0 s1 p0 p1 × Stands p0.left odd_length
-Turn s0 s1 stands p0 p1 (Err cause.TurnsSpent) = ⊥
-Turn s0 s1 stands p0 p1 (Err cause.Read) = ReadFailed p0 p1 × stands × Idle s0 s1 p0 p1 × TookPart p0.left p1.left
-Turn s0 s1 stands p0 p1 (Err cause.Write) = WriteFailed p0 p1 × stands × ((frame : List ℕ) × (bytes : List ℕ) × Takes s0 s1 p0 p1 frame bytes × SentFront p0.sent p1.sent bytes)
-Turn s0 s1 stands p0 p1 (Err cause.NoMemory) = Quiet p0 p1 × Keeps p0.sent p1.sent × Unanswered s0 s1 p0 p1
+abbrev pub Turn : Session → Session → Type 0 → Streams → Streams → Result Bool BridgeError → Type 0
+Turn s0 s1 stands p0 p1 (Ok true) =
+    Quiet p0 p1 × stands × Answering s0 s1 p0 p1 (λ bytes. Appends p0.sent p1.sent bytes)
+Turn s0 s1 stands p0 p1 (Ok false) =
+    Quiet p0 p1 × stands × Idle s0 s1 p0 p1 × Stands p0.left nothing × IsAtEnd p1.left
+Turn s0 s1 stands p0 p1 (Err cause.Torn) =
+    Quiet p0 p1 × stands × Idle s0 s1 p0 p1 × Stands p0.left part × IsAtEnd p1.left
+Turn s0 s1 stands p0 p1 (Err cause.BadLength) =
+    Quiet p0 p1 × stands × Idle s0 s1 p0 p1 × Stands p0.left odd_length
+    × TookExactly p0.left p1.left 4
+Turn s0 s1 stands p0 p1 (Err cause.Read) =
+    ReadFailed p0 p1 × stands × Idle s0 s1 p0 p1 × TookPart p0.left p1.left
+Turn s0 s1 stands p0 p1 (Err cause.Write) =
+    WriteFailed p0 p1 × stands × Answering s0 s1 p0 p1 (λ bytes. SentFront p0.sent p1.sent bytes)
+Turn s0 s1 stands p0 p1 (Err cause.NoMemory) =
+    Quiet p0 p1 × Keeps p0.sent p1.sent × Unanswered s0 s1 p0 p1
+Turn s0 s1 stands p0 p1 (Err _) = ⊥
 
 -- ---- a whole run
 
@@ -81,12 +96,26 @@ pub record Fronts (left : Option (List ℕ)) (turns handled : ℕ) (frames : Lis
   pub number : length frames ≡ handled
   pub first : AreFirst left turns frames
 
+-- these frames were taken, and so many bytes behind them
+abbrev pub TookMore : Option (List ℕ) → Option (List ℕ) → List (List ℕ) → ℕ → Type 0
+TookMore left0 left1 frames n =
+    (more : List ℕ) × (length more ≡ n) × Consumes left0 left1 (concat frames ++ more)
+
+-- what was taken at the end of a cut: all there was; behind the frames the four bytes of a length
+-- that no frame has, or one byte where no turn was left
+abbrev pub TookTo : End → List (List ℕ) → Option (List ℕ) → Option (List ℕ) → Type 0
+TookTo done frames left0 left1 = IsAtEnd left1
+TookTo torn frames left0 left1 = IsAtEnd left1
+TookTo bad_length frames left0 left1 = TookMore left0 left1 frames 4
+TookTo turns_spent frames left0 left1 = TookMore left0 left1 frames 1
+
 -- all the frames of the input were answered and the replies sent, and so it ends
 pub record Ended (s0 s1 : Session) (p0 p1 : Streams) (turns handled : ℕ) (end : End) : Type 0 where
   pub frames : List (List ℕ)
   pub whole : AreFrames frames
   pub number : length frames ≡ handled
   pub cut : IfSome p0.left (λ bytes. cut turns bytes ≡ record { frames = frames; end = end })
+  pub taken : TookTo end frames p0.left p1.left
   pub replies : List ℕ
   pub answered : Answered s0 s1 frames replies
   pub sent : Appends p0.sent p1.sent replies
@@ -126,38 +155,39 @@ pub record MemoryStopped (s0 s1 : Session) (p0 p1 : Streams) (turns handled : �
   pub sent : Appends p0.sent p1.sent replies
   pub after : (s1 ≡ between) ⊎ ((next : List ℕ) × AreFirst p0.left turns (frames ++ next ∷ []) × IsFrame next × LeavesPart between s1 next)
 
--- the loop stopped, by the cause
-abbrev pub HaltsBy : Session → Session → Type 0 → Streams → Streams → ℕ → ℕ → Cause → Type 0
-HaltsBy s0 s1 stands p0 p1 turns handled cause.Torn = Quiet p0 p1 × stands × Ended s0 s1 p0 p1 turns handled torn
-HaltsBy s0 s1 stands p0 p1 turns handled cause.BadLength = Quiet p0 p1 × stands × Ended s0 s1 p0 p1 turns handled bad_length
-HaltsBy s0 s1 stands p0 p1 turns handled cause.TurnsSpent = Quiet p0 p1 × stands × Ended s0 s1 p0 p1 turns handled turns_spent
-HaltsBy s0 s1 stands p0 p1 turns handled cause.Read = ReadFailed p0 p1 × stands × ReadStopped s0 s1 p0 p1 turns handled
-HaltsBy s0 s1 stands p0 p1 turns handled cause.Write = WriteFailed p0 p1 × stands × WriteStopped s0 s1 p0 p1 turns handled
-HaltsBy s0 s1 stands p0 p1 turns handled cause.NoMemory = Quiet p0 p1 × MemoryStopped s0 s1 p0 p1 turns handled
+-- all the frames of the cut were answered and the replies sent, and no stream failed
+abbrev pub EndsQuietly : Session → Session → Type 0 → Streams → Streams → ℕ → ℕ → End → Type 0
+EndsQuietly s0 s1 stands p0 p1 turns handled end =
+    Quiet p0 p1 × stands × Ended s0 s1 p0 p1 turns handled end
 
--- all frames were answered and the replies sent, and nothing of the input is left
-abbrev pub Completes : Session → Session → Type 0 → Streams → Streams → ℕ → ℕ → Type 0
-Completes s0 s1 stands p0 p1 turns handled = Quiet p0 p1 × stands × IsAtEnd p1.left × Ended s0 s1 p0 p1 turns handled done
+-- a run stopped, by the cause; it is stopped by no other
+abbrev pub StopsBy : Session → Session → Type 0 → Streams → Streams → ℕ → ℕ → BridgeError → Type 0
+StopsBy s0 s1 stands p0 p1 turns handled cause.Torn =
+    EndsQuietly s0 s1 stands p0 p1 turns handled torn
+StopsBy s0 s1 stands p0 p1 turns handled cause.BadLength =
+    EndsQuietly s0 s1 stands p0 p1 turns handled bad_length
+StopsBy s0 s1 stands p0 p1 turns handled cause.TurnsSpent =
+    EndsQuietly s0 s1 stands p0 p1 turns handled turns_spent
+StopsBy s0 s1 stands p0 p1 turns handled cause.Read =
+    ReadFailed p0 p1 × stands × ReadStopped s0 s1 p0 p1 turns handled
+StopsBy s0 s1 stands p0 p1 turns handled cause.Write =
+    WriteFailed p0 p1 × stands × WriteStopped s0 s1 p0 p1 turns handled
+StopsBy s0 s1 stands p0 p1 turns handled cause.NoMemory =
+    Quiet p0 p1 × MemoryStopped s0 s1 p0 p1 turns handled
+StopsBy s0 s1 stands p0 p1 turns handled _ = ⊥
 
 -- the loop, by its answer
 abbrev pub Loops : Session → Session → Type 0 → Streams → Streams → ℕ → Result ℕ Halt → Type 0
-Loops s0 s1 stands p0 p1 turns (Ok handled) = Completes s0 s1 stands p0 p1 turns handled
-Loops s0 s1 stands p0 p1 turns (Err halt) = HaltsBy s0 s1 stands p0 p1 turns halt.handled halt.cause
-
--- a run stopped, by the cause that is told outside
-abbrev pub StopsBy : Session → Session → Type 0 → Streams → Streams → ℕ → ℕ → PumpError → Type 0
-StopsBy s0 s1 stands p0 p1 turns handled error.Torn = Quiet p0 p1 × stands × Ended s0 s1 p0 p1 turns handled torn
-StopsBy s0 s1 stands p0 p1 turns handled error.BadLength = Quiet p0 p1 × stands × Ended s0 s1 p0 p1 turns handled bad_length
-StopsBy s0 s1 stands p0 p1 turns handled error.TurnsSpent = Quiet p0 p1 × stands × Ended s0 s1 p0 p1 turns handled turns_spent
-StopsBy s0 s1 stands p0 p1 turns handled error.Read = ReadFailed p0 p1 × stands × ReadStopped s0 s1 p0 p1 turns handled
-StopsBy s0 s1 stands p0 p1 turns handled error.Write = WriteFailed p0 p1 × stands × WriteStopped s0 s1 p0 p1 turns handled
-StopsBy s0 s1 stands p0 p1 turns handled error.NoMemory = Quiet p0 p1 × MemoryStopped s0 s1 p0 p1 turns handled
-StopsBy s0 s1 stands p0 p1 turns handled (error.Attach errno) = ⊥
+Loops s0 s1 stands p0 p1 turns (Ok handled) = EndsQuietly s0 s1 stands p0 p1 turns handled done
+Loops s0 s1 stands p0 p1 turns (Err halt) =
+    StopsBy s0 s1 stands p0 p1 turns halt.handled halt.cause
 
 -- a run, by its answer
 abbrev pub RunsBy : Session → Session → Type 0 → Streams → Streams → ℕ → Result Pumped Stopped → Type 0
-RunsBy s0 s1 stands p0 p1 turns (Ok told) = (told.nine_frames ≡ s1.sent) × Completes s0 s1 stands p0 p1 turns told.handled
-RunsBy s0 s1 stands p0 p1 turns (Err told) = (told.nine_frames ≡ s1.sent) × StopsBy s0 s1 stands p0 p1 turns told.handled told.cause
+RunsBy s0 s1 stands p0 p1 turns (Ok told) =
+    (told.nine_frames ≡ s1.sent) × EndsQuietly s0 s1 stands p0 p1 turns told.handled done
+RunsBy s0 s1 stands p0 p1 turns (Err told) =
+    (told.nine_frames ≡ s1.sent) × StopsBy s0 s1 stands p0 p1 turns told.handled told.cause
 
 -- a run: what always holds, and the answer
 pub record Runs (s0 s1 : Session) (stands : Type 0) (p0 p1 : Streams) (turns : ℕ) (result : Result Pumped Stopped) : Type 0 where

@@ -25,9 +25,12 @@ pub trait Answerer<N> {
         requires frame { IsFrame frame.now }
         requires stands { stands self.old below.old }
         ensures stands { OnOk result (stands self.new below.new) }
-        ensures ok { OnOk result (AppendsAnswer (session self.old below.old) (session self.new below.new) frame.now reply.old.items reply.new.items) }
+        ensures ok { OnOk result (AppendsAnswer
+            (session self.old below.old) (session self.new below.new)
+            frame.now reply.old.items reply.new.items) }
         ensures err { OnErr result (reply.new.items ≡ reply.old.items) }
-        ensures part { OnErr result (LeavesPart (session self.old below.old) (session self.new below.new) frame.now) }
+        ensures part { OnErr result (LeavesPart
+            (session self.old below.old) (session self.new below.new) frame.now) }
         ensures kept { kept self.new below.new ≡ kept self.old below.old };
 
     /// How many messages it sent to what stands below, up to 2^64 - 1.

@@ -6,7 +6,7 @@ ghost use Rattle.frame_pump.specs.Turns.{AreFirst};
 
 /// A count goes up by what is counted, and stays at its greatest once there.
 #[tactic(auto, using(crate::proofs::Sampling::not_less))]
-pub fn counting()
+fn counting()
     ensures up { Counted 2 3 5 }
     ensures not_less { Counted 2 3 4 → ⊥ }
     ensures to_greatest { Counted (2 ^ 64 - 2) 5 (2 ^ 64 - 1) }
@@ -18,7 +18,7 @@ pub fn counting()
 
 /// The first of two frames of an input; where an input doesn't tell its bytes, nothing is said.
 #[tactic(auto, using(crate::proofs::Sampling::first_frame, crate::proofs::Sampling::first_of_one_turn))]
-pub fn first_frames()
+fn first_frames()
     ensures none { AreFirst (Some (least ++ least)) 9 [] }
     ensures first { AreFirst (Some (least ++ least)) 9 (least ∷ []) }
     ensures one_turn { AreFirst (Some (least ++ 1 ∷ [])) 1 (least ∷ []) }

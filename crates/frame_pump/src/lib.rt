@@ -2,7 +2,7 @@
 #![tactic(auto)]
 
 pub mod answerer;
-pub mod examples;
+mod examples;
 pub mod laws;
 pub mod outcome;
 pub mod run;

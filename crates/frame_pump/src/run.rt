@@ -1,18 +1,19 @@
 //! The loop over the frames of a source.
 ghost use Rattle.std.specs.Prelude.{◌≡◌};
-ghost use Rattle.frame_pump.specs.Turns.{Sends, Turn, Loops, Runs};
+ghost use Rattle.frame_pump.specs.Turns.{Sends, Turn, Loops, Runs, streams};
 
 use crate::answerer::Answerer;
-use crate::outcome::{Cause, Halt, Pumped, Stopped};
-use fuse_wire::frames::{Next, NextError, next_frame};
+use crate::outcome::{BridgeError, Halt, Pumped, Stopped};
+use fuse_wire::frames::{Next, next_frame};
 use port_base::sink::{Sink, SinkFault, write_all};
 use port_base::source::{Source, read_full};
 use std::alloc::Global;
 
-// Sends a whole reply, or a front of it. Its room is reserved first, so that no part of it is sent where there
-// is no memory.
+// Sends a whole reply, or a front of it. Its room is reserved first, so that no part of it is sent where
+// there is no memory.
 fn send_reply<K: Sink>(out: &mut K, reply: &[u8]) -> Result<(), SinkFault>
-    ensures sends { Sends (K.sent out.old) (K.sent out.new) (K.faults out.old) (K.faults out.new) reply.now result }
+    ensures sends { Sends
+        (K.sent out.old) (K.sent out.new) (K.faults out.old) (K.faults out.new) reply.now result }
     ensures kept { K.kept out.new ≡ K.kept out.old }
 {
     if out.reserve(reply.len()).is_err() {
@@ -36,34 +37,29 @@ fn turn<A: Answerer<N>, N, S: Source, K: Sink>(
     out: &mut K,
     frame: &mut Vec<u8>,
     reply: &mut Vec<u8>,
-) -> Result<bool, Cause>
+) -> Result<bool, BridgeError>
     requires { A.stands answerer.old below.old }
-    ensures turn { Turn (A.session answerer.old below.old) (A.session answerer.new below.new) (A.stands answerer.new below.new)
-        (record { left = S.left input.old; sent = K.sent out.old; read_faults = S.faults input.old; write_faults = K.faults out.old })
-        (record { left = S.left input.new; sent = K.sent out.new; read_faults = S.faults input.new; write_faults = K.faults out.new }) result }
+    ensures turn { Turn
+        (A.session answerer.old below.old) (A.session answerer.new below.new)
+        (A.stands answerer.new below.new)
+        (streams (S.left input.old) (K.sent out.old) (S.faults input.old) (K.faults out.old))
+        (streams (S.left input.new) (K.sent out.new) (S.faults input.new) (K.faults out.new))
+        result }
     ensures kept { A.kept answerer.new below.new ≡ A.kept answerer.old below.old }
     ensures input { S.kept input.new ≡ S.kept input.old }
     ensures lender { S.lender input.new ≡ S.lender input.old }
     ensures output { K.kept out.new ≡ K.kept out.old }
 {
-    match next_frame(input, frame) {
-        Ok(Next::Frame) => {}
-        Ok(Next::AtEnd) => return Ok(false),
-        Ok(Next::Part) => return Err(Cause::Torn),
-        Ok(Next::OddLength) => return Err(Cause::BadLength),
-        Err(NextError::Read) => return Err(Cause::Read),
-        Err(NextError::NoMemory) => return Err(Cause::NoMemory),
+    match next_frame(input, frame)? {
+        Next::Frame => {}
+        Next::AtEnd => return Ok(false),
+        Next::Part => return Err(BridgeError::Torn),
+        Next::OddLength => return Err(BridgeError::BadLength),
     }
     reply.clear();
-    match answerer.answer(below, frame, reply) {
-        Ok(()) => {}
-        Err(_) => return Err(Cause::NoMemory),
-    }
-    match send_reply(out, reply) {
-        Ok(()) => Ok(true),
-        Err(SinkFault::Failed) => Err(Cause::Write),
-        Err(SinkFault::NoMemory) => Err(Cause::NoMemory),
-    }
+    answerer.answer(below, frame, reply)?;
+    send_reply(out, reply)?;
+    Ok(true)
 }
 
 // Answers the frames of the input, at most so many, and returns how many there were.
@@ -76,9 +72,12 @@ fn handle_frames<A: Answerer<N>, N, S: Source, K: Sink>(
     turns: u32,
 ) -> Result<u32, Halt>
     requires { A.stands answerer.old below.old }
-    ensures loops { Loops (A.session answerer.old below.old) (A.session answerer.new below.new) (A.stands answerer.new below.new)
-        (record { left = S.left input.old; sent = K.sent out.old; read_faults = S.faults input.old; write_faults = K.faults out.old })
-        (record { left = S.left input.new; sent = K.sent out.new; read_faults = S.faults input.new; write_faults = K.faults out.new }) turns result }
+    ensures loops { Loops
+        (A.session answerer.old below.old) (A.session answerer.new below.new)
+        (A.stands answerer.new below.new)
+        (streams (S.left input.old) (K.sent out.old) (S.faults input.old) (K.faults out.old))
+        (streams (S.left input.new) (K.sent out.new) (S.faults input.new) (K.faults out.new))
+        turns result }
     ensures kept { A.kept answerer.new below.new ≡ A.kept answerer.old below.old }
     ensures input { S.kept input.new ≡ S.kept input.old }
     ensures lender { S.lender input.new ≡ S.lender input.old }
@@ -100,13 +99,13 @@ fn handle_frames<A: Answerer<N>, N, S: Source, K: Sink>(
                 Ok(turns)
             } else {
                 Err(Halt {
-                    cause: Cause::TurnsSpent,
+                    cause: BridgeError::TurnsSpent,
                     handled: turns,
                 })
             }
         }
         Err(_) => Err(Halt {
-            cause: Cause::Read,
+            cause: BridgeError::Read,
             handled: turns,
         }),
     }
@@ -125,9 +124,12 @@ pub fn run_frames<A: Answerer<N>, N, S: Source, K: Sink>(
     turns: u32,
 ) -> Result<Pumped, Stopped>
     requires { A.stands answerer.old below.old }
-    ensures runs { Runs (A.session answerer.old below.old) (A.session answerer.new below.new) (A.stands answerer.new below.new)
-        (record { left = S.left input.old; sent = K.sent out.old; read_faults = S.faults input.old; write_faults = K.faults out.old })
-        (record { left = S.left input.new; sent = K.sent out.new; read_faults = S.faults input.new; write_faults = K.faults out.new }) turns result }
+    ensures runs { Runs
+        (A.session answerer.old below.old) (A.session answerer.new below.new)
+        (A.stands answerer.new below.new)
+        (streams (S.left input.old) (K.sent out.old) (S.faults input.old) (K.faults out.old))
+        (streams (S.left input.new) (K.sent out.new) (S.faults input.new) (K.faults out.new))
+        turns result }
     ensures kept { A.kept answerer.new below.new ≡ A.kept answerer.old below.old }
     ensures input { S.kept input.new ≡ S.kept input.old }
     ensures lender { S.lender input.new ≡ S.lender input.old }
@@ -141,7 +143,7 @@ pub fn run_frames<A: Answerer<N>, N, S: Source, K: Sink>(
             nine_frames,
         }),
         Err(halt) => Err(Stopped {
-            cause: halt.cause.told(),
+            cause: halt.cause,
             handled: halt.handled,
             nine_frames,
         }),

@@ -1,17 +1,17 @@
 ghost use Rattle.std.specs.Prelude.{◌≡◌, ◌++◌, false, [], OnOk, OnErr};
 ghost use Rattle.port_base.specs.declared.errno.TheConstants.{EIO};
 ghost use Rattle.fuse_wire.specs.Cuts.{IsFrame};
-ghost use Rattle.tree_machine.specs.Core.Reply.{Refused};
-ghost use Rattle.tree_machine.specs.Step.{answer_bytes};
+ghost use Rattle.tree_machine.specs.Replies.{answer_bytes};
+ghost use Rattle.tree_machine.specs.Replies.Reply.{Refused};
 ghost use Rattle.std.specs.FinMap as map;
 ghost use Rattle.tree_machine.specs.State.{begun};
 
 use crate::answerer::Answerer;
-use crate::outcome::{PumpError, Pumped, Stopped};
+use crate::outcome::{BridgeError, Pumped, Stopped};
 use crate::run::run_frames;
 use fuse_wire::head::Head;
 use fuse_wire::ids::{Errno, RequestId};
-use fuse_wire::opcode::{FUSE_BATCH_FORGET, FUSE_FORGET, FUSE_INTERRUPT};
+use fuse_wire::opcode::is_silent;
 use fuse_wire::reply::{OUT_HEADER_SIZE, reply_error};
 use port_base::errno::EIO;
 use port_base::memory::{MemSink, SliceSource};
@@ -31,14 +31,10 @@ fn reply_failed(frame: &[u8], reply: &mut Vec<u8>) -> Result<(), NoMemory>
     ensures err { OnErr result (reply.new.items ≡ reply.old.items) }
 {
     let head = Head::read(frame);
-    match head.opcode {
-        FUSE_FORGET | FUSE_INTERRUPT | FUSE_BATCH_FORGET => return Ok(()),
-        _ => {}
+    if is_silent(head.opcode) {
+        return Ok(());
     }
-    match reply.reserve(OUT_HEADER_SIZE) {
-        Ok(()) => {}
-        Err(_) => return Err(NoMemory),
-    }
+    reply.reserve(OUT_HEADER_SIZE).map_err(|_| NoMemory)?;
     reply_error(reply, RequestId(head.unique), Errno(EIO));
     Ok(())
 }
@@ -83,6 +79,7 @@ const INPUT: [u8; 85] = [
     0, 0, 0, 0, 0, 0, 0, 0, 0, 0, 0, 0, 0, 0, 0, 0, 0, 0, 0, 39, 0, 0, 0,
 ];
 
+// The errors of both requests.
 const REPLIES: [u8; 32] = [
     16, 0, 0, 0, 0xfb, 0xff, 0xff, 0xff, 7, 0, 0, 0, 0, 0, 0, 0, 16, 0, 0, 0, 0xfb, 0xff, 0xff,
     0xff, 8, 0, 0, 0, 0, 0, 0, 0,
@@ -95,12 +92,12 @@ fn each_end_of_the_input(rt: HostRuntime) -> Result<(), Fail> {
         (0, 0, 0, None),
         (81, 2, 2, None),
         (81, 9, 2, None),
-        (85, 9, 2, Some(PumpError::BadLength)),
-        (84, 9, 2, Some(PumpError::Torn)),
-        (80, 9, 1, Some(PumpError::Torn)),
-        (43, 9, 1, Some(PumpError::Torn)),
-        (40, 0, 0, Some(PumpError::TurnsSpent)),
-        (81, 1, 1, Some(PumpError::TurnsSpent)),
+        (85, 9, 2, Some(BridgeError::BadLength)),
+        (84, 9, 2, Some(BridgeError::Torn)),
+        (80, 9, 1, Some(BridgeError::Torn)),
+        (43, 9, 1, Some(BridgeError::Torn)),
+        (40, 0, 0, Some(BridgeError::TurnsSpent)),
+        (81, 1, 1, Some(BridgeError::TurnsSpent)),
     ];
     for (size, turns, handled, end) in cases {
         let mut answerer = Failing { failed: 0 };
@@ -129,5 +126,14 @@ fn each_end_of_the_input(rt: HostRuntime) -> Result<(), Fail> {
         assert_eq!(rt; told, want);
         assert_eq!(rt; out.as_bytes(), &REPLIES[..16 * handled as usize]);
     }
+    Ok(())
+}
+
+#[test]
+fn causes_are_printed(rt: HostRuntime) -> Result<(), Fail> {
+    let spent = BridgeError::TurnsSpent.to_string(rt.alloc())?;
+    assert_eq!(rt; spent.as_str(), "the input has more frames than turns");
+    let refused = BridgeError::Attach(20).to_string(rt.alloc())?;
+    assert_eq!(rt; refused.as_str(), "the share's root was refused, errno 20");
     Ok(())
 }

@@ -1,5 +1,5 @@
 -- The beginning of a session.
-use Rattle.std.proofs.Common.{◌≡◌, ◌≢◌, ◌⊎◌, ℕ, ◌+◌, ◌-◌, ◌≤◌, ◌^◌, Bool, true, false, cond, ◌||◌, refl, sym, ap, ◌∙◌, subst, Option, Some, None, Result, Ok, Err, arith, IsSome, is_some, min, nat_le, nat_lt, inl, inr, ⊎_elim}
+use Rattle.std.proofs.Common.{◌≡◌, ◌≢◌, ◌⊎◌, ℕ, ◌+◌, ◌≤◌, Bool, true, false, cond, ◌||◌, refl, sym, ap, ◌∙◌, subst, Option, Some, None, Result, Ok, Err, arith, IsSome, is_some, nat_le, nat_lt, inl, inr, ⊎_elim}
 use Rattle.std.specs.Prelude.{option_map}
 use Rattle.std.proofs.lemmas.Bool.{cases_eq}
 use Rattle.std.proofs.lemmas.Bool.Decides.{nat_tests}
@@ -9,31 +9,34 @@ use Rattle.std.specs.FinMap as map
 use Rattle.std.specs.FinMap.{FinMap, get, insert, len, retain_keys, len-insert, get-empty}
 use Rattle.port_base.specs.Faults.{Rose}
 use Rattle.port_base.specs.declared.errno.TheConstants.{EIO, ENFILE}
-use Rattle.tree_model.specs.Tree.{Tree, Record, Records, is_linked, keep, linked, top}
+use Rattle.tree_model.specs.Tree.{Tree, Record, Records, is_linked, keep, linked}
+use Rattle.tree_model.specs.declared.attributes.TheConstants.{TOP}
+use Rattle.fuse_wire.specs.declared.protocol.TheConstants.{FUSE_ROOT_ID}
 use Rattle.tree_model.specs.Good.{IsGoodTree}
 use Rattle.tree_model.specs.Finding.{root_of}
 use Rattle.tree_model.specs.Attributes.{Qid, attr_or_missing}
 use Rattle.tree_model.specs.Settings.{Settings}
 use Rattle.tree_model.proofs.Keeping.{retained-is_linked}
 use Rattle.tree_model.proofs.Maps.{inserted, insert_keeps, retained, same_gets}
-use Rattle.tree_machine.specs.State.{Node as MachineNode, begun, ROOT_NODE}
+use Rattle.tree_machine.specs.State.{Node as MachineNode, begun}
 use Rattle.tree_machine.specs.Good.{IsGoodMachine}
 use Rattle.tree_machine.proofs.Begun.{begun_good, root_is_directory, stored_by}
 use Rattle.fid_model.specs.Fids.{ServerState, Fid, Fids, fid_count, is_held, cleared, closed, IsGoodServer}
 use Rattle.fid_model.specs.Answers.{qid_at, qid_told}
-use Rattle.fid_model.specs.Asked.{Asks, named, attach_told}
+use Rattle.fid_model.specs.Calls.{named, attach_told}
+use Rattle.fid_model.specs.Moments.{Moment, AskedOne}
 use Rattle.fid_model.proofs.FidCounts.{fid_count-few}
 use Rattle.p9_wire.specs.declared.qid.Qid.{Qid as QidStruct}
 use Rattle.p9_wire.specs.Qids.{qid_of}
-use Rattle.p9_client.specs.Views.{qid_answer}
 use Rattle.fuse_gate.specs.Mapped.{mapped}
 use Rattle.fuse_gate.specs.Standing.{ArePaired, machine_of, node_of, handle_of, phase_of, fid_at}
-use Rattle.fuse_gate.specs.Attaching.{Attaches, AttachedBy, Begins, IsCleared, IsGateAt, IsRefusal, refusal, root_told}
+use Rattle.fuse_gate.specs.Attaching.{AttachedBy, Begins, IsCleared, IsGateAt, IsRefusal, refusal, root_told}
 use Rattle.fuse_gate.specs.declared.gate.TheConstants.{LEAST_MSIZE}
 use Rattle.fuse_gate.specs.declared.gate.Node.{Node}
 use Rattle.fuse_gate.specs.declared.gate.Handle.{Handle}
 use Rattle.fuse_gate.specs.declared.gate.Gate.{Gate}
 use Rattle.fuse_gate.specs.declared.gate.attach.AttachError.TheVariants.{Errno, NoMemory}
+use Rattle.fuse_gate.proofs.Asking.{Tells, pair}
 use Rattle.fuse_gate.proofs.MappedLemmas.{get-mapped, mapped-insert}
 
 -- ---- nothing is held where there is no fid
@@ -58,7 +61,7 @@ cond_twice : (b c : Bool) (o : Option Record) → c ≡ b → cond c (cond b o N
 cond_twice true c o same = ap (λ x. cond x o None) same
 cond_twice false c o same = ap (λ x. cond x None None) same
 
-linked_twice : (t : Tree) → IsGoodTree t → linked (linked t) ≡ linked t
+pub linked_twice : (t : Tree) → IsGoodTree t → linked (linked t) ≡ linked t
 linked_twice t g = ap (λ (rs : Records). let u : Tree = record t { records = rs } in u) (same_gets _ _ (λ q.
     retained (linked t).records (is_linked (linked t).records) q
     ∙ ap (λ o. cond (is_linked (linked t).records q) o None) (retained t.records (is_linked t.records) q)
@@ -91,10 +94,16 @@ positive n t = grind (arith, nat_tests)
 
 -- ---- what an attach answers
 
-abbrev pair : Result Qid ℕ → ServerState → Result Qid ℕ × ServerState
-pair r s = (r, s)
+module _ (n0 n n1 : Moment) (is : n.state ≡ cleared n0.state) where
+  abbrev s0 : ServerState
+  s0 = n0.state
 
-module _ (s0 s s1 : ServerState) (is : s ≡ cleared s0) where
+  abbrev s : ServerState
+  s = n.state
+
+  abbrev s1 : ServerState
+  s1 = n1.state
+
   tree_is : s.tree ≡ linked s0.tree
   tree_is = ap (λ (x : ServerState). x.tree) is ∙ keep_none s0.tree
 
@@ -133,57 +142,51 @@ module _ (s0 s s1 : ServerState) (is : s ≡ cleared s0) where
       (λ told. inl (told ∙ ap Err (sym same)))
       (λ k. inr (k.0, same ∙ k.1, positive s0.settings.limit is)) h
 
-  module _ (d e f0 f f1 a0 a a1 limit : ℕ) (same_faults : f ≡ f0) (same_asked : a ≡ a0) (counted : a1 ≡ min (a + 1) (2 ^ 64 - 1)) (fixed : s1.settings ≡ s.settings) (told_limit : limit ≡ s1.settings.limit) (told_errno : e ≡ refusal limit d) where
+  module _ (d e limit : ℕ) (same_faults : n.faults ≡ n0.faults) (same_asked : n.asked ≡ n0.asked) (counted : AskedOne n n1) (fixed : s1.settings ≡ s.settings) (told_limit : limit ≡ s1.settings.limit) (told_errno : e ≡ refusal limit d) where
     errno_is : e ≡ refusal s0.settings.limit d
     errno_is = told_errno ∙ ap (λ n. refusal n d) (told_limit ∙ ap (λ (x : Settings). x.limit) (fixed ∙ settings_is))
 
-    refused : (root_told s0 ≡ Err d) ⊎ (Rose f0 f1 × (d ≡ EIO)) → IsRefusal s0 f0 f1 e
-    refused h = refusal_by (nat_le s0.settings.limit 0) refl d e f0 f1 errno_is h
+    refused : (root_told s0 ≡ Err d) ⊎ (Rose n0.faults n1.faults × (d ≡ EIO)) → IsRefusal s0 n0.faults n1.faults e
+    refused h = refusal_by (nat_le s0.settings.limit 0) refl d e n0.faults n1.faults errno_is h
 
-    by_asks : Asks (attach_told s 1) (Err d) s s1 f f1 → AttachedBy s0 s1 f0 f1 a0 a1 (Err (Errno e))
-    by_asks asks = ⊎_elim
-        (λ h. let w = refused_by (nat_le s.settings.limit 0) (root_of s.tree s.settings.root) d h in (cleared_by w.0, refused (inl (sym told_is ∙ w.1)), omega arith))
-        (λ k. (cleared_by k.2, refused (inr (subst (λ n. Rose n f1) same_faults k.0, (let q = k.1 in cc))), omega arith)) asks
-
-    pub attach_refused : (r : Result QidStruct ℕ) → r ≡ Err d → Asks (attach_told s 1) (qid_answer r) s s1 f f1 → Attaches s0 s1 f0 f1 a0 a1 (Err (Errno e))
-    attach_refused r answered asks = record {
-      fixed = fixed ∙ settings_is;
-      answer = by_asks (subst (λ (x : Result QidStruct ℕ). Asks (attach_told s 1) (qid_answer x) s s1 f f1) answered asks);
-    }
+    pub attach_refused : (r : Result Qid ℕ) → r ≡ Err d → Tells (attach_told s 1) r n n1 → AttachedBy n0 n1 (Err (Errno e))
+    attach_refused r answered tells = ⊎_elim
+        (λ h. let w = refused_by (nat_le s.settings.limit 0) (root_of s.tree s.settings.root) d (ap (λ x. pair x s1) (sym answered) ∙ h) in (cleared_by w.0, refused (inl (sym told_is ∙ w.1)), omega arith))
+        (λ k.
+        let same : Err d ≡ Err EIO = sym answered ∙ k.1 in
+        (cleared_by k.2, refused (inr (subst (λ f. Rose f n1.faults) same_faults k.0, cc)), omega arith))
+        tells
 
   attached_by : (b : Bool) (r : Result ℕ ℕ) (q : Qid) → pair (Ok q) s1 ≡ told_by b r → (i : ℕ) × (b ≡ false) × (r ≡ Ok i) × (q ≡ qid_at s.tree i) × (s1 ≡ record s { fids = insert s.fids 1 (closed i) })
   attached_by true r q h = absurd (let clash : Ok q ≡ Err ENFILE = ap (λ (x : Result Qid ℕ × ServerState). x.0) h in cc)
   attached_by false (Ok i) q h = (i, refl, refl, (let e : Ok q ≡ Ok (qid_at s.tree i) = ap (λ (x : Result Qid ℕ × ServerState). x.0) h in (let same : q ≡ qid_at s.tree i = cc in same)), ap (λ (x : Result Qid ℕ × ServerState). x.1) h)
   attached_by false (Err d) q h = absurd (let clash : Ok q ≡ Err d = ap (λ (x : Result Qid ℕ × ServerState). x.0) h in cc)
 
-  found_by : (r : Result QidStruct ℕ) (q : QidStruct) (f f1 : ℕ) → r ≡ Ok q → Asks (attach_told s 1) (qid_answer r) s s1 f f1
-      → (i : ℕ) × (nat_le s.settings.limit 0 ≡ false) × (root_of s.tree s.settings.root ≡ Ok i) × (qid_of q ≡ qid_at s.tree i) × (s1 ≡ record s { fids = insert s.fids 1 (closed i) })
-  found_by r q f f1 answered asks = ⊎_elim
-      (λ h. attached_by (nat_le s.settings.limit 0) (root_of s.tree s.settings.root) (qid_of q) h)
-      (λ k. absurd (let clash : Ok (qid_of q) ≡ Err EIO = k.1 in cc))
-      (let here : Asks (attach_told s 1) (Ok (qid_of q)) s s1 f f1 = subst (λ (x : Result QidStruct ℕ). Asks (attach_told s 1) (qid_answer x) s s1 f f1) answered asks in here)
+  found_by : (r : Result Qid ℕ) (q : Qid) → r ≡ Ok q → Tells (attach_told s 1) r n n1
+      → (i : ℕ) × (nat_le s.settings.limit 0 ≡ false) × (root_of s.tree s.settings.root ≡ Ok i) × (q ≡ qid_at s.tree i) × (s1 ≡ record s { fids = insert s.fids 1 (closed i) })
+  found_by r q answered tells = ⊎_elim
+      (λ h. attached_by (nat_le s.settings.limit 0) (root_of s.tree s.settings.root) q (ap (λ x. pair x s1) (sym answered) ∙ h))
+      (λ k. absurd (let clash : Ok q ≡ Err EIO = sym answered ∙ k.1 in cc))
+      tells
 
-  -- ---- want of memory, after which the fids are taken away once more
+  -- ---- no memory, after which the fids are taken away once more
 
-  module _ (good : IsGoodServer s0) (s2 : ServerState) (over : s2 ≡ cleared s1) where
-    pub attach_unfinished : (f0 f1 a0 a1 : ℕ) → s1.tree ≡ s.tree → s1.settings ≡ s.settings → Attaches s0 s2 f0 f1 a0 a1 (Err NoMemory)
-    attach_unfinished f0 f1 a0 a1 same fixed = record {
-      fixed = ap (λ (x : ServerState). x.settings) over ∙ fixed ∙ settings_is;
-      answer = record {
-        fids = ap (λ (x : ServerState). x.fids) over;
-        tree = ap (λ (x : ServerState). x.tree) over ∙ keep_none s1.tree ∙ ap linked (same ∙ tree_is) ∙ linked_twice s0.tree good.tree;
-      };
+  module _ (good : IsGoodServer s0) (n2 : Moment) (over : n2.state ≡ cleared s1) where
+    pub attach_unfinished : s1.tree ≡ s.tree → AttachedBy n0 n2 (Err NoMemory)
+    attach_unfinished same = record {
+      fids = ap (λ (x : ServerState). x.fids) over;
+      tree = ap (λ (x : ServerState). x.tree) over ∙ keep_none s1.tree ∙ ap linked (same ∙ tree_is) ∙ linked_twice s0.tree good.tree;
     }
 
-    pub attach_wanting : (r : Result QidStruct ℕ) (q : QidStruct) (f fm f0 f1 a0 a1 : ℕ) → r ≡ Ok q → Asks (attach_told s 1) (qid_answer r) s s1 f fm → s1.settings ≡ s.settings → Attaches s0 s2 f0 f1 a0 a1 (Err NoMemory)
-    attach_wanting r q f fm f0 f1 a0 a1 answered asks fixed = attach_unfinished f0 f1 a0 a1 (ap (λ (x : ServerState). x.tree) (found_by r q f fm answered asks).4) fixed
+    pub attach_wanting : (r : Result Qid ℕ) (q : Qid) → r ≡ Ok q → Tells (attach_told s 1) r n n1 → AttachedBy n0 n2 (Err NoMemory)
+    attach_wanting r q answered tells = attach_unfinished (ap (λ (x : ServerState). x.tree) (found_by r q answered tells).4)
 
   -- ---- the gate over the root
 
   module _ (good : IsGoodServer s) (roomy : LEAST_MSIZE ≤ s0.msize) (q : QidStruct) (g : Gate) (h : IsGateAt q.path q.ty g) (i : ℕ) (few : nat_le s.settings.limit 0 ≡ false) (found : root_of s.tree s.settings.root ≡ Ok i)
       (named_it : qid_of q ≡ qid_at s.tree i) (state : s1 ≡ record s { fids = insert s.fids 1 (closed i) }) where
     stored : IsSome (get s.tree.records i)
-    stored = stored_by (get s.tree.records i) (root_is_directory s.tree s.settings.root (Ok top) i found)
+    stored = stored_by (get s.tree.records i) (root_is_directory s.tree s.settings.root (Ok TOP) i found)
 
     path_is : q.path ≡ i
     path_is = ap (λ (x : Qid). x.1.1) named_it ∙ by_record (get s.tree.records i) refl stored where
@@ -220,7 +223,7 @@ module _ (s0 s s1 : ServerState) (is : s ≡ cleared s0) where
       handle_kinds = λ id k r at there. absurd (let clash : None ≡ Some k = sym (no_handle id) ∙ at in cc);
     }
 
-    nodes_is : mapped node_of g.nodes ≡ insert map.empty ROOT_NODE (record { ino = i; count = 1 })
+    nodes_is : mapped node_of g.nodes ≡ insert map.empty FUSE_ROOT_ID (record { ino = i; count = 1 })
     nodes_is = ap (mapped node_of) h.nodes ∙ mapped-insert node_of map.empty 1 root_node ∙ ap (λ (m : FinMap nat_cmp MachineNode). insert m 1 (node_of root_node)) (mapped-empty node_of)
         ∙ ap (λ (k : ℕ). insert map.empty 1 (let v : MachineNode = record { ino = k; count = 1 } in v)) path_is
 
@@ -252,8 +255,8 @@ module _ (s0 s s1 : ServerState) (is : s ≡ cleared s0) where
           frames = h.frames;
         }
 
-  pub attach_made : IsGoodServer s → LEAST_MSIZE ≤ s0.msize → (r : Result QidStruct ℕ) (q : QidStruct) (g : Gate) (f0 f f1 a0 a a1 : ℕ) → r ≡ Ok q → a ≡ a0 → Asks (attach_told s 1) (qid_answer r) s s1 f f1 → a1 ≡ min (a + 1) (2 ^ 64 - 1) → s1.settings ≡ s.settings
-      → IsGateAt q.path q.ty g → Attaches s0 s1 f0 f1 a0 a1 (Ok g)
-  attach_made good roomy r q g f0 f f1 a0 a a1 answered same_asked asks counted fixed h =
-      let w = found_by r q f f1 answered asks in
-      record { fixed = fixed ∙ settings_is; answer = (begins good roomy q g h w.0 w.1 w.2 w.3 w.4, omega arith) }
+  pub attach_made : IsGoodServer s → LEAST_MSIZE ≤ s0.msize → (r : Result Qid ℕ) (q : QidStruct) (g : Gate) → r ≡ Ok (qid_of q) → n.asked ≡ n0.asked → Tells (attach_told s 1) r n n1 → AskedOne n n1
+      → IsGateAt q.path q.ty g → AttachedBy n0 n1 (Ok g)
+  attach_made good roomy r q g answered same_asked tells counted h =
+      let w = found_by r (qid_of q) answered tells in
+      (begins good roomy q g h w.0 w.1 w.2 w.3 w.4, omega arith)

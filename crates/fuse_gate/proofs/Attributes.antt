@@ -1,112 +1,59 @@
 -- GETATTR.
-use Rattle.std.proofs.Common.{◌≡◌, ℕ, ◌+◌, ◌-◌, ◌^◌, refl, sym, ap, ◌∙◌, subst, min, Option, Some, None, Result, Ok, Err, arith, ⊎_elim, is_some, true, false}
-use Rattle.std.specs.Prelude.{option_map}
-use Rattle.std.proofs.lemmas.Bool.{false≢true}
+use Rattle.std.proofs.Common.{◌≡◌, ℕ, ◌≤◌, refl, sym, ap, ◌∙◌, Option, Some, None, Result, Ok, Err}
 use Rattle.std.specs.FinMap.{get}
 use Rattle.port_base.specs.declared.errno.TheConstants.{EBADF, ESTALE}
 use Rattle.tree_model.specs.declared.attributes.Attr.{Attr}
 use Rattle.fuse_wire.specs.declared.attr.FileAttr.{FileAttr}
-use Rattle.tree_machine.specs.State.{MachineState}
-use Rattle.tree_machine.specs.Core.{Reply as MachineReply, getattr_node, getattr_handle, attr_reply, shown_at}
-use Rattle.tree_machine.specs.Messages.{one_where}
-use Rattle.fid_model.specs.Fids.{ServerState, Fid, IsGoodServer}
-use Rattle.fid_model.specs.Asked.{Asks, getattr_told}
-use Rattle.fuse_gate.specs.Mapped.{mapped}
-use Rattle.fuse_gate.specs.Standing.{IsInStep, machine_of, node_of, handle_of}
-use Rattle.fuse_gate.specs.Steps.{IsServed}
-use Rattle.fuse_gate.specs.Laying.{LaidOut}
-use Rattle.fuse_gate.specs.Replies.{laid_out, laid_out_attributes}
-use Rattle.fuse_gate.specs.Changes.{one_sent}
+use Rattle.fuse_wire.specs.Request.{getattr}
+use Rattle.tree_machine.specs.State.{Node as MachineNode, Handle as MachineHandle}
+use Rattle.tree_machine.specs.Refusals.{refused_unknown}
+use Rattle.tree_machine.specs.Core.{node_ino, handle_ino, getattr_refusal, getattr_ino, attr_reply, shown_at}
+use Rattle.fid_model.specs.Fids.{ServerState, Fid, IsGoodServer, closed}
+use Rattle.fid_model.specs.Moments.{Moment, Untouched, AskedOne}
+use Rattle.fuse_gate.specs.Standing.{IsInStep, machine_of, opened}
+use Rattle.fuse_gate.specs.Steps.{ServesRequest}
+use Rattle.fuse_gate.specs.Replies.{fuse_shown, attributes_shown, attributes_reply}
+use Rattle.fuse_gate.specs.Changes.{IsSubject, one_sent}
 use Rattle.fuse_gate.specs.declared.gate.Node.{Node}
 use Rattle.fuse_gate.specs.declared.gate.Handle.{Handle}
 use Rattle.fuse_gate.specs.declared.gate.Gate.{Gate}
-use Rattle.fuse_gate.specs.Laying.{LaidOut as given}
-use Rattle.fuse_gate.proofs.MappedLemmas.{get-mapped}
-use Rattle.fuse_gate.proofs.Standings.{unmoved, kept, hurt, node_fid, handle_fid}
-use Rattle.fuse_gate.proofs.Showing.{first_of_pair, second_of_pair}
+use Rattle.fuse_gate.proofs.Asking.{Tells}
+use Rattle.fuse_gate.proofs.Standings.{node_fid, handle_fid, node_seen, handle_seen}
+use Rattle.fuse_gate.proofs.Serving.{one_alone, one_message, unchanged, served_after}
 
-pub none_there : {X : Type 0} (o : Option X) → is_some o ≡ false → o ≡ None
-none_there None h = refl
-none_there (Some x) h = absurd (false≢true (sym h))
+replied : (x : Result Attr ℕ) → attributes_reply (fuse_shown x) ≡ attr_reply x
+replied (Ok a) = refl
+replied (Err e) = refl
 
-pub some_there : {X : Type 0} (o : Option X) → is_some o ≡ true → (x : X) × (o ≡ Some x)
-some_there None h = absurd (false≢true h)
-some_there (Some x) h = (x, refl)
+-- ---- the fid that is asked about
 
-abbrev attr_given : Result FileAttr ℕ → LaidOut
-attr_given (Ok a) = given.Attr a
-attr_given (Err e) = given.Refused e
+module _ {g : Gate} {s : ServerState} (st : IsInStep g s) (node : ℕ) where
+  pub node_subject : (k : Node) → get g.nodes node ≡ Some k → IsSubject g s node None (Ok node)
+  node_subject k at =
+      let seen = node_seen st node (Some k) at in
+      (ap (λ (o : Option MachineNode). refused_unknown o ESTALE) seen, (closed k.ino, node_fid st node k at, sym (ap node_ino seen)))
 
-given_laid_out : (x : Result Attr ℕ) → attr_given (laid_out_attributes x) ≡ laid_out (attr_reply x)
-given_laid_out (Ok a) = refl
-given_laid_out (Err e) = refl
+  pub node_refused : get g.nodes node ≡ None → IsSubject g s node None (Err ESTALE)
+  node_refused at = ap (λ (o : Option MachineNode). refused_unknown o ESTALE) (node_seen st node None at)
 
-module _ {g : Gate} {s : ServerState} (st : IsInStep g s) (good : IsGoodServer s) where
-  -- the attributes of an inode that a fid names
-  attr_served : (told : MachineReply × MachineState) (messages ino : ℕ) (g1 : Gate) (s1 : ServerState) (f0 f1 a0 a1 : ℕ) (r : Result FileAttr ℕ)
-      → told.0 ≡ attr_reply (shown_at s.settings s.tree ino) → told.1 ≡ machine_of g s → messages ≡ 1
-      → Asks (laid_out_attributes (getattr_told s ino).0, s) r s s1 f0 f1 → g1 ≡ one_sent g → a1 ≡ min (a0 + 1) (2 ^ 64 - 1)
-      → IsServed told messages g g1 s s1 f0 f1 a0 a1 (attr_given r)
-  attr_served told messages ino g1 s1 f0 f1 a0 a1 r reply state one answer sent counted =
-      subst (λ (x : Gate). IsServed told messages g x s s1 f0 f1 a0 a1 (attr_given r)) (sym sent) (⊎_elim
-      (λ e.
-      let is : r ≡ laid_out_attributes (shown_at s.settings s.tree ino) = first_of_pair r (laid_out_attributes (getattr_told s ino).0) s1 s e in
-      subst (λ (x : ServerState). IsServed told messages g (one_sent g) s x f0 f1 a0 a1 (attr_given r)) (sym (second_of_pair r (laid_out_attributes (getattr_told s ino).0) s1 s e))
-      (kept st good told messages (min (g.nine_frames + 1) (2 ^ 64 - 1)) f0 f1 a0 a1 (attr_given r)
-      (ap attr_given is ∙ given_laid_out (shown_at s.settings s.tree ino) ∙ ap laid_out (sym reply)) state (omega arith) (omega arith)))
-      (λ k. subst (λ (x : Result FileAttr ℕ). IsServed told messages g (one_sent g) s s1 f0 f1 a0 a1 (attr_given x)) (sym k.1)
-      (hurt st told messages 1 (min (g.nine_frames + 1) (2 ^ 64 - 1)) s1 f0 f1 a0 a1 k.2 k.0 (omega arith) (omega arith)))
-      answer)
+  pub handle_subject : (handle : ℕ) (h : Handle) → get g.handles handle ≡ Some h → IsSubject g s node (Some handle) (Ok handle)
+  handle_subject handle h at =
+      let seen = handle_seen st handle (Some h) at in
+      (ap (λ (o : Option MachineHandle). refused_unknown o EBADF) seen, (opened h, handle_fid st handle h at, sym (ap handle_ino seen)))
 
-  -- what the call answered
-  shown_answer : (fid ino : ℕ) (s1 : ServerState) (f0 f1 : ℕ) (f : Fid) (x r : Result FileAttr ℕ) → x ≡ r → get s.fids fid ≡ Some f → f.ino ≡ ino
-      → ((f : Fid) → get s.fids fid ≡ Some f → Asks (laid_out_attributes (getattr_told s f.ino).0, s) x s s1 f0 f1) → Asks (laid_out_attributes (getattr_told s ino).0, s) r s s1 f0 f1
-  shown_answer fid ino s1 f0 f1 f x r is at same answer =
-      subst (λ (r : Result FileAttr ℕ). Asks (laid_out_attributes (getattr_told s ino).0, s) r s s1 f0 f1) is
-      (subst (λ i. Asks (laid_out_attributes (getattr_told s i).0, s) x s s1 f0 f1) same (answer f at))
+  pub handle_refused : (handle : ℕ) → get g.handles handle ≡ None → IsSubject g s node (Some handle) (Err EBADF)
+  handle_refused handle at = ap (λ (o : Option MachineHandle). refused_unknown o EBADF) (handle_seen st handle None at)
 
-  module _ (node : ℕ) where
-    abbrev node_told : MachineReply × MachineState
-    node_told = (getattr_node s.settings (machine_of g s) (get (mapped node_of g.nodes) node), machine_of g s)
+-- ---- its attributes
 
-    abbrev node_messages : ℕ
-    node_messages = one_where (get (mapped node_of g.nodes) node)
-
-    node_is : (o : Option Node) → get g.nodes node ≡ o → get (mapped node_of g.nodes) node ≡ option_map node_of o
-    node_is o at = get-mapped node_of g.nodes node ∙ ap (option_map node_of) at
-
-    pub node_unknown : (f a : ℕ) → get g.nodes node ≡ None → IsServed node_told node_messages g g s s f f a a (given.Refused ESTALE)
-    node_unknown f a at =
-        unmoved st good node_told node_messages f f a (given.Refused ESTALE) (ap (λ o. one_where o) (node_is None at))
-        (sym (ap (λ o. laid_out (getattr_node s.settings (machine_of g s) o)) (node_is None at))) refl
-
-    pub node_shown : (n : Node) (g1 : Gate) (s1 : ServerState) (f0 f1 a0 a1 : ℕ) (x r : Result FileAttr ℕ) → get g.nodes node ≡ Some n → x ≡ r
-        → ((f : Fid) → get s.fids node ≡ Some f → Asks (laid_out_attributes (getattr_told s f.ino).0, s) x s s1 f0 f1) → g1 ≡ one_sent g → a1 ≡ min (a0 + 1) (2 ^ 64 - 1)
-        → IsServed node_told node_messages g g1 s s1 f0 f1 a0 a1 (attr_given r)
-    node_shown n g1 s1 f0 f1 a0 a1 x r at is answer sent counted =
-        attr_served node_told node_messages n.ino g1 s1 f0 f1 a0 a1 r
-        (ap (getattr_node s.settings (machine_of g s)) (node_is (Some n) at)) refl (ap (λ o. one_where o) (node_is (Some n) at))
-        (shown_answer node n.ino s1 f0 f1 _ x r is (node_fid st node n at) refl answer) sent counted
-
-  module _ (handle : ℕ) where
-    abbrev handle_told : MachineReply × MachineState
-    handle_told = (getattr_handle s.settings (machine_of g s) (get (mapped handle_of g.handles) handle), machine_of g s)
-
-    abbrev handle_messages : ℕ
-    handle_messages = one_where (get (mapped handle_of g.handles) handle)
-
-    handle_is : (o : Option Handle) → get g.handles handle ≡ o → get (mapped handle_of g.handles) handle ≡ option_map handle_of o
-    handle_is o at = get-mapped handle_of g.handles handle ∙ ap (option_map handle_of) at
-
-    pub handle_unknown : (f a : ℕ) → get g.handles handle ≡ None → IsServed handle_told handle_messages g g s s f f a a (given.Refused EBADF)
-    handle_unknown f a at =
-        unmoved st good handle_told handle_messages f f a (given.Refused EBADF) (ap (λ o. one_where o) (handle_is None at))
-        (sym (ap (λ o. laid_out (getattr_handle s.settings (machine_of g s) o)) (handle_is None at))) refl
-
-    pub handle_shown : (h : Handle) (g1 : Gate) (s1 : ServerState) (f0 f1 a0 a1 : ℕ) (x r : Result FileAttr ℕ) → get g.handles handle ≡ Some h → x ≡ r
-        → ((f : Fid) → get s.fids handle ≡ Some f → Asks (laid_out_attributes (getattr_told s f.ino).0, s) x s s1 f0 f1) → g1 ≡ one_sent g → a1 ≡ min (a0 + 1) (2 ^ 64 - 1)
-        → IsServed handle_told handle_messages g g1 s s1 f0 f1 a0 a1 (attr_given r)
-    handle_shown h g1 s1 f0 f1 a0 a1 x r at is answer sent counted =
-        attr_served handle_told handle_messages h.ino g1 s1 f0 f1 a0 a1 r
-        (ap (getattr_handle s.settings (machine_of g s)) (handle_is (Some h) at)) refl (ap (λ o. one_where o) (handle_is (Some h) at))
-        (shown_answer handle h.ino s1 f0 f1 _ x r is (handle_fid st handle h at) refl answer) sent counted
+module _ {g : Gate} (n : Moment) (st : IsInStep g n.state) (good : IsGoodServer n.state) (node : ℕ) (handle : Option ℕ) where
+  pub getattr_served : (none : getattr_refusal (machine_of g n.state) node handle ≡ None) (f : Fid) → f.ino ≡ getattr_ino (machine_of g n.state) node handle
+      → (g1 : Gate) (n1 : Moment) (r : Result FileAttr ℕ) → g1 ≡ one_sent g → AskedOne n n1 → n.faults ≤ n1.faults → Tells (attributes_shown n.state f.ino) r n n1
+      → ServesRequest node (getattr handle) (g, n) (g1, n1) (attributes_reply r)
+  getattr_served none f same g1 n1 r sent asked rises tells =
+      let m = machine_of g n.state in
+      let alone = one_alone g1 n1 sent asked in
+      served_after st good node (getattr handle) none (g1, n1) (attributes_reply r)
+      (one_message st (attr_reply (shown_at n.state.settings n.state.tree (getattr_ino m node handle)), m) 1 (Untouched n.state.tree) (attributes_shown n.state f.ino) r attributes_reply refl 1 g1 n1 alone rises refl tells
+      (λ e. unchanged st (attr_reply (shown_at n.state.settings n.state.tree (getattr_ino m node handle)), m) 1 (Untouched n.state.tree) good g1 n1 (attributes_reply r) alone (ap (λ (x : Result FileAttr ℕ × ServerState). x.1) e)
+      (ap (λ (x : Result FileAttr ℕ × ServerState). attributes_reply x.0) e ∙ replied (shown_at n.state.settings n.state.tree f.ino) ∙ ap (λ i. attr_reply (shown_at n.state.settings n.state.tree i)) same) refl))

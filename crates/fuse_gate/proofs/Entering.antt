@@ -1,163 +1,165 @@
 -- A new fid becomes a node, or goes again.
-use Rattle.std.proofs.Common.{◌≡◌, ℕ, ◌+◌, ◌-◌, ◌≤◌, ◌^◌, refl, sym, ap, ◌∙◌, subst, Option, Some, None, Result, Ok, Err, arith, IsSome, min, ◌⊎◌, ⊎_elim}
+use Rattle.std.proofs.Common.{◌≡◌, ℕ, ◌+◌, ◌≤◌, refl, sym, ap, ◌∙◌, subst, Option, Some, None, Result, Ok, Err, arith, IsSome, min, ◌⊎◌, ⊎_elim}
 use Rattle.std.specs.FinMap.{FinMap, get, insert}
-use Rattle.port_base.specs.Faults.{Rose}
 use Rattle.port_base.specs.declared.errno.TheConstants.{EIO}
 use Rattle.tree_model.specs.Tree.{Record}
 use Rattle.tree_model.specs.Attributes.{kind_of, qid_type, Qid, attr_of, attr_or_missing}
 use Rattle.tree_model.specs.Settings.{shown_of, shown_told}
 use Rattle.tree_model.specs.declared.attributes.Attr.{Attr}
 use Rattle.fuse_wire.specs.declared.attr.FileAttr.{FileAttr}
-use Rattle.tree_machine.specs.State.{MachineState, Node as MachineNode, settled, COUNT_LIMIT}
-use Rattle.tree_machine.specs.Core.{Reply as MachineReply, node_of as node_found, node_given, looked_up, entered, entry_reply, shown_at}
+use Rattle.tree_machine.specs.State.{MachineState, Node as MachineNode, kept_state, COUNT_LIMIT}
+use Rattle.tree_machine.specs.Replies.{Reply, fuse_attributes}
+use Rattle.tree_machine.specs.Replies.Reply.{Refused, Entry}
+use Rattle.tree_machine.specs.Core.{node_of as node_found, node_for, looked_up, entered, entry_reply, shown_at}
 use Rattle.tree_machine.specs.Good.{IsGoodMachine}
-use Rattle.tree_machine.proofs.Steps.{given_good, settles}
-use Rattle.fid_model.specs.Fids.{ServerState, Fid, IsGoodServer, closed}
+use Rattle.tree_machine.proofs.Steps.{given_good, kept_good}
+use Rattle.fid_model.specs.Fids.{ServerState, IsGoodServer}
 use Rattle.fid_model.specs.Answers.{qid_told}
-use Rattle.fid_model.specs.Asked.{Asks, getattr_told, clunked}
-use Rattle.fid_model.proofs.Keeping.{settled_same}
+use Rattle.fid_model.specs.Calls.{getattr_told, clunked}
+use Rattle.fid_model.specs.Moments.{Moment, Untouched, AskedOne}
+use Rattle.fid_model.proofs.Keeping.{kept_state_good}
 use Rattle.p9_client.specs.Views.{IsRoomy}
 use Rattle.fuse_gate.specs.Mapped.{mapped}
-use Rattle.fuse_gate.specs.Standing.{machine_of, node_of}
-use Rattle.fuse_gate.specs.Steps.{IsServed}
-use Rattle.fuse_gate.specs.Laying.{LaidOut}
-use Rattle.fuse_gate.specs.Replies.{laid_out, laid_out_attributes}
-use Rattle.fuse_gate.specs.Changes.{HasFresh, without, counted_node, counted_by, counted_up, with_node, one_sent, entering_rest}
+use Rattle.fuse_gate.specs.Standing.{ArePaired, machine_of, node_of}
+use Rattle.fuse_gate.specs.Steps.{Serves}
+use Rattle.fuse_gate.specs.Replies.{fuse_shown, attributes_shown}
+use Rattle.fuse_gate.specs.Changes.{HasFresh, ServesEntry, without, counted_node, counted_by, counted_up, with_node, one_sent, entering_rest}
+use Rattle.fuse_gate.specs.declared.gate.TheConstants.{LEAST_MSIZE}
 use Rattle.fuse_gate.specs.declared.gate.Gate.{Gate}
-use Rattle.fuse_gate.specs.Laying.{LaidOut as given}
 use Rattle.fuse_gate.proofs.MappedLemmas.{mapped-insert}
 use Rattle.fuse_gate.proofs.Known.{known_found, unknown_found}
-use Rattle.fuse_gate.proofs.Standings.{hurt, made, sent_stands}
+use Rattle.fuse_gate.proofs.Asking.{Tells, state_same}
+use Rattle.fuse_gate.proofs.Standings.{sent_stands}
+use Rattle.fuse_gate.proofs.Serving.{SentAlone, one_alone, one_more_sent, hurt, made}
 use Rattle.fuse_gate.proofs.Changing.{counted_paired, added_paired}
-use Rattle.fuse_gate.proofs.Showing.{first_of_pair, second_of_pair, some_value}
+use Rattle.fuse_gate.proofs.Showing.{some_value}
 
-rose_on : (f0 f1 f2 : ℕ) → f1 ≤ f2 → Rose f0 f1 → Rose f0 f2
-rose_on f0 f1 f2 le h = omega arith
+abbrev entry_of : ℕ → Result FileAttr ℕ → Reply
+entry_of node (Ok a) = Entry node a
+entry_of node (Err e) = Refused e
 
-abbrev Shows : ServerState → ℕ → Result FileAttr ℕ → ServerState → ℕ → ℕ → Type 0
-Shows s ino r s1 f0 f1 = Asks (laid_out_attributes (getattr_told s ino).0, s) r s s1 f0 f1
+replied : (node : ℕ) (x : Result Attr ℕ) → entry_of node (fuse_shown x) ≡ entry_reply node x
+replied node (Ok a) = refl
+replied node (Err e) = refl
 
--- attributes change nothing
-pub shown_same : (s s1 : ServerState) (ino f0 f1 : ℕ) (r : Result FileAttr ℕ) → Asks (laid_out_attributes (getattr_told s ino).0, s) r s s1 f0 f1 → s1 ≡ s
-shown_same s s1 ino f0 f1 r answer = ⊎_elim (λ e. second_of_pair r (laid_out_attributes (getattr_told s ino).0) s1 s e) (λ k. k.2) answer
+module _ {g : Gate} (n : Moment) {ino : ℕ} {qid : Qid} (h : HasFresh g n.state ino qid) where
+  abbrev s : ServerState
+  s = n.state
 
--- what the call answered
-pub shown_at_fid : (s s1 : ServerState) (fid ino f0 f1 : ℕ) (x r : Result FileAttr ℕ) → x ≡ r → ((f : Fid) → get s.fids fid ≡ Some f → Asks (laid_out_attributes (getattr_told s f.ino).0, s) x s s1 f0 f1) → get s.fids fid ≡ Some (closed ino)
-    → Asks (laid_out_attributes (getattr_told s ino).0, s) r s s1 f0 f1
-shown_at_fid s s1 fid ino f0 f1 x r is answer at = subst (λ (r : Result FileAttr ℕ). Asks (laid_out_attributes (getattr_told s ino).0, s) r s s1 f0 f1) is (answer (closed ino) at)
-
-abbrev entry_given : ℕ → Result FileAttr ℕ → LaidOut
-entry_given node (Ok a) = given.Entry node a
-entry_given node (Err e) = given.Refused e
-
-entry_laid_out : (node : ℕ) (x : Result Attr ℕ) → entry_given node (laid_out_attributes x) ≡ laid_out (entry_reply node x)
-entry_laid_out node (Ok a) = refl
-entry_laid_out node (Err e) = refl
-
-module _ {g : Gate} {s : ServerState} {ino : ℕ} {qid : Qid} (h : HasFresh g s ino qid) where
-  pub fresh_stays : (s1 : ServerState) → s1 ≡ s → IsRoomy s1 × IsSome (get s1.fids g.next)
-  fresh_stays s1 same = subst (λ (x : ServerState). IsRoomy x × IsSome (get x.fids g.next)) (sym same) (record { enough = h.stands.roomy }, subst IsSome (sym h.fresh) refl)
+  -- the same moment without the new fid
+  abbrev base : Moment
+  base = record n { state = without s g.next }
 
   gone_again : clunked s g.next ≡ without s g.next
-  gone_again = settled_same (without s g.next) h.good
+  gone_again = kept_state_good (without s g.next) h.good
 
-  -- the state after the attributes and after the second fid's going
-  back : (s1 s2 : ServerState) → s1 ≡ s → s2 ≡ clunked s1 g.next → s2 ≡ without s g.next
-  back s1 s2 same gone = gone ∙ ap (λ (x : ServerState). clunked x g.next) same ∙ gone_again
-
-  abbrev told : MachineReply × MachineState
+  abbrev told : Reply × MachineState
   told = looked_up s.settings (machine_of g s) (Ok ino)
 
   abbrev rest : ℕ
   rest = entering_rest (node_found (machine_of g s) ino)
 
   -- the clauses speak of the state with the fid
-  with_fid : (what : MachineReply × MachineState) (messages : ℕ) (g1 : Gate) (s2 : ServerState) (f0 f2 a0 a2 : ℕ) (reply : LaidOut)
-      → IsServed what messages g g1 (without s g.next) s2 f0 f2 a0 a2 reply → IsServed what messages g g1 s s2 f0 f2 a0 a2 reply
-  with_fid what messages g1 s2 f0 f2 a0 a2 reply served = record { stands = served.stands; fixed = served.fixed; sent = served.sent; frames = served.frames; asked = served.asked; outcome = served.outcome }
+  with_fid : (new : Gate × Moment) (reply : Reply) → Serves told rest (Untouched s.tree) (g, base) new reply → ServesEntry ino (g, n) new reply
+  with_fid new reply served = record { stands = served.stands; sent = served.sent; messages = record { frames = served.messages.frames; asked = served.messages.asked }; outcome = served.outcome }
 
-  shown_here : (r : Record) → get s.tree.records ino ≡ Some r → laid_out_attributes (getattr_told s ino).0 ≡ laid_out_attributes (Ok (shown_of s.settings (attr_of ino r)))
-  shown_here r at = ap (λ o. laid_out_attributes (shown_told s.settings (attr_or_missing ino o))) at
-
-  told_good : IsGoodMachine s.settings (settled told.1)
-  told_good = settles s.settings (node_given (machine_of g s) ino (node_found (machine_of g s) ino)).1
+  told_good : IsGoodMachine s.settings (kept_state told.1)
+  told_good = kept_good s.settings (node_for (machine_of g s) ino (node_found (machine_of g s) ino)).1
       (given_good s.settings (machine_of g s) h.stands.good ino h.stored h.room (node_found (machine_of g s) ino) refl)
 
-  -- ---- a fault
+  told_is : (o : Option (ℕ × MachineNode)) → node_found (machine_of g s) ino ≡ o → told ≡ entered s.settings s.tree ino (node_for (machine_of g s) ino o)
+  told_is o is = ap (λ o. entered s.settings s.tree ino (node_for (machine_of g s) ino o)) is
 
-  pub enter_refused : (e : ℕ) (g1 g2 : Gate) (s1 s2 : ServerState) (f0 f1 f2 a0 a1 a2 : ℕ) → f1 ≤ f2 → Shows s ino (Err e) s1 f0 f1 → s2 ≡ clunked s1 g.next
-      → g1 ≡ one_sent g → g2 ≡ one_sent g1 → a1 ≡ min (a0 + 1) (2 ^ 64 - 1) → a2 ≡ min (a1 + 1) (2 ^ 64 - 1) → IsServed told rest g g2 s s2 f0 f2 a0 a2 (given.Refused e)
-  enter_refused e g1 g2 s1 s2 f0 f1 f2 a0 a1 a2 le answer gone sent more counted again =
-      ⊎_elim
-      (λ q. absurd (
-      let r = some_value (get s.tree.records ino) h.stored in
-      let clash : Err e ≡ laid_out_attributes (Ok (shown_of s.settings (attr_of ino r.0))) = first_of_pair (Err e) (laid_out_attributes (getattr_told s ino).0) s1 s q ∙ shown_here r.0 r.1 in cc))
-      (λ k.
-      let is : e ≡ EIO = (let q = k.1 in cc) in
-      subst (λ d. IsServed told rest g g2 s s2 f0 f2 a0 a2 (given.Refused d)) (sym is)
-      (subst (λ (x : Gate). IsServed told rest g x s s2 f0 f2 a0 a2 (given.Refused EIO)) (sym (more ∙ ap one_sent sent))
-      (with_fid told rest (one_sent (one_sent g)) s2 f0 f2 a0 a2 (given.Refused EIO)
-      (hurt h.stands told rest 2 (min (min (g.nine_frames + 1) (2 ^ 64 - 1) + 1) (2 ^ 64 - 1)) s2 f0 f2 a0 a2 (back s1 s2 k.2 gone) (rose_on f0 f1 f2 le k.0) (omega arith) (omega arith)))))
-      answer
+  -- the attributes were asked for
+  module _ (g1 : Gate) (n1 : Moment) (r : Result FileAttr ℕ) (tells : Tells (attributes_shown s ino) r n n1) where
+    pub shown_same : n1.state ≡ s
+    shown_same = state_same (fuse_shown (getattr_told s ino).0) r n n1 tells
 
-  -- the attributes that are told
-  shown_ok : (node : ℕ) (a : FileAttr) (s1 : ServerState) (f0 f1 : ℕ) → Shows s ino (Ok a) s1 f0 f1 → given.Entry node a ≡ laid_out (entry_reply node (shown_at s.settings s.tree ino))
-  shown_ok node a s1 f0 f1 answer = ⊎_elim
-      (λ q. ap (entry_given node) (first_of_pair (Ok a) (laid_out_attributes (getattr_told s ino).0) s1 s q) ∙ entry_laid_out node (shown_at s.settings s.tree ino))
-      (λ k. absurd (let clash = k.1 in cc)) answer
+    pub fresh_stays : IsRoomy n1.state × IsSome (get n1.state.fids g.next)
+    fresh_stays = subst (λ (x : ServerState). IsRoomy x × IsSome (get x.fids g.next)) (sym shown_same) (record { enough = h.stands.roomy }, subst IsSome (sym h.fresh) refl)
 
-  told_is : (o : Option (ℕ × MachineNode)) → node_found (machine_of g s) ino ≡ o → told ≡ entered s.settings s.tree ino (node_given (machine_of g s) ino o)
-  told_is o is = ap (λ o. entered s.settings s.tree ino (node_given (machine_of g s) ino o)) is
+    -- the second fid goes
+    pub back : (n2 : Moment) → n2.state ≡ clunked n1.state g.next → n2.state ≡ without s g.next
+    back n2 gone = gone ∙ ap (λ (x : ServerState). clunked x g.next) shown_same ∙ gone_again
 
-  -- ---- an inode that has a node
+    -- no memory while it goes
+    pub clunk_tree : (n2 : Moment) → (n2.state ≡ n1.state) ⊎ (n2.state ≡ clunked n1.state g.next) → n2.state.tree ≡ s.tree
+    clunk_tree n2 k = ⊎_elim
+        (λ e. ap (λ (x : ServerState). x.tree) (e ∙ shown_same))
+        (λ e. ap (λ (x : ServerState). x.tree) (back n2 e)) k
 
-  pub enter_known : (id : ℕ) (a : FileAttr) (g1 g2 g3 : Gate) (s1 s2 : ServerState) (f0 f1 f2 a0 a1 a2 : ℕ) → get g1.ids ino ≡ Some id → Shows s ino (Ok a) s1 f0 f1 → s2 ≡ clunked s1 g.next
-      → g1 ≡ one_sent g → g2 ≡ one_sent g1 → g3 ≡ counted_up g2 id → a1 ≡ min (a0 + 1) (2 ^ 64 - 1) → a2 ≡ min (a1 + 1) (2 ^ 64 - 1) → IsServed told rest g g3 s s2 f0 f2 a0 a2 (given.Entry id a)
-  enter_known id a g1 g2 g3 s1 s2 f0 f1 f2 a0 a1 a2 there answer gone sent more up counted again =
-      let indexed : get g.ids ino ≡ Some id = ap (λ (x : Gate). get x.ids ino) (sym sent) ∙ there in
-      let n = h.stands.paired.ids ino id indexed in
-      let found = known_found h.stands ino id n.0 indexed n.1 n.2 in
-      let is = told_is (Some (id, node_of n.0)) found in
-      let base = back s1 s2 (shown_same s s1 ino f0 f1 (Ok a) answer) gone in
-      let k : ℕ = min (min (g.nine_frames + 1) (2 ^ 64 - 1) + 1) (2 ^ 64 - 1) in
-      let gate : g3 ≡ record g { nodes = insert g.nodes id (counted_node n.0); nine_frames = k } = up ∙ ap (λ (x : Gate). counted_up x id) (more ∙ ap one_sent sent) ∙ ap (counted_by (record g { nine_frames = k }) id) n.1 in
-      let nodes : mapped node_of (insert g.nodes id (counted_node n.0)) ≡ insert (mapped node_of g.nodes) id (record { ino = ino; count = min (n.0.count + 1) COUNT_LIMIT }) =
-      mapped-insert node_of g.nodes id (counted_node n.0) ∙ ap (λ (i : ℕ). insert (mapped node_of g.nodes) id (let v : MachineNode = record { ino = i; count = min (n.0.count + 1) COUNT_LIMIT } in v)) n.2 in
-      let two : rest ≡ 2 = ap entering_rest found in
-      subst (λ (x : Gate). IsServed told rest g x s s2 f0 f2 a0 a2 (given.Entry id a)) (sym gate)
-      (subst (λ (x : ServerState). IsServed told rest g (record g { nodes = insert g.nodes id (counted_node n.0); nine_frames = k }) s x f0 f2 a0 a2 (given.Entry id a)) (sym base)
-      (with_fid told rest (record g { nodes = insert g.nodes id (counted_node n.0); nine_frames = k }) (without s g.next) f0 f2 a0 a2 (given.Entry id a)
-      (made told rest g (record g { nodes = insert g.nodes id (counted_node n.0); nine_frames = k }) (without s g.next) (without s g.next) f0 f2 a0 a2 (given.Entry id a)
-      h.good (counted_paired (record g { nine_frames = k }) (without s g.next) (sent_stands h.stands k) id n.0 n.1) h.stands.roomy refl told_good
-      (shown_ok id a s1 f0 f1 answer ∙ sym (ap (λ (x : MachineReply × MachineState). laid_out x.0) is))
-      (ap (λ (x : FinMap _ MachineNode). let m : MachineState = record (machine_of g s) { nodes = x } in m) nodes ∙ sym (ap (λ (x : MachineReply × MachineState). x.1) is))
-      (omega arith) (omega arith))))
+    module _ (sent : g1 ≡ one_sent g) (asked : AskedOne n n1) where
+      alone : SentAlone 1 g base g1 n1
+      alone = let a = one_alone {n = n} g1 n1 sent asked in record { gate = a.gate; messages = record { frames = a.messages.frames; asked = a.messages.asked } }
 
-  -- ---- an inode that has none
+      -- a fault
+      pub enter_refused : (e : ℕ) → r ≡ Err e → (g2 : Gate) (n2 : Moment) → g2 ≡ one_sent g1 → AskedOne n1 n2 → n1.faults ≤ n2.faults → n2.state ≡ clunked n1.state g.next → ServesEntry ino (g, n) (g2, n2) (Refused e)
+      enter_refused e is g2 n2 more again later gone = ⊎_elim
+          (λ q. absurd (
+          let stored = some_value (get s.tree.records ino) h.stored in
+          let clash : Err e ≡ Ok (fuse_attributes (shown_of s.settings (attr_of ino stored.0))) =
+          sym is ∙ ap (λ (x : Result FileAttr ℕ × ServerState). x.0) q ∙ ap (λ o. fuse_shown (shown_told s.settings (attr_or_missing ino o))) stored.1 in cc))
+          (λ k.
+          let same : Err e ≡ Err EIO = sym is ∙ k.1 in
+          let eio : e ≡ EIO = cc in
+          let rose = k.0 in
+          subst (λ d. ServesEntry ino (g, n) (g2, n2) (Refused d)) (sym eio)
+          (with_fid (g2, n2) (Refused EIO) (hurt h.stands told rest (Untouched s.tree) 2 g2 n2 (one_more_sent alone g2 n2 more again) (back n2 gone) (omega (arith, later, rose)) refl)))
+          tells
 
-  kind_is : (r : Record) → get s.tree.records ino ≡ Some r → qid.0 ≡ qid_type (kind_of r.body)
-  kind_is r at = ap (λ (q : Qid). q.0) (h.named ∙ ap (λ o. qid_told (attr_or_missing ino o)) at)
+      module _ (a : FileAttr) (is : r ≡ Ok a) where
+        entry_is : (node : ℕ) → Entry node a ≡ entry_reply node (shown_at s.settings s.tree ino)
+        entry_is node = ⊎_elim
+            (λ q. ap (entry_of node) (sym is ∙ ap (λ (x : Result FileAttr ℕ × ServerState). x.0) q) ∙ replied node (shown_at s.settings s.tree ino))
+            (λ k. absurd (let clash : Ok a ≡ Err EIO = sym is ∙ k.1 in cc)) tells
 
-  pub enter_new : (a : FileAttr) (g1 g2 : Gate) (s1 : ServerState) (f0 f1 a0 a1 : ℕ) → IsGoodServer s1 → get g1.ids ino ≡ None → Shows s ino (Ok a) s1 f0 f1
-      → g1 ≡ one_sent g → g2 ≡ with_node g1 ino qid.0 → a1 ≡ min (a0 + 1) (2 ^ 64 - 1) → IsServed told rest g g2 s s1 f0 f1 a0 a1 (given.Entry g.next a)
-  enter_new a g1 g2 s1 f0 f1 a0 a1 good there answer sent added counted =
-      let unknown : get g.ids ino ≡ None = ap (λ (x : Gate). get x.ids ino) (sym sent) ∙ there in
-      let same = shown_same s s1 ino f0 f1 (Ok a) answer in
-      let found = unknown_found h.stands ino unknown in
-      let is = told_is None found in
-      let one : rest ≡ 1 = ap entering_rest found in
-      let nodes = mapped-insert node_of g.nodes g.next (record { ino = ino; count = 1; kind = qid.0 }) in
-      subst (λ (x : Gate). IsServed told rest g x s s1 f0 f1 a0 a1 (given.Entry g.next a)) (sym (added ∙ ap (λ (x : Gate). with_node x ino qid.0) sent))
-      (subst (λ (x : ServerState). IsServed told rest g (with_node (one_sent g) ino qid.0) s x f0 f1 a0 a1 (given.Entry g.next a)) (sym same)
-      (made told rest g (with_node (one_sent g) ino qid.0) s s f0 f1 a0 a1 (given.Entry g.next a)
-      (subst IsGoodServer same good) (added_paired (one_sent g) s (sent_stands h.stands (min (g.nine_frames + 1) (2 ^ 64 - 1))) ino qid.0 h.fresh unknown kind_is) h.stands.roomy refl told_good
-      (shown_ok g.next a s1 f0 f1 answer ∙ sym (ap (λ (x : MachineReply × MachineState). laid_out x.0) is))
-      (ap (λ (x : FinMap _ MachineNode). let m : MachineState = record (machine_of g s) { nodes = x; next = g.next + 1 } in m) nodes ∙ sym (ap (λ (x : MachineReply × MachineState). x.1) is))
-      (omega arith) (omega arith)))
+        -- an inode that has a node
+        pub enter_known : (id : ℕ) → get g1.ids ino ≡ Some id → (g2 g3 : Gate) (n2 : Moment) → g2 ≡ one_sent g1 → g3 ≡ counted_up g2 id → AskedOne n1 n2 → n2.state ≡ clunked n1.state g.next → ServesEntry ino (g, n) (g3, n2) (Entry id a)
+        enter_known id there g2 g3 n2 more up again gone =
+            let indexed : get g.ids ino ≡ Some id = ap (λ (x : Gate). get x.ids ino) (sym sent) ∙ there in
+            let known = h.stands.paired.ids ino id indexed in
+            let found = known_found h.stands ino id known.0 indexed known.1 known.2 in
+            let two = one_more_sent alone g2 n2 more again in
+            let k : ℕ = g2.nine_frames in
+            let gate : g3 ≡ record g { nodes = insert g.nodes id (counted_node known.0); nine_frames = k } = up ∙ ap (λ (x : Gate). counted_up x id) two.gate ∙ ap (counted_by (record g { nine_frames = k }) id) known.1 in
+            let nodes : mapped node_of (insert g.nodes id (counted_node known.0)) ≡ insert (mapped node_of g.nodes) id (record { ino = ino; count = min (known.0.count + 1) COUNT_LIMIT }) =
+            mapped-insert node_of g.nodes id (counted_node known.0) ∙ ap (λ (i : ℕ). insert (mapped node_of g.nodes) id (let v : MachineNode = record { ino = i; count = min (known.0.count + 1) COUNT_LIMIT } in v)) known.2 in
+            let state = back n2 gone in
+            let number : rest ≡ 2 = ap entering_rest found in
+            let is_told = told_is (Some (id, node_of known.0)) found in
+            let frames = two.messages.frames in
+            let handed = two.messages.asked in
+            subst (λ (x : Gate). ServesEntry ino (g, n) (x, n2) (Entry id a)) (sym gate)
+            (with_fid (record g { nodes = insert g.nodes id (counted_node known.0); nine_frames = k }, n2) (Entry id a)
+            (made told rest (Untouched s.tree) (g, base) (record g { nodes = insert g.nodes id (counted_node known.0); nine_frames = k }, n2) (Entry id a)
+            (subst IsGoodServer (sym state) h.good)
+            (subst (ArePaired (record g { nodes = insert g.nodes id (counted_node known.0); nine_frames = k })) (sym state) (counted_paired (record g { nine_frames = k }) (without s g.next) (sent_stands h.stands k) id known.0 known.1))
+            (subst (λ (x : ServerState). LEAST_MSIZE ≤ x.msize) (sym state) h.stands.roomy) (ap (λ (x : ServerState). x.settings) state) told_good
+            (entry_is id ∙ sym (ap (λ (x : Reply × MachineState). x.0) is_told))
+            (ap (machine_of (record g { nodes = insert g.nodes id (counted_node known.0); nine_frames = k })) state ∙ ap (λ (x : FinMap _ MachineNode). let m : MachineState = record (machine_of g s) { nodes = x } in m) nodes ∙ sym (ap (λ (x : Reply × MachineState). x.1) is_told))
+            (record { frames = omega (arith, frames, number); asked = omega (arith, handed, number) })))
 
-  -- ---- want of memory
+        kind_is : (r : Record) → get s.tree.records ino ≡ Some r → qid.0 ≡ qid_type (kind_of r.body)
+        kind_is r at = ap (λ (q : Qid). q.0) (h.named ∙ ap (λ o. qid_told (attr_or_missing ino o)) at)
 
-  pub clunk_tree : (s1 s2 : ServerState) → s1 ≡ s → (s2 ≡ s1) ⊎ (s2 ≡ clunked s1 g.next) → s2.tree ≡ s.tree
-  clunk_tree s1 s2 same k = ⊎_elim
-      (λ e. ap (λ (x : ServerState). x.tree) (e ∙ same))
-      (λ e. ap (λ (x : ServerState). x.tree) (back s1 s2 same e)) k
+        -- an inode that has none
+        pub enter_new : IsGoodServer n1.state → get g1.ids ino ≡ None → (g2 : Gate) → g2 ≡ with_node g1 ino qid.0 → ServesEntry ino (g, n) (g2, n1) (Entry g.next a)
+        enter_new good there g2 added =
+            let unknown : get g.ids ino ≡ None = ap (λ (x : Gate). get x.ids ino) (sym sent) ∙ there in
+            let found = unknown_found h.stands ino unknown in
+            let nodes = mapped-insert node_of g.nodes g.next (record { ino = ino; count = 1; kind = qid.0 }) in
+            let state = shown_same in
+            let number : rest ≡ 1 = ap entering_rest found in
+            let is_told = told_is None found in
+            let frames = alone.messages.frames in
+            let handed = alone.messages.asked in
+            let gate : g2 ≡ with_node (record g { nine_frames = g1.nine_frames }) ino qid.0 = added ∙ ap (λ (x : Gate). with_node x ino qid.0) alone.gate in
+            subst (λ (x : Gate). ServesEntry ino (g, n) (x, n1) (Entry g.next a)) (sym gate)
+            (with_fid (with_node (record g { nine_frames = g1.nine_frames }) ino qid.0, n1) (Entry g.next a)
+            (made told rest (Untouched s.tree) (g, base) (with_node (record g { nine_frames = g1.nine_frames }) ino qid.0, n1) (Entry g.next a) good
+            (subst (ArePaired (with_node (record g { nine_frames = g1.nine_frames }) ino qid.0)) (sym state)
+            (added_paired (record g { nine_frames = g1.nine_frames }) s (sent_stands h.stands g1.nine_frames) ino qid.0 h.fresh unknown kind_is))
+            (subst (λ (x : ServerState). LEAST_MSIZE ≤ x.msize) (sym state) h.stands.roomy) (ap (λ (x : ServerState). x.settings) state) told_good
+            (entry_is g.next ∙ sym (ap (λ (x : Reply × MachineState). x.0) is_told))
+            (ap (machine_of (with_node (record g { nine_frames = g1.nine_frames }) ino qid.0)) state ∙ ap (λ (x : FinMap _ MachineNode). let m : MachineState = record (machine_of g s) { nodes = x; next = g.next + 1 } in m) nodes ∙ sym (ap (λ (x : Reply × MachineState). x.1) is_told))
+            (record { frames = omega (arith, frames, number); asked = omega (arith, handed, number) })))

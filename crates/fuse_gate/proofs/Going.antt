@@ -7,11 +7,11 @@ use Rattle.tree_model.specs.Tree.{Tree, Record, is_linked, keep}
 use Rattle.tree_model.specs.Attributes.{kind_of, qid_type}
 use Rattle.tree_model.proofs.Maps.{retained, removed, remove_keeps}
 use Rattle.tree_model.proofs.Counting.{put_back}
-use Rattle.tree_machine.specs.State.{MachineState, settled, is_named}
+use Rattle.tree_machine.specs.State.{MachineState, kept_state, is_named}
 use Rattle.tree_machine.specs.Good.{IsGoodMachine}
-use Rattle.tree_machine.proofs.Settling.{settles}
+use Rattle.tree_machine.proofs.KeptStates.{kept_good}
 use Rattle.fid_model.specs.Fids.{ServerState, is_held, closed}
-use Rattle.fid_model.specs.Asked.{clunked}
+use Rattle.fid_model.specs.Calls.{clunked}
 use Rattle.fid_model.proofs.Keeping.{keep_alike}
 use Rattle.fuse_gate.specs.Mapped.{mapped}
 use Rattle.fuse_gate.specs.Standing.{IsInStep, ArePaired, machine_of, node_of, handle_of, fid_at, opened}
@@ -34,7 +34,7 @@ was_stored t held i r at = kept_before (get t.records i) (is_linked t.records i 
 -- ---- what is left behind a clunk, where gate and server were paired without the fid
 
 module _ (g : Gate) (s : ServerState) (fid : ℕ) (paired : ArePaired g (without s fid)) (good : IsGoodMachine s.settings (machine_of g s)) (roomy : LEAST_MSIZE ≤ s.msize) where
-  pub gone_state : machine_of g (clunked s fid) ≡ settled (machine_of g s)
+  pub gone_state : machine_of g (clunked s fid) ≡ kept_state (machine_of g s)
   gone_state =
       ap (λ (t : Tree). let m : MachineState = record (machine_of g s) { tree = t } in m)
       (sym (keep_alike s.tree (is_named (mapped node_of g.nodes) (mapped handle_of g.handles)) (is_held (remove s.fids fid)) (named_held g (without s fid) paired good.apart)))
@@ -52,7 +52,7 @@ module _ (g : Gate) (s : ServerState) (fid : ℕ) (paired : ArePaired g (without
 
   pub gone_stands : IsInStep g (clunked s fid)
   gone_stands = record {
-    good = subst (IsGoodMachine s.settings) (sym gone_state) (settles s.settings (machine_of g s) good);
+    good = subst (IsGoodMachine s.settings) (sym gone_state) (kept_good s.settings (machine_of g s) good);
     paired = gone_paired;
     roomy = roomy;
   }

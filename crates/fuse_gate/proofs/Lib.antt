@@ -1,6 +1,8 @@
 pub mod MappedLemmas
 pub mod Held
 pub mod Standings
+pub mod Asking
+pub mod Serving
 pub mod Changing
 pub mod Going
 pub mod LettingGo

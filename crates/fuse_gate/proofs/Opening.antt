@@ -1,8 +1,8 @@
 -- OPEN.
-use Rattle.std.proofs.Common.{◌≡◌, ◌≢◌, ℕ, ◌+◌, ◌-◌, ◌<◌, ◌≤◌, ◌^◌, ◌⊎◌, Bool, true, false, cond, ◌||◌, refl, sym, ap, ◌∙◌, subst, min, Option, Some, None, Result, Ok, Err, arith, IsSome, ⊎_elim, nat_le}
+use Rattle.std.proofs.Common.{◌≡◌, ◌≢◌, ℕ, ◌+◌, ◌<◌, ◌≤◌, ◌^◌, ◌⊎◌, Bool, true, false, not, [], ◌∷◌, refl, sym, ap, ◌∙◌, subst, Option, Some, None, Result, Ok, Err, arith, IsSome, inl, inr, ⊎_elim}
 use Rattle.std.specs.Prelude.{◌==◌, option_map}
 use Rattle.std.proofs.lemmas.Bool.Decides.{nat_tests}
-use Rattle.std.specs.FinMap.{FinMap, get, insert, len}
+use Rattle.std.specs.FinMap.{FinMap, get, insert}
 use Rattle.port_base.specs.Faults.{Rose}
 use Rattle.port_base.specs.declared.errno.TheConstants.{EIO, EISDIR, ENFILE, ENOSYS, ESTALE}
 use Rattle.tree_model.specs.Tree.{Tree, Record, Body, body_at, is_directory_at}
@@ -10,35 +10,35 @@ use Rattle.tree_model.specs.Tree.Body.{File, Directory, Link}
 use Rattle.tree_model.specs.Attributes.{Qid, kind_of, qid_type}
 use Rattle.tree_model.specs.Opening.{open_check_of}
 use Rattle.tree_model.proofs.Maps.{inserted, insert_keeps, undone}
-use Rattle.tree_machine.specs.State.{MachineState, Handle as MachineHandle, is_at_limit, NUMBER_LIMIT, settled}
-use Rattle.tree_machine.specs.Core.{Reply as MachineReply, open_core, open_node, opened as machine_opened, opens_to_read}
-use Rattle.tree_machine.specs.Core.Reply.{Refused}
-use Rattle.tree_machine.specs.Messages.{open_messages, open_node_messages, opened_messages}
-use Rattle.tree_machine.specs.Good.{IsGoodMachine}
-use Rattle.tree_machine.proofs.Opening.{opened_good, reads}
-use Rattle.fid_model.specs.Fids.{ServerState, Fid, Fids, IsGoodServer, closed, settled as server_settled}
+use Rattle.fuse_wire.specs.Request.{open_file}
+use Rattle.tree_machine.specs.State.{MachineState, Node as MachineNode, Handle as MachineHandle, is_at_limit}
+use Rattle.tree_machine.specs.Replies.{Reply}
+use Rattle.tree_machine.specs.Replies.Reply.{Refused, Opened}
+use Rattle.tree_machine.specs.Refusals.{refused_if, first_refusal}
+use Rattle.tree_machine.specs.Core.{node_ino, open_refusal, opened as machine_opened}
+use Rattle.tree_machine.specs.Requests.{opens_to_read, refusal_before}
+use Rattle.tree_machine.specs.Messages.{opened_messages}
+use Rattle.tree_machine.proofs.Opening.{opened_good, to_read}
+use Rattle.fid_model.specs.Fids.{ServerState, Fids, IsGoodServer, closed, kept_state as kept_server}
 use Rattle.fid_model.specs.Answers.{opened as fid_opened, qid_at}
-use Rattle.fid_model.specs.Asked.{Asks, clunked}
-use Rattle.fid_model.proofs.Keeping.{settled_same}
+use Rattle.fid_model.specs.Calls.{clunked}
+use Rattle.fid_model.specs.Moments.{Moment, Untouched, AskedOne}
+use Rattle.fid_model.proofs.Keeping.{kept_state_good}
 use Rattle.p9_client.specs.Views.{IsRoomy}
 use Rattle.p9_client.specs.Opening.{copied_told, opened_told, opened_by}
-use Rattle.fuse_gate.specs.Mapped.{mapped}
 use Rattle.fuse_gate.specs.Standing.{IsInStep, ArePaired, machine_of, node_of, handle_of, fid_at}
-use Rattle.fuse_gate.specs.Steps.{IsServed}
-use Rattle.fuse_gate.specs.Laying.{LaidOut}
-use Rattle.fuse_gate.specs.Replies.{laid_out}
-use Rattle.fuse_gate.specs.Changes.{MayOpen, handle_by, with_handle, one_sent}
+use Rattle.fuse_gate.specs.Steps.{Serves, ServesRequest}
+use Rattle.fuse_gate.specs.Changes.{MayOpen, ServesOpening, handle_by, with_handle, one_sent}
+use Rattle.fuse_gate.specs.declared.gate.TheConstants.{LEAST_MSIZE}
 use Rattle.fuse_gate.specs.declared.gate.Node.{Node}
 use Rattle.fuse_gate.specs.declared.gate.Handle.{Handle}
 use Rattle.fuse_gate.specs.declared.gate.Gate.{Gate}
-use Rattle.fuse_gate.specs.Laying.{LaidOut as given}
-use Rattle.fuse_gate.proofs.MappedLemmas.{get-mapped, len-mapped, mapped-insert}
-use Rattle.fuse_gate.proofs.Standings.{unmoved, kept, hurt, made, fid_free, node_fid, next_free, next_no_handle}
+use Rattle.fuse_gate.proofs.MappedLemmas.{mapped-insert}
+use Rattle.fuse_gate.proofs.Asking.{Tells, pair}
+use Rattle.fuse_gate.proofs.Standings.{fid_free, node_good, next_free, next_no_handle, node_seen, few_used}
 use Rattle.fuse_gate.proofs.Changing.{len_new, len_known, insert_cases}
 use Rattle.fuse_gate.proofs.Showing.{some_value}
-
-rose_back : (f0 f1 f2 : ℕ) → f0 ≤ f1 → Rose f1 f2 → Rose f0 f2
-rose_back f0 f1 f2 le h = omega arith
+use Rattle.fuse_gate.proofs.Serving.{SentAlone, one_alone, one_more_sent, one_message, unchanged, hurt, made, served_after}
 
 -- ---- a directory by its qid's type
 
@@ -60,262 +60,215 @@ directory_by t ino kind stored is =
 
 -- ---- the refusals, in order
 
-module _ {g : Gate} {s : ServerState} (st : IsInStep g s) (good : IsGoodServer s) (node flags : ℕ) where
+module _ {g : Gate} (n : Moment) (st : IsInStep g n.state) (good : IsGoodServer n.state) (node flags : ℕ) where
   abbrev m : MachineState
-  m = machine_of g s
+  m = machine_of g n.state
 
-  abbrev told : MachineReply × MachineState
-  told = open_core s.settings m flags (get m.nodes node)
+  abbrev refusal : Option ℕ
+  refusal = refusal_before n.state.settings m node (open_file flags)
 
-  abbrev count : ℕ
-  count = open_messages s.settings m flags (get m.nodes node)
+  pub open_unserved : false ≡ opens_to_read flags → refusal ≡ Some ENOSYS
+  open_unserved unserved = ap (λ (b : Bool). first_refusal (refused_if (not b) ENOSYS ∷ open_refusal n.state.settings m (get m.nodes node) ∷ [])) (sym unserved)
 
-  abbrev refusal : ℕ → MachineReply × MachineState
-  refusal e = (Refused e, m)
+  module _ (reads : true ≡ opens_to_read flags) where
+    node_refusal : (o : Option Node) → get g.nodes node ≡ o → refusal ≡ first_refusal (open_refusal n.state.settings m (option_map node_of o) ∷ [])
+    node_refusal o at =
+        ap (λ (b : Bool). first_refusal (refused_if (not b) ENOSYS ∷ open_refusal n.state.settings m (get m.nodes node) ∷ [])) (sym reads)
+        ∙ ap (λ (o : Option MachineNode). first_refusal (open_refusal n.state.settings m o ∷ [])) (node_seen st node o at)
 
-  refused_by : (e f a : ℕ) → told ≡ refusal e → count ≡ 0 → IsServed told count g g s s f f a a (given.Refused e)
-  refused_by e f a is none = unmoved st good told count f f a (given.Refused e) none (sym (ap (λ (x : MachineReply × MachineState). laid_out x.0) is)) (ap (λ (x : MachineReply × MachineState). x.1) is)
+    pub open_unknown : get g.nodes node ≡ None → refusal ≡ Some ESTALE
+    open_unknown at = node_refusal None at
 
-  pub open_unserved : (f a : ℕ) → opens_to_read flags ≡ false → IsServed told count g g s s f f a a (given.Refused ENOSYS)
-  open_unserved f a unserved = refused_by ENOSYS f a (ap (λ b. cond b (open_node s.settings m flags (get m.nodes node)) (refusal ENOSYS)) unserved) (ap (λ b. cond b (open_node_messages s.settings m flags (get m.nodes node)) 0) unserved)
+    module _ (k : Node) (at : get g.nodes node ≡ Some k) where
+      by_tests : (full directory : Bool) → full ≡ is_at_limit n.state.settings m → directory ≡ is_directory_at (body_at n.state.tree.records k.ino)
+          → refusal ≡ first_refusal (first_refusal (refused_if full ENFILE ∷ refused_if directory EISDIR ∷ []) ∷ [])
+      by_tests full directory limited kind =
+          node_refusal (Some k) at
+          ∙ ap (λ (b : Bool). first_refusal (first_refusal (refused_if b ENFILE ∷ refused_if (is_directory_at (body_at n.state.tree.records k.ino)) EISDIR ∷ []) ∷ [])) (sym limited)
+          ∙ ap (λ (b : Bool). first_refusal (first_refusal (refused_if full ENFILE ∷ refused_if b EISDIR ∷ []) ∷ [])) (sym kind)
 
-  module _ (to_read : opens_to_read flags ≡ true) where
-    node_at : (o : Option Node) → get g.nodes node ≡ o → get m.nodes node ≡ option_map node_of o
-    node_at o at = get-mapped node_of g.nodes node ∙ ap (option_map node_of) at
+      pub open_full : true ≡ is_at_limit n.state.settings m → refusal ≡ Some ENFILE
+      open_full full = by_tests true (is_directory_at (body_at n.state.tree.records k.ino)) full refl
 
-    told_node : (o : Option Node) → get g.nodes node ≡ o → told ≡ open_node s.settings m flags (option_map node_of o)
-    told_node o at = ap (λ b. cond b (open_node s.settings m flags (get m.nodes node)) (refusal ENOSYS)) to_read ∙ ap (open_node s.settings m flags) (node_at o at)
+      is_directory : is_directory_at (body_at n.state.tree.records k.ino) ≡ (k.kind == 128)
+      is_directory = directory_by n.state.tree k.ino k.kind (node_good st node k at).stored (λ r stored. st.paired.node_kinds node k r at stored)
 
-    count_node : (o : Option Node) → get g.nodes node ≡ o → count ≡ open_node_messages s.settings m flags (option_map node_of o)
-    count_node o at = ap (λ b. cond b (open_node_messages s.settings m flags (get m.nodes node)) 0) to_read ∙ ap (open_node_messages s.settings m flags) (node_at o at)
+      pub open_directory : false ≡ is_at_limit n.state.settings m → k.kind ≡ 128 → refusal ≡ Some EISDIR
+      open_directory room kind = by_tests false true room (sym (is_directory ∙ equal_test k.kind 128 kind))
 
-    pub open_unknown : (f a : ℕ) → get g.nodes node ≡ None → IsServed told count g g s s f f a a (given.Refused ESTALE)
-    open_unknown f a at = refused_by ESTALE f a (told_node None at) (count_node None at)
+      module _ (room : false ≡ is_at_limit n.state.settings m) (kind : k.kind ≢ 128) where
+        file : is_directory_at (body_at n.state.tree.records k.ino) ≡ false
+        file = is_directory ∙ differ_test k.kind 128 kind
 
-    module _ (n : Node) (at : get g.nodes node ≡ Some n) where
-      in_all : len (mapped node_of g.nodes) + len (mapped handle_of g.handles) ≡ g.used
-      in_all = let a = len-mapped node_of g.nodes in let b = len-mapped handle_of g.handles in let c = st.paired.counted in omega arith
+        pub may_open : n.state.settings.limit < 2 ^ 32 → MayOpen g n.state node k flags
+        may_open small = record { stands = st; known = at; served = sym reads; file = file; room = sym room; few = few_used st (sym room) small }
 
-      limit_is : is_at_limit s.settings m ≡ (nat_le s.settings.limit g.used || nat_le NUMBER_LIMIT g.next)
-      limit_is = ap (λ k. nat_le s.settings.limit k || nat_le NUMBER_LIMIT g.next) in_all
-
-      abbrev checked : Result (Unit {0}) ℕ
-      checked = open_check_of s.tree n.ino flags
-
-      abbrev by_kind : Bool → MachineReply × MachineState
-      by_kind b = cond b (refusal EISDIR) (machine_opened m n.ino flags checked)
-
-      abbrev count_by : Bool → ℕ
-      count_by b = cond b 0 (opened_messages checked)
-
-      limited : (b : Bool) → (nat_le s.settings.limit g.used || nat_le NUMBER_LIMIT g.next) ≡ b → told ≡ cond b (refusal ENFILE) (by_kind (is_directory_at (body_at s.tree.records n.ino)))
-      limited b full = told_node (Some n) at ∙ ap (λ b. cond b (refusal ENFILE) (by_kind (is_directory_at (body_at s.tree.records n.ino)))) (limit_is ∙ full)
-
-      limited_count : (b : Bool) → (nat_le s.settings.limit g.used || nat_le NUMBER_LIMIT g.next) ≡ b → count ≡ cond b 0 (count_by (is_directory_at (body_at s.tree.records n.ino)))
-      limited_count b full = count_node (Some n) at ∙ ap (λ b. cond b 0 (count_by (is_directory_at (body_at s.tree.records n.ino)))) (limit_is ∙ full)
-
-      pub open_full : (f a : ℕ) → (nat_le s.settings.limit g.used || nat_le NUMBER_LIMIT g.next) ≡ true → IsServed told count g g s s f f a a (given.Refused ENFILE)
-      open_full f a full = refused_by ENFILE f a (limited true full) (limited_count true full)
-
-      is_directory : is_directory_at (body_at s.tree.records n.ino) ≡ (n.kind == 128)
-      is_directory = directory_by s.tree n.ino n.kind (st.good.nodes node (node_of n) (node_at (Some n) at)).stored (λ r stored. st.paired.node_kinds node n r at stored)
-
-      module _ (room : (nat_le s.settings.limit g.used || nat_le NUMBER_LIMIT g.next) ≡ false) where
-        pub open_directory : (f a : ℕ) → n.kind ≡ 128 → IsServed told count g g s s f f a a (given.Refused EISDIR)
-        open_directory f a kind =
-            let is = is_directory ∙ equal_test n.kind 128 kind in
-            refused_by EISDIR f a (limited false room ∙ ap by_kind is) (limited_count false room ∙ ap count_by is)
-
-        pub may_open : n.kind ≢ 128 → s.settings.limit < 2 ^ 32 → MayOpen g s node n flags
-        may_open kind small = record {
-          stands = st;
-          known = at;
-          served = to_read;
-          file = is_directory ∙ differ_test n.kind 128 kind;
-          room = limit_is ∙ room;
-          few = grind (arith, nat_tests, room);
-        }
-
-        pub open_opened : (g1 : Gate) (s1 : ServerState) (f0 f1 a0 a1 : ℕ) (reply : LaidOut) → n.kind ≢ 128 → IsServed (machine_opened m n.ino flags checked) (opened_messages checked) g g1 s s1 f0 f1 a0 a1 reply → IsServed told count g g1 s s1 f0 f1 a0 a1 reply
-        open_opened g1 s1 f0 f1 a0 a1 reply kind served =
-            let is = is_directory ∙ differ_test n.kind 128 kind in
-            subst (λ (x : MachineReply × MachineState). IsServed x count g g1 s s1 f0 f1 a0 a1 reply) (sym (limited false room ∙ ap by_kind is))
-            (subst (λ k. IsServed (machine_opened m n.ino flags checked) k g g1 s s1 f0 f1 a0 a1 reply) (sym (limited_count false room ∙ ap count_by is)) served)
+        pub open_opened : (new : Gate × Moment) (reply : Reply) → ServesOpening k flags (g, n) new reply → ServesRequest node (open_file flags) (g, n) new reply
+        open_opened new reply served =
+            served_after st good node (open_file flags) (by_tests false false room (sym file)) new reply
+            (subst (λ (i : ℕ). Serves (machine_opened m i flags (open_check_of n.state.tree i flags)) (opened_messages (open_check_of n.state.tree i flags)) (Untouched n.state.tree) (g, n) new reply)
+            (sym (ap node_ino (node_seen st node (Some k) at))) served)
 
 -- ---- the copy of the fid, and its opening
 
-module _ {g : Gate} {s : ServerState} {id : ℕ} {n : Node} {flags : ℕ} (h : MayOpen g s id n flags) (good : IsGoodServer s) where
-  -- there is room for a fid
-  limits : (nat_le s.settings.limit (len (mapped node_of g.nodes) + len (mapped handle_of g.handles)) || nat_le NUMBER_LIMIT g.next) ≡ false
-      → len (mapped node_of g.nodes) + len (mapped handle_of g.handles) < s.settings.limit
-  limits room = grind (arith, nat_tests, room)
-
-  pub below_limit : len s.fids < s.settings.limit
-  below_limit = let a = limits h.room in let b = len-mapped node_of g.nodes in let c = len-mapped handle_of g.handles in let d = h.stands.paired.counted in let e = h.stands.paired.used in omega arith
+module _ {g : Gate} (n : Moment) {id : ℕ} {k : Node} {flags : ℕ} (h : MayOpen g n.state id k flags) (good : IsGoodServer n.state) where
+  abbrev s : ServerState
+  s = n.state
 
   abbrev checks : Result (Unit {0}) ℕ
-  checks = open_check_of s.tree n.ino flags
+  checks = open_check_of s.tree k.ino flags
 
-  abbrev opens : MachineReply × MachineState
-  opens = machine_opened (machine_of g s) n.ino flags checks
-
-  abbrev sends : ℕ
-  sends = opened_messages checks
+  abbrev opens : Reply × MachineState
+  opens = machine_opened (machine_of g s) k.ino flags checks
 
   abbrev copied : ServerState
-  copied = record s { fids = insert s.fids g.next (closed n.ino) }
+  copied = record s { fids = insert s.fids g.next (closed k.ino) }
 
   abbrev opened_state : ServerState
-  opened_state = record s { fids = insert (insert s.fids g.next (closed n.ino)) g.next (fid_opened (closed n.ino) flags) }
+  opened_state = record s { fids = insert (insert s.fids g.next (closed k.ino)) g.next (fid_opened (closed k.ino) flags) }
 
-  abbrev refuses : ℕ → Result Qid ℕ
-  refuses e = Err e
-
-  abbrev pair : {A : Type 0} → Result A ℕ → ServerState → Result A ℕ × ServerState
-  pair r s = (r, s)
+  abbrev view : {A : Type 0} → Result A ℕ → Reply
+  view (Ok a) = Opened g.next
+  view (Err e) = Refused e
 
   -- the copy was refused
-  pub copy_refused : (e : ℕ) (r : Result (Unit {0}) ℕ) (g1 : Gate) (s1 : ServerState) (f0 f1 a0 a1 : ℕ) → r ≡ Err e → ((f : Fid) → get s.fids id ≡ Some f → Asks (copied_told s f.ino g.next) r s s1 f0 f1)
-      → g1 ≡ one_sent g → a1 ≡ min (a0 + 1) (2 ^ 64 - 1) → IsServed opens sends g g1 s s1 f0 f1 a0 a1 (given.Refused e)
-  copy_refused e r g1 s1 f0 f1 a0 a1 is asks sent counted =
-      let answer : Asks (copied_told s n.ino g.next) (Err e) s s1 f0 f1 = subst (λ (r : Result (Unit {0}) ℕ). Asks (copied_told s n.ino g.next) r s s1 f0 f1) is (asks (closed n.ino) (node_fid h.stands id n h.known)) in
-      ⊎_elim
+  pub copy_refused : (e : ℕ) (g1 : Gate) (n1 : Moment) → g1 ≡ one_sent g → AskedOne n n1 → n.faults ≤ n1.faults → Tells (copied_told s k.ino g.next) (Err e) n n1 → ServesOpening k flags (g, n) (g1, n1) (Refused e)
+  copy_refused e g1 n1 sent asked rises tells =
+      one_message h.stands opens (opened_messages checks) (Untouched s.tree) (copied_told s k.ino g.next) (Err e) view refl 1 g1 n1 (one_alone g1 n1 sent asked) rises refl tells
       (λ q. absurd (let clash : Err e ≡ Ok tt = ap (λ (x : Result (Unit {0}) ℕ × ServerState). x.0) q in cc))
-      (λ k.
-      let eio : e ≡ EIO = (let q = k.1 in cc) in
-      subst (λ d. IsServed opens sends g g1 s s1 f0 f1 a0 a1 (given.Refused d)) (sym eio)
-      (subst (λ (x : Gate). IsServed opens sends g x s s1 f0 f1 a0 a1 (given.Refused EIO)) (sym sent)
-      (hurt h.stands opens sends 1 (min (g.nine_frames + 1) (2 ^ 64 - 1)) s1 f0 f1 a0 a1 k.2 k.0 (omega arith) (omega arith))))
-      answer
 
   -- the copy is there
-  pub copy_made : (r : Result (Unit {0}) ℕ) (u : Unit {0}) (s1 : ServerState) (f0 f1 : ℕ) → r ≡ Ok u → ((f : Fid) → get s.fids id ≡ Some f → Asks (copied_told s f.ino g.next) r s s1 f0 f1) → s1 ≡ copied
-  copy_made r u s1 f0 f1 is asks =
-      let answer : Asks (copied_told s n.ino g.next) (Ok u) s s1 f0 f1 = subst (λ (r : Result (Unit {0}) ℕ). Asks (copied_told s n.ino g.next) r s s1 f0 f1) is (asks (closed n.ino) (node_fid h.stands id n h.known)) in
-      ⊎_elim
-      (λ q. ap (λ (x : Result (Unit {0}) ℕ × ServerState). x.1) q)
-      (λ k. absurd (let clash = k.1 in cc)) answer
+  pub copy_made : (u : Unit {0}) (n1 : Moment) → Tells (copied_told s k.ino g.next) (Ok u) n n1 → n1.state ≡ copied
+  copy_made u n1 tells = ⊎_elim (λ q. ap (λ (x : Result (Unit {0}) ℕ × ServerState). x.1) q) (λ f. absurd (let clash = f.1 in cc)) tells
 
-  pub copy_there : get copied.fids g.next ≡ Some (closed n.ino)
-  copy_there = inserted s.fids g.next (closed n.ino)
+  pub copy_there : (n1 : Moment) → n1.state ≡ copied → get n1.state.fids g.next ≡ Some (closed k.ino)
+  copy_there n1 same = ap (λ (x : ServerState). get x.fids g.next) same ∙ inserted s.fids g.next (closed k.ino)
 
-  pub copy_stays : (s1 : ServerState) → s1 ≡ copied → IsRoomy s1 × IsSome (get s1.fids g.next)
-  copy_stays s1 same = subst (λ (x : ServerState). IsRoomy x × IsSome (get x.fids g.next)) (sym same) (record { enough = h.stands.roomy }, subst IsSome (sym copy_there) refl)
+  module _ (n1 : Moment) (same : n1.state ≡ copied) where
+    fid_stays : (x : ServerState) → x ≡ copied → IsRoomy x × IsSome (get x.fids g.next)
+    fid_stays x is = subst (λ (x : ServerState). IsRoomy x × IsSome (get x.fids g.next)) (sym is) (record { enough = h.stands.roomy }, subst IsSome (sym (inserted s.fids g.next (closed k.ino))) refl)
 
-  abbrev Opens : Result Qid ℕ → ServerState → ServerState → ℕ → ℕ → Type 0
-  Opens r s1 s2 f1 f2 = (f : Fid) → get s1.fids g.next ≡ Some f → Asks (opened_told s1 g.next f flags) r s1 s2 f1 f2
+    pub copy_stays : IsRoomy n1.state × IsSome (get n1.state.fids g.next)
+    copy_stays = fid_stays n1.state same
 
-  open_asked : (r : Result Qid ℕ) (s1 s2 : ServerState) (f1 f2 : ℕ) → s1 ≡ copied → Opens r s1 s2 f1 f2 → Asks (opened_by copied g.next (closed n.ino) flags checks) r copied s2 f1 f2
-  open_asked r s1 s2 f1 f2 same asks = (subst (λ (x : ServerState). Opens r x s2 f1 f2) same asks) (closed n.ino) copy_there
+    -- the copy goes again: all is as it was
+    back : clunked copied g.next ≡ s
+    back = ap (λ (f : Fids). kept_server (record s { fids = f })) (undone s.fids g.next (closed k.ino) (fid_free h.stands)) ∙ kept_state_good s good
 
-  -- after an answer of the opening the copy is still there
-  pub open_stays : (r : Result Qid ℕ) (s1 s2 : ServerState) (f1 f2 : ℕ) → s1 ≡ copied → Opens r s1 s2 f1 f2 → IsRoomy s2 × IsSome (get s2.fids g.next)
-  open_stays r s1 s2 f1 f2 same asks = ⊎_elim (λ q. by_check checks q) (λ k. copy_stays s2 k.2) (open_asked r s1 s2 f1 f2 same asks) where
-    by_check : (c : Result (Unit {0}) ℕ) → pair r s2 ≡ opened_by copied g.next (closed n.ino) flags c → IsRoomy s2 × IsSome (get s2.fids g.next)
-    by_check (Ok u) q = subst (λ (x : ServerState). IsRoomy x × IsSome (get x.fids g.next)) (sym (ap (λ (x : Result Qid ℕ × ServerState). x.1) q))
-        (record { enough = h.stands.roomy }, subst IsSome (sym (inserted copied.fids g.next (fid_opened (closed n.ino) flags))) refl)
-    by_check (Err e) q = copy_stays s2 (ap (λ (x : Result Qid ℕ × ServerState). x.1) q)
+    module _ (r : Result Qid ℕ) (n2 : Moment) (tells : Tells (opened_told n1.state g.next (closed k.ino) flags) r n1 n2) where
+      -- the same in the terms of the state before the copy
+      tells_opened : (pair r n2.state ≡ opened_by copied g.next (closed k.ino) flags checks) ⊎ (Rose n1.faults n2.faults × (r ≡ Err EIO) × (n2.state ≡ copied))
+      tells_opened = ⊎_elim
+          (λ e. inl (e ∙ ap (λ (x : ServerState). opened_told x g.next (closed k.ino) flags) same))
+          (λ f. inr (f.0, f.1, f.2 ∙ same)) tells
 
-  pub open_tree : (r : Result Qid ℕ) (s1 s2 : ServerState) (f1 f2 : ℕ) → s1 ≡ copied → Opens r s1 s2 f1 f2 → s2.tree ≡ s.tree
-  open_tree r s1 s2 f1 f2 same asks = ⊎_elim (λ q. by_check checks q) (λ k. ap (λ (x : ServerState). x.tree) k.2) (open_asked r s1 s2 f1 f2 same asks) where
-    by_check : (c : Result (Unit {0}) ℕ) → pair r s2 ≡ opened_by copied g.next (closed n.ino) flags c → s2.tree ≡ s.tree
-    by_check (Ok u) q = ap (λ (x : Result Qid ℕ × ServerState). x.1.tree) q
-    by_check (Err e) q = ap (λ (x : Result Qid ℕ × ServerState). x.1.tree) q
+      by_check : (c : Result (Unit {0}) ℕ) → pair r n2.state ≡ opened_by copied g.next (closed k.ino) flags c → (n2.state ≡ opened_state) ⊎ (n2.state ≡ copied)
+      by_check (Ok u) q = inl (ap (λ (x : Result Qid ℕ × ServerState). x.1) q)
+      by_check (Err e) q = inr (ap (λ (x : Result Qid ℕ × ServerState). x.1) q)
 
-  -- the copy goes again: all is as it was
-  back : clunked copied g.next ≡ s
-  back = ap (λ (f : Fids). server_settled (record s { fids = f })) (undone s.fids g.next (closed n.ino) (fid_free h.stands)) ∙ settled_same s good
+      after_open : (n2.state ≡ opened_state) ⊎ (n2.state ≡ copied)
+      after_open = ⊎_elim (λ q. by_check checks q) (λ f. inr f.2) tells_opened
 
-  -- the opening was refused, and the copy goes again
-  pub open_refused : (e : ℕ) (r : Result Qid ℕ) (g1 g2 g3 : Gate) (s1 s2 s3 : ServerState) (f0 f1 f2 f3 a0 a1 a2 a3 : ℕ) → r ≡ Err e → s1 ≡ copied → Opens r s1 s2 f1 f2 → s3 ≡ clunked s2 g.next → f0 ≤ f1 → f2 ≤ f3
-      → g1 ≡ one_sent g → g2 ≡ one_sent g1 → g3 ≡ one_sent g2 → a1 ≡ min (a0 + 1) (2 ^ 64 - 1) → a2 ≡ min (a1 + 1) (2 ^ 64 - 1) → a3 ≡ min (a2 + 1) (2 ^ 64 - 1)
-      → IsServed opens sends g g3 s s3 f0 f3 a0 a3 (given.Refused e)
-  open_refused e r g1 g2 g3 s1 s2 s3 f0 f1 f2 f3 a0 a1 a2 a3 is same asks left before after sent_1 sent_2 sent_3 counted_1 counted_2 counted_3 =
-      subst (λ (x : Gate). IsServed opens sends g x s s3 f0 f3 a0 a3 (given.Refused e)) (sym (sent_3 ∙ ap one_sent (sent_2 ∙ ap one_sent sent_1)))
-      (⊎_elim (λ q. by_check checks refl q) hurt_by (subst (λ (r : Result Qid ℕ). Asks (opened_by copied g.next (closed n.ino) flags checks) r copied s2 f1 f2) is (open_asked r s1 s2 f1 f2 same asks)))
-    where
-      k : ℕ
-      k = min (min (min (g.nine_frames + 1) (2 ^ 64 - 1) + 1) (2 ^ 64 - 1) + 1) (2 ^ 64 - 1)
+      -- the copy is still there
+      pub open_stays : IsRoomy n2.state × IsSome (get n2.state.fids g.next)
+      open_stays = ⊎_elim
+          (λ is. subst (λ (x : ServerState). IsRoomy x × IsSome (get x.fids g.next)) (sym is) (record { enough = h.stands.roomy }, subst IsSome (sym (inserted (insert s.fids g.next (closed k.ino)) g.next (fid_opened (closed k.ino) flags))) refl))
+          (λ is. fid_stays n2.state is) after_open
 
-      as_before : s2 ≡ copied → s3 ≡ s
-      as_before is = left ∙ ap (λ (x : ServerState). clunked x g.next) is ∙ back
+      pub open_tree : n2.state.tree ≡ s.tree
+      open_tree = ⊎_elim (λ is. ap (λ (x : ServerState). x.tree) is) (λ is. ap (λ (x : ServerState). x.tree) is) after_open
 
-      by_check : (c : Result (Unit {0}) ℕ) → checks ≡ c → pair (Err e) s2 ≡ opened_by copied g.next (closed n.ino) flags c → IsServed opens sends g (record g { nine_frames = k }) s s3 f0 f3 a0 a3 (given.Refused e)
-      by_check (Ok u) c q = absurd (let clash : Err e ≡ Ok (qid_at copied.tree n.ino) = ap (λ (x : Result Qid ℕ × ServerState). x.0) q in cc)
-      by_check (Err d) c q =
-          let errno : e ≡ d = (let w : Err e ≡ Err d = ap (λ (x : Result Qid ℕ × ServerState). x.0) q in cc) in
-          let state = ap (λ c. machine_opened (machine_of g s) n.ino flags c) c in
-          let three : sends ≡ 3 = ap opened_messages c in
-          subst (λ (x : ServerState). IsServed opens sends g (record g { nine_frames = k }) s x f0 f3 a0 a3 (given.Refused e)) (sym (as_before (ap (λ (x : Result Qid ℕ × ServerState). x.1) q)))
-          (kept h.stands good opens sends k f0 f3 a0 a3 (given.Refused e) (ap given.Refused errno ∙ sym (ap (λ (x : MachineReply × MachineState). laid_out x.0) state)) (ap (λ (x : MachineReply × MachineState). x.1) state) (omega (arith, three)) (omega (arith, three, counted_1, counted_2, counted_3)))
+      module _ (g1 g2 : Gate) (sent_1 : g1 ≡ one_sent g) (sent_2 : g2 ≡ one_sent g1) (asked_1 : AskedOne n n1) (asked_2 : AskedOne n1 n2) (rises : n.faults ≤ n1.faults) where
+        two_sent : SentAlone 2 g n g2 n2
+        two_sent = one_more_sent (one_alone g1 n1 sent_1 asked_1) g2 n2 sent_2 asked_2
 
-      hurt_by : Rose f1 f2 × (refuses e ≡ refuses EIO) × (s2 ≡ copied) → IsServed opens sends g (record g { nine_frames = k }) s s3 f0 f3 a0 a3 (given.Refused e)
-      hurt_by (rose, refused, unchanged) =
-          let eio : e ≡ EIO = cc in
-          subst (λ d. IsServed opens sends g (record g { nine_frames = k }) s s3 f0 f3 a0 a3 (given.Refused d)) (sym eio)
-          (hurt h.stands opens sends 3 k s3 f0 f3 a0 a3 (as_before unchanged) (omega (arith, rose, before, after)) (omega arith) (omega (arith, counted_1, counted_2, counted_3)))
+        -- the opening was refused, and the copy goes again
+        module _ (e : ℕ) (is : r ≡ Err e) where
+          left_copy : n2.state ≡ copied
+          left_copy = ⊎_elim (λ q. by_refusal checks q) (λ f. f.2) tells_opened where
+            by_refusal : (c : Result (Unit {0}) ℕ) → pair r n2.state ≡ opened_by copied g.next (closed k.ino) flags c → n2.state ≡ copied
+            by_refusal (Ok u) q = absurd (let clash : Err e ≡ Ok (qid_at copied.tree k.ino) = sym is ∙ ap (λ (x : Result Qid ℕ × ServerState). x.0) q in cc)
+            by_refusal (Err d) q = ap (λ (x : Result Qid ℕ × ServerState). x.1) q
 
-  -- ---- the copy is open
+          pub gone_again : (n3 : Moment) → n3.state ≡ clunked n2.state g.next → n3.state ≡ s
+          gone_again n3 left = left ∙ ap (λ (x : ServerState). clunked x g.next) left_copy ∙ back
 
-  abbrev new_handle : Handle
-  new_handle = handle_by n flags
+          pub open_refused : (g3 : Gate) (n3 : Moment) → g3 ≡ one_sent g2 → AskedOne n2 n3 → n2.faults ≤ n3.faults → n3.state ≡ clunked n2.state g.next → ServesOpening k flags (g, n) (g3, n3) (Refused e)
+          open_refused g3 n3 sent_3 asked_3 later left =
+              let three = one_more_sent two_sent g3 n3 sent_3 asked_3 in
+              let state = gone_again n3 left in
+              ⊎_elim
+              (λ q. by_refusal checks refl q)
+              (λ f.
+              let eio : Err e ≡ Err EIO = sym is ∙ f.1 in
+              let one : e ≡ EIO = cc in
+              let rose = f.0 in
+              subst (λ d. ServesOpening k flags (g, n) (g3, n3) (Refused d)) (sym one) (hurt h.stands opens (opened_messages checks) (Untouched s.tree) 3 g3 n3 three state (omega (arith, rises, rose, later)) refl))
+              tells_opened
+            where
+              by_refusal : (c : Result (Unit {0}) ℕ) → checks ≡ c → pair r n2.state ≡ opened_by copied g.next (closed k.ino) flags c → ServesOpening k flags (g, n) (g3, n3) (Refused e)
+              by_refusal (Ok u) c q = absurd (let clash : Err e ≡ Ok (qid_at copied.tree k.ino) = sym is ∙ ap (λ (x : Result Qid ℕ × ServerState). x.0) q in cc)
+              by_refusal (Err d) c q =
+                  let same_errno : Err e ≡ Err d = sym is ∙ ap (λ (x : Result Qid ℕ × ServerState). x.0) q in
+                  let errno : e ≡ d = cc in
+                  let told = ap (λ c. machine_opened (machine_of g s) k.ino flags c) c in
+                  subst (λ count. Serves opens count (Untouched s.tree) (g, n) (g3, n3) (Refused e)) (sym (ap opened_messages c))
+                  (unchanged h.stands opens 3 (Untouched s.tree) good g3 n3 (Refused e) (one_more_sent two_sent g3 n3 sent_3 asked_3) (gone_again n3 left)
+                  (ap Refused errno ∙ sym (ap (λ (x : Reply × MachineState). x.0) told)) (ap (λ (x : Reply × MachineState). x.1) told))
 
-  kind_is : (r : Record) → get s.tree.records n.ino ≡ Some r → n.kind ≡ qid_type (kind_of r.body)
-  kind_is r stored = h.stands.paired.node_kinds id n r h.known stored
+          -- no memory while the copy goes again
+          pub open_clunk_tree : (n3 : Moment) → (n3.state ≡ n2.state) ⊎ (n3.state ≡ clunked n2.state g.next) → n3.state.tree ≡ s.tree
+          open_clunk_tree n3 part = ⊎_elim
+              (λ w. ap (λ (x : ServerState). x.tree) (w ∙ left_copy))
+              (λ w. ap (λ (x : ServerState). x.tree) (gone_again n3 w)) part
 
-  opened_paired : (k : ℕ) → ArePaired (record (with_handle g new_handle) { nine_frames = k }) opened_state
-  opened_paired k =
-      let p = h.stands.paired in
-      record {
-        fids = λ q. insert_cases copied.fids g.next (fid_opened (closed n.ino) flags) q (λ o. o ≡ fid_at (get g.nodes q) (get (insert g.handles g.next new_handle) q))
-            (λ e. subst (λ k. Some (fid_opened (closed n.ino) flags) ≡ fid_at (get g.nodes k) (get (insert g.handles g.next new_handle) k)) (sym e)
-            (sym (ap (λ o. fid_at o (get (insert g.handles g.next new_handle) g.next)) (next_free h.stands) ∙ ap (fid_at None) (inserted g.handles g.next new_handle))))
-            (λ ne. insert_keeps s.fids g.next (closed n.ino) q ne ∙ p.fids q ∙ ap (fid_at (get g.nodes q)) (sym (insert_keeps g.handles g.next new_handle q ne)));
-        used = (let a = p.used in let b = len_new s.fids g.next (closed n.ino) (fid_free h.stands) in let c = len_known copied.fids g.next (closed n.ino) (fid_opened (closed n.ino) flags) copy_there in omega arith);
-        counted = (let a = p.counted in let b = len_new g.handles g.next new_handle (next_no_handle h.stands) in omega arith);
-        ids = p.ids;
-        known = p.known;
-        node_kinds = p.node_kinds;
-        handle_kinds = λ q x r. insert_cases g.handles g.next new_handle q (λ o. o ≡ Some x → get s.tree.records x.ino ≡ Some r → x.kind ≡ qid_type (kind_of r.body))
-            (λ e here stored. let same : new_handle ≡ x = cc in ap (λ (y : Handle). y.kind) (sym same) ∙ kind_is r (ap (λ (y : Handle). get s.tree.records y.ino) same ∙ stored))
-            (λ ne here stored. p.handle_kinds q x r here stored);
-      }
+        -- ---- the copy is open
 
-  pub open_made : (r : Result Qid ℕ) (q : Qid) (g1 g2 g3 : Gate) (s1 s2 : ServerState) (f0 f1 f2 a0 a1 a2 : ℕ) → IsGoodServer s2 → r ≡ Ok q → s1 ≡ copied → Opens r s1 s2 f1 f2
-      → g1 ≡ one_sent g → g2 ≡ one_sent g1 → g3 ≡ with_handle g2 new_handle → a1 ≡ min (a0 + 1) (2 ^ 64 - 1) → a2 ≡ min (a1 + 1) (2 ^ 64 - 1)
-      → IsServed opens sends g g3 s s2 f0 f2 a0 a2 (given.Opened g.next)
-  open_made r q g1 g2 g3 s1 s2 f0 f1 f2 a0 a1 a2 good_2 is same asks sent_1 sent_2 drawn counted_1 counted_2 =
-      subst (λ (x : Gate). IsServed opens sends g x s s2 f0 f2 a0 a2 (given.Opened g.next)) (sym (drawn ∙ ap (λ (x : Gate). with_handle x new_handle) (sent_2 ∙ ap one_sent sent_1)))
-      (⊎_elim (λ w. by_check checks refl w) (λ w. absurd (let clash = w.1 in cc))
-      (subst (λ (r : Result Qid ℕ). Asks (opened_by copied g.next (closed n.ino) flags checks) r copied s2 f1 f2) is (open_asked r s1 s2 f1 f2 same asks)))
-    where
-      k : ℕ
-      k = min (min (g.nine_frames + 1) (2 ^ 64 - 1) + 1) (2 ^ 64 - 1)
+        abbrev new_handle : Handle
+        new_handle = handle_by k flags
 
-      by_check : (c : Result (Unit {0}) ℕ) → checks ≡ c → pair (Ok q) s2 ≡ opened_by copied g.next (closed n.ino) flags c → IsServed opens sends g (record (with_handle g new_handle) { nine_frames = k }) s s2 f0 f2 a0 a2 (given.Opened g.next)
-      by_check (Err d) c w = absurd (let clash : Ok q ≡ Err d = ap (λ (x : Result Qid ℕ × ServerState). x.0) w in cc)
-      by_check (Ok tt) c w =
-          let after : s2 ≡ opened_state = ap (λ (x : Result Qid ℕ × ServerState). x.1) w in
-          let state = ap (λ c. machine_opened (machine_of g s) n.ino flags c) c in
-          let two : sends ≡ 2 = ap opened_messages c in
-          let fine = subst (λ c. IsGoodMachine s.settings (settled (machine_opened (machine_of g s) n.ino flags c).1)) refl
-          (opened_good s.settings (machine_of g s) h.stands.good flags n.ino (reads flags h.served) h.room h.file checks refl) in
-          subst (λ (x : ServerState). IsServed opens sends g (record (with_handle g new_handle) { nine_frames = k }) s x f0 f2 a0 a2 (given.Opened g.next)) (sym after)
-          (made opens sends g (record (with_handle g new_handle) { nine_frames = k }) s opened_state f0 f2 a0 a2 (given.Opened g.next)
-          (subst IsGoodServer after good_2) (opened_paired k) h.stands.roomy refl fine
-          (sym (ap (λ (x : MachineReply × MachineState). laid_out x.0) state))
-          (ap (λ (x : FinMap _ MachineHandle). let y : MachineState = record (machine_of g s) { handles = x; next = g.next + 1 } in y) (mapped-insert handle_of g.handles g.next new_handle) ∙ sym (ap (λ (x : MachineReply × MachineState). x.1) state))
-          (omega (arith, two)) (omega (arith, two, counted_1, counted_2)))
+        abbrev g_open : ℕ → Gate
+        g_open count = record (with_handle g new_handle) { nine_frames = count }
 
-  -- want of memory while the copy goes again
-  pub open_clunk_tree : (r : Result Qid ℕ) (e : ℕ) (s1 s2 s3 : ServerState) (f1 f2 : ℕ) → r ≡ Err e → s1 ≡ copied → Opens r s1 s2 f1 f2 → (s3 ≡ s2) ⊎ (s3 ≡ clunked s2 g.next) → s3.tree ≡ s.tree
-  open_clunk_tree r e s1 s2 s3 f1 f2 is same asks part =
-      ⊎_elim
-      (λ w. ap (λ (x : ServerState). x.tree) w ∙ open_tree r s1 s2 f1 f2 same asks)
-      (λ w. ap (λ (x : ServerState). x.tree) (w ∙ ap (λ (x : ServerState). clunked x g.next) unchanged ∙ back)) part
-    where
-      unchanged : s2 ≡ copied
-      unchanged = ⊎_elim (λ q. by_check checks q) (λ k. k.2) (subst (λ (r : Result Qid ℕ). Asks (opened_by copied g.next (closed n.ino) flags checks) r copied s2 f1 f2) is (open_asked r s1 s2 f1 f2 same asks)) where
-        by_check : (c : Result (Unit {0}) ℕ) → pair (Err e) s2 ≡ opened_by copied g.next (closed n.ino) flags c → s2 ≡ copied
-        by_check (Ok u) q = absurd (let clash : Err e ≡ Ok (qid_at copied.tree n.ino) = ap (λ (x : Result Qid ℕ × ServerState). x.0) q in cc)
-        by_check (Err d) q = ap (λ (x : Result Qid ℕ × ServerState). x.1) q
+        kind_is : (r : Record) → get s.tree.records k.ino ≡ Some r → k.kind ≡ qid_type (kind_of r.body)
+        kind_is r stored = h.stands.paired.node_kinds id k r h.known stored
+
+        opened_paired : (count : ℕ) → ArePaired (g_open count) opened_state
+        opened_paired count =
+            let p = h.stands.paired in
+            record {
+              fids = λ q. insert_cases copied.fids g.next (fid_opened (closed k.ino) flags) q (λ o. o ≡ fid_at (get g.nodes q) (get (insert g.handles g.next new_handle) q))
+                  (λ e. subst (λ i. Some (fid_opened (closed k.ino) flags) ≡ fid_at (get g.nodes i) (get (insert g.handles g.next new_handle) i)) (sym e)
+                  (sym (ap (λ o. fid_at o (get (insert g.handles g.next new_handle) g.next)) (next_free h.stands) ∙ ap (fid_at None) (inserted g.handles g.next new_handle))))
+                  (λ ne. insert_keeps s.fids g.next (closed k.ino) q ne ∙ p.fids q ∙ ap (fid_at (get g.nodes q)) (sym (insert_keeps g.handles g.next new_handle q ne)));
+              used = (let a = p.used in let b = len_new s.fids g.next (closed k.ino) (fid_free h.stands) in let c = len_known copied.fids g.next (closed k.ino) (fid_opened (closed k.ino) flags) (inserted s.fids g.next (closed k.ino)) in omega arith);
+              counted = (let a = p.counted in let b = len_new g.handles g.next new_handle (next_no_handle h.stands) in omega arith);
+              ids = p.ids;
+              known = p.known;
+              node_kinds = p.node_kinds;
+              handle_kinds = λ q x r. insert_cases g.handles g.next new_handle q (λ o. o ≡ Some x → get s.tree.records x.ino ≡ Some r → x.kind ≡ qid_type (kind_of r.body))
+                  (λ e here stored. let same : new_handle ≡ x = cc in ap (λ (y : Handle). y.kind) (sym same) ∙ kind_is r (ap (λ (y : Handle). get s.tree.records y.ino) same ∙ stored))
+                  (λ ne here stored. p.handle_kinds q x r here stored);
+            }
+
+        pub open_made : (q : Qid) → r ≡ Ok q → IsGoodServer n2.state → (g3 : Gate) → g3 ≡ with_handle g2 new_handle → ServesOpening k flags (g, n) (g3, n2) (Opened g.next)
+        open_made q is good_2 g3 drawn = ⊎_elim (λ w. by_opening checks refl w) (λ w. absurd (let clash : Ok q ≡ Err EIO = sym is ∙ w.1 in cc)) tells_opened where
+          gate : g3 ≡ g_open g2.nine_frames
+          gate = drawn ∙ ap (λ (x : Gate). with_handle x new_handle) two_sent.gate
+
+          by_opening : (c : Result (Unit {0}) ℕ) → checks ≡ c → pair r n2.state ≡ opened_by copied g.next (closed k.ino) flags c → ServesOpening k flags (g, n) (g3, n2) (Opened g.next)
+          by_opening (Err d) c w = absurd (let clash : Ok q ≡ Err d = sym is ∙ ap (λ (x : Result Qid ℕ × ServerState). x.0) w in cc)
+          by_opening (Ok tt) c w =
+              let after : n2.state ≡ opened_state = ap (λ (x : Result Qid ℕ × ServerState). x.1) w in
+              let told = ap (λ c. machine_opened (machine_of g s) k.ino flags c) c in
+              let two : opened_messages checks ≡ 2 = ap opened_messages c in
+              let frames = two_sent.messages.frames in
+              let asked = two_sent.messages.asked in
+              let fine = opened_good s.settings (machine_of g s) h.stands.good flags k.ino (to_read flags h.served).access h.room h.file checks refl in
+              subst (λ (x : Gate). ServesOpening k flags (g, n) (x, n2) (Opened g.next)) (sym gate)
+              (made opens (opened_messages checks) (Untouched s.tree) (g, n) (g_open g2.nine_frames, n2) (Opened g.next) good_2
+              (subst (ArePaired (g_open g2.nine_frames)) (sym after) (opened_paired g2.nine_frames)) (subst (λ (x : ServerState). LEAST_MSIZE ≤ x.msize) (sym after) h.stands.roomy)
+              (ap (λ (x : ServerState). x.settings) after) fine
+              (sym (ap (λ (x : Reply × MachineState). x.0) told))
+              (ap (machine_of (g_open g2.nine_frames)) after ∙ ap (λ (x : FinMap _ MachineHandle). let y : MachineState = record (machine_of g s) { handles = x; next = g.next + 1 } in y) (mapped-insert handle_of g.handles g.next new_handle) ∙ sym (ap (λ (x : Reply × MachineState). x.1) told))
+              (record { frames = omega (arith, two, frames); asked = omega (arith, two, asked) }))

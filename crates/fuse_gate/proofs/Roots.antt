@@ -2,7 +2,8 @@
 use Rattle.std.proofs.Common.{◌≡◌, ℕ, true, false, cond, List, [], ◌∷◌, refl, ap, ◌∙◌, None, Result, Ok, Err}
 use Rattle.std.specs.Prelude.{option_map, option_and_then}
 use Rattle.std.specs.FinMap.{get}
-use Rattle.tree_model.specs.Tree.{Tree, Record, body_at, is_linked, linked, top}
+use Rattle.tree_model.specs.Tree.{Tree, Record, body_at, is_linked, linked}
+use Rattle.tree_model.specs.declared.attributes.TheConstants.{TOP}
 use Rattle.tree_model.specs.Finding.{find, entries_of, ino_among, walk_step, walk_end, walk_on, directory_or_not, root_of}
 use Rattle.tree_model.proofs.Maps.{retained}
 use Rattle.tree_model.proofs.Naming.{found_is_named}
@@ -37,4 +38,4 @@ module _ (t : Tree) where
   walk_same (name ∷ names) at live = ap (λ r. walk_on (linked t) r names) (step_same name at live) ∙ walk_same names (walk_step t name at) (step_linked name at)
 
   pub root_of-linked : (names : List (List ℕ)) → root_of (linked t) names ≡ root_of t names
-  root_of-linked names = walk_same names (Ok top) refl
+  root_of-linked names = walk_same names (Ok TOP) refl

@@ -1,5 +1,5 @@
 -- A gate over a small server: what it shows follows by computation from what its tables have.
-use Rattle.std.proofs.Common.{◌≡◌, [], ◌∷◌, false, ap, ◌∙◌, Option, Some, Ok, refl, arith}
+use Rattle.std.proofs.Common.{◌≡◌, [], false, ap, ◌∙◌, Option, Some, Ok, refl, arith}
 use Rattle.std.specs.Prelude.{codes, option_map, unwrap_or}
 use Rattle.std.specs.Ordering.{nat_cmp}
 use Rattle.std.specs.FinMap.{get, insert, empty, get-empty}
@@ -13,10 +13,7 @@ use Rattle.tree_model.specs.Samples.{born, sample}
 use Rattle.tree_model.proofs.Maps.{inserted, insert_keeps}
 use Rattle.tree_model.proofs.Sampling.{all_linked, body_of_file}
 use Rattle.tree_model.proofs.Telling.{root_top}
-use Rattle.fuse_wire.specs.Reply.{reply, reply_head, u32s, u64s}
-use Rattle.fuse_wire.proofs.Sampling.{refused}
-use Rattle.tree_machine.specs.Core.Reply.{Refused, BytesOf}
-use Rattle.tree_machine.specs.Step.{fuse_attributes}
+use Rattle.tree_machine.specs.Replies.{fuse_attributes}
 use Rattle.fid_model.specs.Answers.{attributes_of}
 use Rattle.fid_model.specs.Fids.{Fid}
 use Rattle.fid_model.specs.Samples.{server, with_open}
@@ -25,7 +22,7 @@ use Rattle.fuse_gate.specs.declared.gate.Node.{Node}
 use Rattle.fuse_gate.specs.Attaching.{root_told}
 use Rattle.fuse_gate.specs.Changes.{counted_up, counted_by}
 use Rattle.fuse_gate.specs.Files.{file_at}
-use Rattle.fuse_gate.specs.Replies.{file_attributes, laid_out, written}
+use Rattle.fuse_gate.specs.Replies.{file_attributes}
 use Rattle.fuse_gate.specs.Samples.{gate}
 use Rattle.fuse_gate.specs.Standing.{machine_of, node_of, handle_of}
 use Rattle.fuse_gate.proofs.MappedLemmas.{get-mapped}
@@ -66,10 +63,3 @@ bytes_of_none = ap (λ (o : Option Fid). unwrap_or (option_map (λ (f : Fid). by
 
 pub attributes_kept : let a : Attr = record { ino = 2; kind = kind.File; mode = 420; uid = 5; gid = 6; links = 1; size = 5; atime = born; mtime = born; ctime = born } in file_attributes (attributes_of a) ≡ fuse_attributes a
 attributes_kept = refl
-
-pub refusal_written : written 7 (laid_out (Refused 2)) ≡ 16 ∷ 0 ∷ 0 ∷ 0 ∷ 254 ∷ 255 ∷ 255 ∷ 255 ∷ 7 ∷ 0 ∷ 0 ∷ 0 ∷ 0 ∷ 0 ∷ 0 ∷ 0 ∷ []
-refusal_written = refused
-
-pub bytes_written : written 7 (laid_out (BytesOf (codes "hi"))) ≡ 18 ∷ 0 ∷ 0 ∷ 0 ∷ 0 ∷ 0 ∷ 0 ∷ 0 ∷ 7 ∷ 0 ∷ 0 ∷ 0 ∷ 0 ∷ 0 ∷ 0 ∷ 0 ∷ 104 ∷ 105 ∷ []
-unfolding reply reply_head u32s u64s
-bytes_written = refl

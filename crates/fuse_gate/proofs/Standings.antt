@@ -1,27 +1,21 @@
 -- Gates and servers that stay in step.
-use Rattle.std.proofs.Common.{◌≡◌, ℕ, ◌<◌, ◌≤◌, refl, sym, ap, ◌∙◌, subst, Option, Some, None, arith, inl, inr}
-use Rattle.std.specs.FinMap.{get}
-use Rattle.port_base.specs.Faults.{Rose}
-use Rattle.port_base.specs.declared.errno.TheConstants.{EIO}
+use Rattle.std.proofs.Common.{◌≡◌, ℕ, ◌+◌, ◌<◌, ◌≤◌, ◌^◌, ◌||◌, true, false, refl, sym, ap, ◌∙◌, Option, Some, None, arith, nat_le, is_some}
+use Rattle.std.specs.Prelude.{option_map}
+use Rattle.std.proofs.lemmas.Bool.{false≢true}
+use Rattle.std.proofs.lemmas.Bool.Decides.{nat_tests}
+use Rattle.std.specs.FinMap.{get, len}
 use Rattle.tree_model.specs.Tree.{Tree}
-use Rattle.tree_model.specs.Settings.{Settings}
-use Rattle.tree_machine.specs.State.{MachineState, Node as MachineNode, settled, is_named}
-use Rattle.tree_machine.specs.Core.{Reply as MachineReply}
-use Rattle.tree_machine.specs.Good.{IsGoodMachine, IsGoodNode, IsGoodHandle}
+use Rattle.tree_machine.specs.State.{MachineState, Node as MachineNode, kept_state, is_named, is_at_limit}
+use Rattle.tree_machine.specs.declared.limits.TheConstants.{NUMBER_LIMIT}
+use Rattle.tree_machine.specs.Good.{IsGoodNode, IsGoodHandle}
 use Rattle.fid_model.specs.Fids.{ServerState, is_held, IsGoodServer, closed}
 use Rattle.fid_model.proofs.Keeping.{keep_same, keep_alike}
 use Rattle.fuse_gate.specs.Mapped.{mapped}
 use Rattle.fuse_gate.specs.Standing.{IsInStep, ArePaired, machine_of, node_of, handle_of, fid_at, opened}
-use Rattle.frame_pump.specs.Sessions.{Counted}
-use Rattle.fuse_gate.specs.Steps.{IsServed}
-use Rattle.fuse_gate.specs.Laying.{LaidOut}
-use Rattle.fuse_gate.specs.Replies.{laid_out}
-use Rattle.fuse_gate.specs.declared.gate.TheConstants.{LEAST_MSIZE}
 use Rattle.fuse_gate.specs.declared.gate.Node.{Node}
 use Rattle.fuse_gate.specs.declared.gate.Handle.{Handle}
 use Rattle.fuse_gate.specs.declared.gate.Gate.{Gate}
-use Rattle.fuse_gate.specs.Laying.LaidOut.{Refused}
-use Rattle.fuse_gate.proofs.MappedLemmas.{mapped_at, mapped_none}
+use Rattle.fuse_gate.proofs.MappedLemmas.{get-mapped, len-mapped, mapped_at, mapped_none}
 use Rattle.fuse_gate.proofs.Held.{named_is_held}
 
 -- no number is a node and a handle
@@ -33,29 +27,12 @@ pub named_held : (g : Gate) (s : ServerState) → ArePaired g s → AreApart (ma
 named_held g s paired apart i = named_is_held g.nodes g.handles s.fids paired.fids (λ q n at. mapped_none handle_of g.handles q (apart q (node_of n) (mapped_at node_of g.nodes q n at))) i
 
 -- nothing goes
-pub settled_same : (g : Gate) (s : ServerState) → ArePaired g s → AreApart (machine_of g s) → IsGoodServer s → settled (machine_of g s) ≡ machine_of g s
-settled_same g s paired apart good =
+pub kept_same : (g : Gate) (s : ServerState) → ArePaired g s → AreApart (machine_of g s) → IsGoodServer s → kept_state (machine_of g s) ≡ machine_of g s
+kept_same g s paired apart good =
     ap (λ (t : Tree). let m : MachineState = record (machine_of g s) { tree = t } in m)
     (keep_alike s.tree (is_named (mapped node_of g.nodes) (mapped handle_of g.handles)) (is_held s.fids)
     (named_held g s paired apart)
     ∙ keep_same s.tree (is_held s.fids) good.kept)
-
--- a request that was carried out
-pub made : (told : MachineReply × MachineState) (messages : ℕ) (g0 g1 : Gate) (s0 s1 : ServerState) (f0 f1 a0 a1 : ℕ) (reply : LaidOut)
-    → IsGoodServer s1 → ArePaired g1 s1 → LEAST_MSIZE ≤ s1.msize → s1.settings ≡ s0.settings → IsGoodMachine s0.settings (settled told.1)
-    → reply ≡ laid_out told.0 → machine_of g1 s1 ≡ told.1 → Counted g0.nine_frames messages g1.nine_frames → Counted a0 messages a1
-    → IsServed told messages g0 g1 s0 s1 f0 f1 a0 a1 reply
-made told messages g0 g1 s0 s1 f0 f1 a0 a1 reply good paired roomy fixed told_good is state frames asked =
-    let apart : AreApart (machine_of g1 s1) = subst AreApart (sym state) told_good.apart in
-    let all : machine_of g1 s1 ≡ settled told.1 = sym (settled_same g1 s1 paired apart good) ∙ ap settled state in
-    record {
-      stands = record { good = subst (λ (x : Settings). IsGoodMachine x (machine_of g1 s1)) (sym fixed) (subst (IsGoodMachine s0.settings) (sym all) told_good); paired = paired; roomy = roomy };
-      fixed = fixed;
-      sent = messages;
-      frames = frames;
-      asked = asked;
-      outcome = inl (is, all, refl);
-    }
 
 module _ {g : Gate} {s : ServerState} (st : IsInStep g s) where
   -- more messages were sent
@@ -66,27 +43,8 @@ module _ {g : Gate} {s : ServerState} (st : IsInStep g s) where
     roomy = st.roomy;
   }
 
-  -- a fault leaves the state as it was
-  pub hurt : (told : MachineReply × MachineState) (messages sent k : ℕ) (s1 : ServerState) (f0 f1 a0 a1 : ℕ) → s1 ≡ s → Rose f0 f1 → Counted g.nine_frames sent k → Counted a0 sent a1
-      → IsServed told messages g (record g { nine_frames = k }) s s1 f0 f1 a0 a1 (Refused EIO)
-  hurt told messages sent k s1 f0 f1 a0 a1 same rose frames asked =
-      subst (λ (x : ServerState). IsServed told messages g (record g { nine_frames = k }) s x f0 f1 a0 a1 (Refused EIO)) (sym same)
-      (record { stands = sent_stands k; fixed = refl; sent = sent; frames = frames; asked = asked; outcome = inr (rose, refl, refl, inl refl) })
-
-  pub stands_settled : IsGoodServer s → settled (machine_of g s) ≡ machine_of g s
-  stands_settled good = settled_same g s st.paired st.good.apart good
-
-  -- the machine's state is as it was
-  pub kept : IsGoodServer s → (told : MachineReply × MachineState) (messages k f0 f1 a0 a1 : ℕ) (reply : LaidOut) → reply ≡ laid_out told.0 → told.1 ≡ machine_of g s → Counted g.nine_frames messages k → Counted a0 messages a1
-      → IsServed told messages g (record g { nine_frames = k }) s s f0 f1 a0 a1 reply
-  kept good told messages k f0 f1 a0 a1 reply is state frames asked =
-      record { stands = sent_stands k; fixed = refl; sent = messages; frames = frames; asked = asked; outcome = inl (is, sym (ap settled state ∙ stands_settled good), refl) }
-
-  -- a refusal without a message
-  pub unmoved : IsGoodServer s → (told : MachineReply × MachineState) (messages f0 f1 a : ℕ) (reply : LaidOut) → messages ≡ 0 → reply ≡ laid_out told.0 → told.1 ≡ machine_of g s
-      → IsServed told messages g g s s f0 f1 a a reply
-  unmoved good told messages f0 f1 a reply none is state =
-      record { stands = st; fixed = refl; sent = messages; frames = omega arith; asked = omega arith; outcome = inl (is, sym (ap settled state ∙ stands_settled good), refl) }
+  pub stands_kept : IsGoodServer s → kept_state (machine_of g s) ≡ machine_of g s
+  stands_kept good = kept_same g s st.paired st.good.apart good
 
   -- ---- which fids there are
 
@@ -132,3 +90,51 @@ module _ {g : Gate} {s : ServerState} (st : IsInStep g s) where
 
   pub handle_below : (q : ℕ) (h : Handle) → get g.handles q ≡ Some h → q < 4294967296
   handle_below q h at = let low = (handle_good q h at).drawn in let end = st.good.next in omega arith
+
+  -- ---- the machine's nodes, handles and limit
+
+  pub node_seen : (id : ℕ) (o : Option Node) → get g.nodes id ≡ o → get (machine_of g s).nodes id ≡ option_map node_of o
+  node_seen id o at = get-mapped node_of g.nodes id ∙ ap (option_map node_of) at
+
+  pub handle_seen : (id : ℕ) (o : Option Handle) → get g.handles id ≡ o → get (machine_of g s).handles id ≡ option_map handle_of o
+  handle_seen id o at = get-mapped handle_of g.handles id ∙ ap (option_map handle_of) at
+
+  pub in_all : len (machine_of g s).nodes + len (machine_of g s).handles ≡ g.used
+  in_all = let a = len-mapped node_of g.nodes in let b = len-mapped handle_of g.handles in let c = st.paired.counted in omega arith
+
+  pub limit_is : is_at_limit s.settings (machine_of g s) ≡ (nat_le s.settings.limit g.used || nat_le NUMBER_LIMIT g.next)
+  limit_is = ap (λ k. nat_le s.settings.limit k || nat_le NUMBER_LIMIT g.next) in_all
+
+  pub few_used : is_at_limit s.settings (machine_of g s) ≡ false → s.settings.limit < 2 ^ 32 → g.used < 2 ^ 32
+  few_used room small = by_test (sym limit_is ∙ room) where
+    by_test : (nat_le s.settings.limit g.used || nat_le NUMBER_LIMIT g.next) ≡ false → g.used < 2 ^ 32
+    by_test below = grind (arith, nat_tests, below)
+
+  -- by the numbers that are counted
+  pub full_by : (limit : ℕ) → limit ≡ s.settings.limit → limit ≤ g.used → nat_le limit g.used ≡ is_at_limit s.settings (machine_of g s)
+  full_by limit is enough = by_number limit s.settings.limit is enough ∙ sym limit_is where
+    by_number : (a b : ℕ) → a ≡ b → a ≤ g.used → nat_le a g.used ≡ (nat_le b g.used || nat_le NUMBER_LIMIT g.next)
+    by_number a b is enough =
+        let left : nat_le a g.used ≡ true = grind (arith, nat_tests) in
+        let right : (nat_le b g.used || nat_le NUMBER_LIMIT g.next) ≡ true = grind (arith, nat_tests) in
+        left ∙ sym right
+
+  pub full_else : (limit : ℕ) → limit ≡ s.settings.limit → g.used < limit → nat_le NUMBER_LIMIT g.next ≡ is_at_limit s.settings (machine_of g s)
+  full_else limit is few = sym (limit_is ∙ by_number limit s.settings.limit is few) where
+    by_number : (a b : ℕ) → a ≡ b → g.used < a → (nat_le b g.used || nat_le NUMBER_LIMIT g.next) ≡ nat_le NUMBER_LIMIT g.next
+    by_number a b is few = let none : nat_le b g.used ≡ false = grind (arith, nat_tests) in ap (λ t. t || nat_le NUMBER_LIMIT g.next) none
+
+  -- there is room for a fid
+  below : is_at_limit s.settings (machine_of g s) ≡ false → len (machine_of g s).nodes + len (machine_of g s).handles < s.settings.limit
+  below room = grind (arith, nat_tests, room)
+
+  pub fids_below : is_at_limit s.settings (machine_of g s) ≡ false → len s.fids < s.settings.limit
+  fids_below room = let a = below room in let b = in_all in let c = st.paired.used in omega arith
+
+pub none_there : {X : Type 0} (o : Option X) → is_some o ≡ false → o ≡ None
+none_there None h = refl
+none_there (Some x) h = absurd (false≢true (sym h))
+
+pub some_there : {X : Type 0} (o : Option X) → is_some o ≡ true → (x : X) × (o ≡ Some x)
+some_there None h = absurd (false≢true h)
+some_there (Some x) h = (x, refl)

@@ -4,7 +4,8 @@ use Rattle.std.specs.Prelude.{◌==◌}
 use Rattle.std.proofs.lemmas.Bool.{cases_eq}
 use Rattle.std.proofs.lemmas.Bool.Decides.{nat_tests}
 use Rattle.std.specs.FinMap.{get}
-use Rattle.tree_model.specs.Tree.{Tree, top, name_count, is_linked}
+use Rattle.tree_model.specs.declared.attributes.TheConstants.{TOP}
+use Rattle.tree_model.specs.Tree.{Tree, name_count, is_linked}
 use Rattle.tree_model.specs.Good.{IsGoodTree}
 use Rattle.tree_model.proofs.Naming.{named_is_stored}
 use Rattle.tree_machine.specs.State.{is_named}
@@ -21,9 +22,9 @@ module _ (t : Tree) (good : IsGoodTree t) (i : ℕ) where
 
   linked_is_stored : is_linked t.records i ≡ true → IsSome (get t.records i)
   linked_is_stored h = ⊎_elim
-      (λ same. subst (λ k. IsSome (get t.records k)) (sym same) (stored_by (get t.records top) good.top_is_directory))
-      (λ ne. named_is_stored t good i (by_test (i == top) (name_count t.records i) (grind (arith, nat_tests)) h))
-      (cases_eq i top)
+      (λ same. subst (λ k. IsSome (get t.records k)) (sym same) (stored_by (get t.records TOP) good.top_is_directory))
+      (λ ne. named_is_stored t good i (by_test (i == TOP) (name_count t.records i) (grind (arith, nat_tests)) h))
+      (cases_eq i TOP)
 
 either : (a b : Bool) {X : Type 0} → (a ≡ true → X) → (b ≡ true → X) → (a || b) ≡ true → X
 either true b f g h = f refl

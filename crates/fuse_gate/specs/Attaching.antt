@@ -5,8 +5,10 @@ use Rattle.port_base.specs.Faults.{Rose}
 use Rattle.port_base.specs.declared.errno.TheConstants.{EIO, ENFILE}
 use Rattle.tree_model.specs.Tree.{linked}
 use Rattle.tree_model.specs.Finding.{root_of}
-use Rattle.tree_machine.specs.State.{begun, ROOT_NODE}
+use Rattle.fuse_wire.specs.declared.protocol.TheConstants.{FUSE_ROOT_ID}
+use Rattle.tree_machine.specs.State.{begun}
 use Rattle.fid_model.specs.Fids.{ServerState}
+use Rattle.fid_model.specs.Moments.{Moment}
 use Rattle.frame_pump.specs.Sessions.{Counted}
 use Rattle.fuse_gate.specs.Standing.{IsInStep, machine_of}
 use Rattle.fuse_gate.specs.declared.gate.Gate.{Gate}
@@ -30,9 +32,9 @@ pub record Begins (g : Gate) (s0 s1 : ServerState) : Type 0 where
 -- a new gate's tables: the root as node 1, and nothing else
 pub record IsGateAt (ino kind : ℕ) (g : Gate) : Type 0 where
   pub phase : g.phase ≡ New
-  pub nodes : g.nodes ≡ map.insert map.empty ROOT_NODE (record { ino = ino; count = 1; kind = kind })
+  pub nodes : g.nodes ≡ map.insert map.empty FUSE_ROOT_ID (record { ino = ino; count = 1; kind = kind })
   pub handles : g.handles ≡ map.empty
-  pub ids : g.ids ≡ map.insert map.empty ino ROOT_NODE
+  pub ids : g.ids ≡ map.insert map.empty ino FUSE_ROOT_ID
   pub next : g.next ≡ 2
   pub used : g.used ≡ 1
   pub frames : g.nine_frames ≡ 1
@@ -50,12 +52,10 @@ refusal limit errno = if nat_le limit 0 then ENFILE else errno
 abbrev pub IsRefusal : ServerState → ℕ → ℕ → ℕ → Type 0
 IsRefusal s f0 f1 e = (root_told s ≡ Err e) ⊎ (Rose f0 f1 × (e ≡ EIO) × (1 ≤ s.settings.limit))
 
--- by the answer: the beginning; a refusal; want of memory
-abbrev pub AttachedBy : ServerState → ServerState → ℕ → ℕ → ℕ → ℕ → Result Gate AttachError → Type 0
-AttachedBy s0 s1 f0 f1 a0 a1 (Ok g) = Begins g s0 s1 × Counted a0 1 a1
-AttachedBy s0 s1 f0 f1 a0 a1 (Err (Errno e)) = IsCleared s0 s1 × IsRefusal s0 f0 f1 e × Counted a0 1 a1
-AttachedBy s0 s1 f0 f1 a0 a1 (Err NoMemory) = IsCleared s0 s1
-
-pub record Attaches (s0 s1 : ServerState) (f0 f1 a0 a1 : ℕ) (result : Result Gate AttachError) : Type 0 where
-  pub fixed : s1.settings ≡ s0.settings
-  pub answer : AttachedBy s0 s1 f0 f1 a0 a1 result
+-- by the answer: the beginning; a refusal; no memory
+abbrev pub AttachedBy : Moment → Moment → Result Gate AttachError → Type 0
+AttachedBy old new (Ok g) = Begins g old.state new.state × Counted old.asked 1 new.asked
+AttachedBy old new (Err (Errno e)) =
+    IsCleared old.state new.state × IsRefusal old.state old.faults new.faults e
+    × Counted old.asked 1 new.asked
+AttachedBy old new (Err NoMemory) = IsCleared old.state new.state

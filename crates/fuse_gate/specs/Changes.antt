@@ -1,15 +1,24 @@
 -- Changes of a gate, and the moment between two messages.
-use Rattle.std.specs.Prelude.{◌≡◌, ℕ, ◌+◌, ◌-◌, ◌^◌, ◌<◌, true, false, min, Option, Some, None, IsSome}
+use Rattle.std.specs.Prelude.{◌≡◌, ℕ, ◌+◌, ◌-◌, ◌^◌, ◌<◌, true, false, min, length, Option, Some, None, IsSome, Result, Ok, Err}
 use Rattle.std.specs.FinMap as map
-use Rattle.port_base.specs.declared.oflag.TheConstants.{APPEND}
+use Rattle.port_base.specs.OpenFlags.{access, has_flag}
+use Rattle.port_base.specs.declared.oflag.TheConstants.{O_APPEND}
 use Rattle.tree_model.specs.Tree.{body_at, is_directory_at}
 use Rattle.tree_model.specs.Attributes.{Qid}
-use Rattle.tree_model.specs.Opening.{access, has_flag}
+use Rattle.tree_model.specs.Opening.{open_check_of}
+use Rattle.tree_model.specs.Reading.{part}
 use Rattle.tree_machine.specs.State.{is_at_limit, COUNT_LIMIT, Node as MachineNode}
-use Rattle.tree_machine.specs.Core.{opens_to_read}
-use Rattle.fid_model.specs.Fids.{ServerState, closed, IsGoodServer}
+use Rattle.tree_machine.specs.Replies.{Reply}
+use Rattle.tree_machine.specs.Replies.Reply.{Bytes}
+use Rattle.tree_machine.specs.Core.{looked_up, node_of, getattr_refusal, getattr_ino, opened}
+use Rattle.tree_machine.specs.Requests.{opens_to_read}
+use Rattle.tree_machine.specs.Messages.{opened_messages, pieces}
+use Rattle.fid_model.specs.Fids.{ServerState, Fid, closed, IsGoodServer}
 use Rattle.fid_model.specs.Answers.{qid_at}
-use Rattle.fuse_gate.specs.Standing.{IsInStep, machine_of}
+use Rattle.fid_model.specs.Moments.{Moment, Untouched}
+use Rattle.fuse_gate.specs.Files.{file_at}
+use Rattle.fuse_gate.specs.Standing.{IsInStep, machine_of, piece_of}
+use Rattle.fuse_gate.specs.Steps.{Serves, machine_at}
 use Rattle.fuse_gate.specs.declared.gate.Node.{Node}
 use Rattle.fuse_gate.specs.declared.gate.Handle.{Handle}
 use Rattle.fuse_gate.specs.declared.gate.Gate.{Gate}
@@ -52,7 +61,7 @@ with_handle g h = record g { handles = map.insert g.handles g.next h; next = g.n
 
 -- the handle of a node that is opened by these flags
 abbrev pub handle_by : Node → ℕ → Handle
-handle_by n flags = record { ino = n.ino; access = access flags; append = has_flag APPEND flags; kind = n.kind }
+handle_by n flags = record { ino = n.ino; access = access flags; append = has_flag O_APPEND flags; kind = n.kind }
 
 -- a handle goes
 abbrev pub without_handle : Gate → ℕ → Gate
@@ -85,3 +94,32 @@ pub record HasFresh (g : Gate) (s : ServerState) (ino : ℕ) (qid : Qid) : Type 
 abbrev pub entering_rest : Option (ℕ × MachineNode) → ℕ
 entering_rest None = 1
 entering_rest (Some known) = 2
+
+-- ---- parts of requests that change no tree
+
+-- the entry of an inode that the next number names as a fid
+abbrev pub ServesEntry : ℕ → Gate × Moment → Gate × Moment → Reply → Type 0
+ServesEntry ino old new reply =
+    Serves (looked_up old.1.state.settings (machine_at old) (Ok ino))
+    (entering_rest (node_of (machine_at old) ino)) (Untouched old.1.state.tree) old new reply
+
+-- the fid of what GETATTR asks about, or the refusal
+abbrev pub IsSubject : Gate → ServerState → ℕ → Option ℕ → Result ℕ ℕ → Type 0
+IsSubject g s node handle (Ok fid) =
+    (getattr_refusal (machine_of g s) node handle ≡ None)
+    × ((f : Fid) × (map.get s.fids fid ≡ Some f) × (f.ino ≡ getattr_ino (machine_of g s) node handle))
+IsSubject g s node handle (Err e) = getattr_refusal (machine_of g s) node handle ≡ Some e
+
+-- the opening of a node that may be opened
+abbrev pub ServesOpening : Node → ℕ → Gate × Moment → Gate × Moment → Reply → Type 0
+ServesOpening n flags old new reply =
+    let checked = open_check_of old.1.state.tree n.ino flags in
+    Serves (opened (machine_at old) n.ino flags checked) (opened_messages checked)
+    (Untouched old.1.state.tree) old new reply
+
+-- the reading of a fid's file, piece by piece
+abbrev pub ServesReading : ℕ → ℕ → ℕ → Gate × Moment → Gate × Moment → Reply → Type 0
+ServesReading fid offset size old new reply =
+    let bytes = part (file_at old.1.state fid) offset size in
+    Serves (Bytes bytes, machine_at old) (pieces (piece_of old.1.state) size (length bytes))
+    (Untouched old.1.state.tree) old new reply

@@ -1,7 +1,6 @@
 pub mod Mapped
 pub mod Standing
 pub mod Steps
-pub mod Laying
 pub mod Replies
 pub mod Attaching
 pub mod Changes

@@ -1,81 +1,70 @@
--- Replies as the gate has them: attributes are laid out as FUSE has them.
-use Rattle.std.specs.Prelude.{ℕ, ◌<◌, ◌≤◌, ◌^◌, List, [], length, Result, Ok, Err}
+-- Replies of the gate, and the attributes in them.
+use Rattle.std.specs.Prelude.{ℕ, ◌<◌, ◌≤◌, ◌^◌, length, Result, Ok, Err}
 use Rattle.tree_model.specs.declared.attributes.Attr.{Attr}
+use Rattle.tree_model.specs.declared.attributes.TheConstants.{BLOCK_SIZE}
 use Rattle.fuse_wire.specs.declared.attr.FileAttr.{FileAttr}
-use Rattle.fuse_wire.specs.Reply.{reply, init_body, entry_body, attr_body, opened_body}
-use Rattle.fuse_wire.specs.declared.reply.TheConstants.{MAX_BYTES}
-use Rattle.p9_rmsg.specs.Replies.{Attributes}
-use Rattle.tree_machine.specs.Core.{Reply as MachineReply}
-use Rattle.tree_machine.specs.Core.Reply.{Refused, Granted, EntryOf, AttrOf, HandleOf, BytesOf, Done}
-use Rattle.tree_machine.specs.Step.{fuse_attributes, BLOCK_SIZE}
-use Rattle.fuse_gate.specs.Laying.{LaidOut, LaidOut as laid}
-use Rattle.fuse_gate.specs.declared.gate.reply.Reply.{Reply}
-use Rattle.fuse_gate.specs.declared.gate.reply.Reply.TheVariants as given
-
--- a reply of the machine, laid out
-abbrev pub laid_out : MachineReply → LaidOut
-laid_out (Refused errno) = laid.Refused errno
-laid_out (Granted minor max_readahead) = laid.Granted minor max_readahead
-laid_out (EntryOf node attr) = laid.Entry node (fuse_attributes attr)
-laid_out (AttrOf attr) = laid.Attr (fuse_attributes attr)
-laid_out (HandleOf handle) = laid.Opened handle
-laid_out (BytesOf bytes) = laid.Bytes bytes
-laid_out Done = laid.Done
+use Rattle.fuse_wire.specs.declared.protocol.TheConstants.{MAX_READ}
+use Rattle.p9_rmsg.specs.Replies.{Attributes as Told}
+use Rattle.fid_model.specs.Fids.{ServerState}
+use Rattle.fid_model.specs.Calls.{getattr_told}
+use Rattle.tree_machine.specs.Replies.{Reply, fuse_attributes}
+use Rattle.tree_machine.specs.Replies.Reply.{Refused, Granted, Entry, Attributes, Opened, Bytes, Done}
+use Rattle.fuse_gate.specs.declared.gate.reply.Reply.{Reply as GateReply}
+use Rattle.fuse_gate.specs.declared.gate.reply.Reply.TheVariants as gate
 
 -- a reply without where its bytes lie
-abbrev pub plain : Reply → LaidOut
-plain (given.Refused errno) = laid.Refused errno
-plain (given.Granted minor max_readahead) = laid.Granted minor max_readahead
-plain (given.Entry node attr) = laid.Entry node attr
-plain (given.Attr attr) = laid.Attr attr
-plain (given.Opened handle) = laid.Opened handle
-plain (given.Bytes bytes) = laid.Bytes bytes.items
-plain given.Done = laid.Done
-
--- its bytes
-abbrev pub written : ℕ → LaidOut → List ℕ
-written unique (laid.Refused errno) = reply unique errno []
-written unique (laid.Granted minor max_readahead) = reply unique 0 (init_body minor max_readahead)
-written unique (laid.Entry node attr) = reply unique 0 (entry_body node attr)
-written unique (laid.Attr attr) = reply unique 0 (attr_body attr)
-written unique (laid.Opened handle) = reply unique 0 (opened_body handle)
-written unique (laid.Bytes bytes) = reply unique 0 bytes
-written unique laid.Done = reply unique 0 []
+abbrev pub reply_of : GateReply → Reply
+reply_of (gate.Refused errno) = Refused errno
+reply_of (gate.Granted minor max_readahead) = Granted minor max_readahead
+reply_of (gate.Entry node attr) = Entry node attr
+reply_of (gate.Attributes attr) = Attributes attr
+reply_of (gate.Opened handle) = Opened handle
+reply_of (gate.Bytes bytes) = Bytes bytes.items
+reply_of gate.Done = Done
 
 -- it has no more bytes of a file than one request reads
-abbrev pub IsShort : LaidOut → Type 0
-IsShort (laid.Bytes bytes) = length bytes ≤ MAX_BYTES
+abbrev pub IsShort : Reply → Type 0
+IsShort (Bytes bytes) = length bytes ≤ MAX_READ
 IsShort _ = Unit {0}
 
--- what a server tells of an inode, laid out for FUSE
-abbrev pub file_attributes : Attributes → FileAttr
+-- what a server tells of an inode, in the names of fuse.h
+abbrev pub file_attributes : Told → FileAttr
 file_attributes a = record {
-  ino = a.0.1.0.1.1;
-  size = a.1.0.1.0;
-  blocks = a.1.0.1.1.1;
-  atime = a.1.1.0.0;
-  mtime = a.1.1.0.1.1.0;
-  ctime = a.1.1.1.0.0;
-  atimensec = a.1.1.0.1.0;
-  mtimensec = a.1.1.0.1.1.1;
-  ctimensec = a.1.1.1.0.1.0;
-  mode = a.0.1.1.0;
-  nlink = a.0.1.1.1.1.1;
-  uid = a.0.1.1.1.0;
-  gid = a.0.1.1.1.1.0;
+  ino = a.qid.1.1;
+  size = a.size;
+  blocks = a.blocks;
+  atime = a.atime_sec;
+  mtime = a.mtime_sec;
+  ctime = a.ctime_sec;
+  atimensec = a.atime_nsec;
+  mtimensec = a.mtime_nsec;
+  ctimensec = a.ctime_nsec;
+  mode = a.mode;
+  nlink = a.nlink;
+  uid = a.uid;
+  gid = a.gid;
   rdev = 0;
   blksize = BLOCK_SIZE;
   flags = 0;
 }
 
 -- the fields that have 8 bytes there and 4 here have room
-pub record HasShortFields (a : Attributes) : Type 0 where
-  pub links : a.0.1.1.1.1.1 < 2 ^ 32
-  pub atime : a.1.1.0.1.0 < 2 ^ 32
-  pub mtime : a.1.1.0.1.1.1 < 2 ^ 32
-  pub ctime : a.1.1.1.0.1.0 < 2 ^ 32
+pub record HasShortFields (a : Told) : Type 0 where
+  pub links : a.nlink < 2 ^ 32
+  pub atime : a.atime_nsec < 2 ^ 32
+  pub mtime : a.mtime_nsec < 2 ^ 32
+  pub ctime : a.ctime_nsec < 2 ^ 32
 
--- what is shown of an inode, laid out for FUSE
-abbrev pub laid_out_attributes : Result Attr ℕ → Result FileAttr ℕ
-laid_out_attributes (Ok a) = Ok (fuse_attributes a)
-laid_out_attributes (Err e) = Err e
+-- what is shown of an inode, in the names of fuse.h
+abbrev pub fuse_shown : Result Attr ℕ → Result FileAttr ℕ
+fuse_shown (Ok a) = Ok (fuse_attributes a)
+fuse_shown (Err e) = Err e
+
+-- the attributes of an inode, in the names of fuse.h
+abbrev pub attributes_shown : ServerState → ℕ → Result FileAttr ℕ × ServerState
+attributes_shown s ino = (fuse_shown (getattr_told s ino).0, s)
+
+-- the reply that tells attributes, or the refusal
+abbrev pub attributes_reply : Result FileAttr ℕ → Reply
+attributes_reply (Ok a) = Attributes a
+attributes_reply (Err e) = Refused e

@@ -8,7 +8,7 @@ use Rattle.tree_machine.specs.State.Phase.{New, Started, Over}
 use Rattle.tree_machine.specs.Good.{IsGoodMachine}
 use Rattle.fid_model.specs.Fids.{ServerState, Fid, closed}
 use Rattle.fid_model.specs.Fids.OpenState.{Opened}
-use Rattle.fid_model.specs.declared.sizes.TheConstants.{READ_HEAD}
+use Rattle.p9_wire.specs.declared.protocol.TheConstants.{RREAD_HEADER_SIZE}
 use Rattle.fuse_gate.specs.Mapped.{mapped}
 use Rattle.fuse_gate.specs.declared.gate.TheConstants.{LEAST_MSIZE, GREATEST_MSIZE}
 use Rattle.fuse_gate.specs.declared.gate.Node.{Node}
@@ -34,7 +34,7 @@ machine_of g s = record { phase = phase_of g.phase; tree = s.tree; nodes = mappe
 
 -- the most bytes of a file that the gate asks a server for at once
 abbrev pub piece_of : ServerState → ℕ
-piece_of s = min s.msize GREATEST_MSIZE - READ_HEAD
+piece_of s = min s.msize GREATEST_MSIZE - RREAD_HEADER_SIZE
 
 abbrev pub opened : Handle → Fid
 opened h = record { ino = h.ino; open_state = Opened h.access h.append }

@@ -1,56 +1,77 @@
 -- One step of a gate over a server.
-use Rattle.std.specs.Prelude.{◌≡◌, ◌⊎◌, ℕ, List, ◌++◌}
+use Rattle.std.specs.Prelude.{◌≡◌, ◌⊎◌, ℕ, List, Ok}
 use Rattle.port_base.specs.Faults.{Rose}
 use Rattle.port_base.specs.declared.errno.TheConstants.{EIO}
 use Rattle.tree_model.specs.Tree.{Tree}
-use Rattle.tree_machine.specs.State.{MachineState, settled}
-use Rattle.tree_machine.specs.Core.{Reply as MachineReply}
-use Rattle.tree_machine.specs.Step.{step}
-use Rattle.tree_machine.specs.Messages.{messages}
-use Rattle.tree_machine.specs.Faults.{IsHurtStep}
-use Rattle.fid_model.specs.Fids.{ServerState}
+use Rattle.fuse_wire.specs.Request.{Request}
+use Rattle.tree_machine.specs.State.{MachineState, kept_state}
+use Rattle.tree_machine.specs.Replies.{Reply}
+use Rattle.tree_machine.specs.Replies.Reply.{Refused}
+use Rattle.tree_machine.specs.Requests.{answer_of}
+use Rattle.tree_machine.specs.Step.{frame_answer}
+use Rattle.tree_machine.specs.Messages.{request_messages, messages}
+use Rattle.tree_machine.specs.Faults.{PartOf, IsPartDone}
+use Rattle.fid_model.specs.Moments.{Moment}
 use Rattle.frame_pump.specs.Sessions.{Counted}
 use Rattle.fuse_gate.specs.Standing.{IsInStep, machine_of, piece_of}
-use Rattle.fuse_gate.specs.Laying.{LaidOut}
-use Rattle.fuse_gate.specs.Replies.{laid_out}
 use Rattle.fuse_gate.specs.declared.gate.Gate.{Gate}
-use Rattle.fuse_gate.specs.Laying.LaidOut.{Refused}
 
--- the tree before a request, or after it
-abbrev pub IsPart : MachineReply × MachineState → MachineState → Tree → Type 0
-IsPart told old t = (t ≡ old.tree) ⊎ (t ≡ (settled told.1).tree)
+-- the machine's state of a gate at a server's moment
+abbrev pub machine_at : Gate × Moment → MachineState
+machine_at x = machine_of x.0 x.1.state
 
--- what serving one request leaves, whose reply and next state are told, and which takes so many messages: they are those of the machine;
--- or, only where the count of faults rose, the error EIO and everything as before but the tree
-pub record IsServed (told : MachineReply × MachineState) (messages : ℕ) (g0 g1 : Gate) (s0 s1 : ServerState) (f0 f1 a0 a1 : ℕ) (reply : LaidOut) : Type 0 where
-  pub stands : IsInStep g1 s1
-  pub fixed : s1.settings ≡ s0.settings
+-- so many messages were sent, and handed to the server
+pub record Sent (number : ℕ) (old new : Gate × Moment) : Type 0 where
+  pub frames : Counted old.0.nine_frames number new.0.nine_frames
+  pub asked : Counted old.1.asked number new.1.asked
+
+-- the reply and the state that are told, by so many messages; or, only where the count of faults
+-- rose, the error EIO, and of the state no more than the tree has changed, as `part` says
+abbrev pub ServedBy : Reply × MachineState → ℕ → (Tree → Type 0) → Gate × Moment → Gate × Moment → ℕ → Reply → Type 0
+ServedBy told count part old new sent reply =
+    ((reply ≡ told.0) × (machine_at new ≡ kept_state told.1) × (sent ≡ count))
+    ⊎ (Rose old.1.faults new.1.faults × (reply ≡ Refused EIO)
+    × (machine_at new ≡ record (machine_at old) { tree = new.1.state.tree })
+    × part new.1.state.tree)
+
+-- what serving a request leaves whose reply and next state are told
+pub record Serves (told : Reply × MachineState) (count : ℕ) (part : Tree → Type 0) (old new : Gate × Moment) (reply : Reply) : Type 0 where
+  pub stands : IsInStep new.0 new.1.state
+  -- how many messages were sent
   pub sent : ℕ
-  pub frames : Counted g0.nine_frames sent g1.nine_frames
-  pub asked : Counted a0 sent a1
-  pub outcome : ((reply ≡ laid_out told.0) × (machine_of g1 s1 ≡ settled told.1) × (sent ≡ messages))
-      ⊎ (Rose f0 f1 × (reply ≡ Refused EIO) × (machine_of g1 s1 ≡ record (machine_of g0 s0) { tree = s1.tree }) × IsPart told (machine_of g0 s0) s1.tree)
+  pub messages : Sent sent old new
+  pub outcome : ServedBy told count part old new sent reply
 
--- the same of a whole frame, on bytes: the step of the machine, or a step that met a fault
-pub record IsStepped (frame : List ℕ) (g0 g1 : Gate) (s0 s1 : ServerState) (f0 f1 a0 a1 : ℕ) (bytes : List ℕ) : Type 0 where
-  pub stands : IsInStep g1 s1
-  pub fixed : s1.settings ≡ s0.settings
-  pub sent : ℕ
-  pub frames : Counted g0.nine_frames sent g1.nine_frames
-  pub asked : Counted a0 sent a1
-  pub outcome : ((bytes ≡ (step s0.settings (machine_of g0 s0) frame).0) × (machine_of g1 s1 ≡ (step s0.settings (machine_of g0 s0) frame).1) × (sent ≡ messages (piece_of s0) s0.settings (machine_of g0 s0) frame))
-      ⊎ (Rose f0 f1 × IsHurtStep s0.settings (machine_of g0 s0) frame bytes (machine_of g1 s1))
+-- what letting fids go leaves: a state after records went, and so many messages were sent
+pub record LetsGo (told : MachineState) (count : ℕ) (old new : Gate × Moment) : Type 0 where
+  pub stands : IsInStep new.0 new.1.state
+  pub state : machine_at new ≡ kept_state told
+  pub messages : Sent count old new
 
--- a frame's reply was put behind what was there
-pub record Answers (frame : List ℕ) (g0 g1 : Gate) (s0 s1 : ServerState) (f0 f1 a0 a1 : ℕ) (before after : List ℕ) : Type 0 where
-  pub bytes : List ℕ
-  pub behind : after ≡ before ++ bytes
-  pub stepped : IsStepped frame g0 g1 s0 s1 f0 f1 a0 a1 bytes
+-- ---- requests and frames
 
--- what letting fids go leaves: a state of the machine after records went, and so many messages were sent
-pub record LetsGo (told : MachineState) (messages : ℕ) (g0 g1 : Gate) (s0 s1 : ServerState) (a0 a1 : ℕ) : Type 0 where
-  pub stands : IsInStep g1 s1
-  pub fixed : s1.settings ≡ s0.settings
-  pub state : machine_of g1 s1 ≡ settled told
-  pub frames : Counted g0.nine_frames messages g1.nine_frames
-  pub asked : Counted a0 messages a1
+-- a request asked of a node is served as the machine answers it
+abbrev pub ServesRequest : ℕ → Request → Gate × Moment → Gate × Moment → Reply → Type 0
+ServesRequest node request old new reply =
+    let s = old.1.state.settings in
+    let m = machine_at old in
+    Serves (answer_of s m node (Ok request))
+    (request_messages (piece_of old.1.state) s m node (Ok request))
+    (PartOf s m node (Ok request)) old new reply
+
+-- what a request leaves of the tree that isn't carried out whole
+abbrev pub LeavesPartOf : ℕ → Request → Gate × Moment → Moment → Type 0
+LeavesPartOf node request old new =
+    PartOf old.1.state.settings (machine_at old) node (Ok request) new.state.tree
+
+-- a frame is served
+abbrev pub ServesFrame : List ℕ → Gate × Moment → Gate × Moment → Reply → Type 0
+ServesFrame frame old new reply =
+    let s = old.1.state.settings in
+    let m = machine_at old in
+    Serves (frame_answer s m frame) (messages (piece_of old.1.state) s m frame)
+    (IsPartDone s m frame) old new reply
+
+abbrev pub LeavesPartOfFrame : List ℕ → Gate × Moment → Moment → Type 0
+LeavesPartOfFrame frame old new =
+    IsPartDone old.1.state.settings (machine_at old) frame new.state.tree

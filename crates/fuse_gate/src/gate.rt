@@ -1,7 +1,8 @@
 //! A session's node ids and handles, each a fid of the server under its own number.
-ghost use Rattle.std.specs.Prelude.{◌≡◌, ◌+◌, ◌-◌, ◌<◌, ◌≤◌, ◌^◌, ◌||◌, nat_le, IsSome, OnOk};
+ghost use Rattle.std.specs.Prelude.{◌≡◌, ◌-◌, ◌<◌, ◌≤◌, ◌^◌, IsSome, OnOk};
 ghost use Rattle.std.specs.FinMap as map;
-ghost use Rattle.tree_machine.specs.State.{NUMBER_LIMIT};
+ghost use Rattle.tree_machine.specs.State.{is_at_limit};
+ghost use Rattle.fuse_gate.specs.Standing.{IsInStep, machine_of};
 ghost use Rattle.fuse_gate.specs.Changes.{one_sent, counted_up, counted_down, with_node, without_node, with_handle, without_handle};
 
 mod attach;
@@ -18,24 +19,17 @@ mod show;
 mod step;
 
 pub use attach::AttachError;
+use fid_model::Nine;
 use port_base::sink::NoMemory;
 use port_base::table::Table;
 use std::alloc::Global;
-
-/// The node id of the root, `FUSE_ROOT_ID` of `fuse.h`.
-pub const FUSE_ROOT_ID: u32 = 1;
+use tree_machine::limits::NUMBER_LIMIT;
 
 /// The least `msize` that a gate works with: a frame with the longest name or target fits.
 pub const LEAST_MSIZE: u32 = 4352;
 
 /// The greatest size of a frame that a gate asks for.
 pub const GREATEST_MSIZE: u32 = 65560;
-
-// The type of a directory's qid.
-const QTDIR: u8 = 0x80;
-
-// No number from here on is drawn.
-const NUMBER_END: u32 = u32::MAX;
 
 /// Where a session is: before its INIT, in it, or after its DESTROY.
 #[derive(Clone, Copy, Debug, PartialEq, Eq)]
@@ -87,10 +81,13 @@ impl Gate {
     }
 
     // Whether no further number can be drawn.
-    fn is_full(&self, limit: u32) -> bool
-        ensures { result ≡ (nat_le limit self.now.used || nat_le NUMBER_LIMIT self.now.next) }
+    fn is_full<N: Nine>(&self, nine: &N) -> bool
+        requires { IsInStep self.now (N.at nine.now).state }
+        ensures full { result ≡ is_at_limit (N.at nine.now).state.settings
+            (machine_of self.now (N.at nine.now).state) }
+        ensures small { (N.at nine.now).state.settings.limit < 2 ^ 32 }
     {
-        self.used >= limit as u64 || self.next >= NUMBER_END
+        self.used >= nine.fid_limit() as u64 || self.next >= NUMBER_LIMIT
     }
 
     // One more message was sent.
@@ -118,7 +115,7 @@ impl Gate {
 
     // The next number becomes the node of an inode.
     fn add_node(&mut self, ino: u64, kind: u8) -> Result<(), NoMemory>
-        requires next { self.old.next < NUMBER_END }
+        requires next { self.old.next < NUMBER_LIMIT }
         requires used { self.old.used < 2 ^ 64 - 1 }
         ensures { OnOk result (self.new ≡ with_node self.old ino kind) }
     {
@@ -128,12 +125,8 @@ impl Gate {
             count: 1,
             kind,
         };
-        if self.nodes.insert(id, node).is_err() {
-            return Err(NoMemory);
-        }
-        if self.ids.insert(ino, id).is_err() {
-            return Err(NoMemory);
-        }
+        self.nodes.insert(id, node).map_err(|_| NoMemory)?;
+        self.ids.insert(ino, id).map_err(|_| NoMemory)?;
         self.next += 1;
         self.used += 1;
         Ok(())
@@ -167,13 +160,12 @@ impl Gate {
 
     // The next number becomes a handle.
     fn add_handle(&mut self, handle: Handle) -> Result<(), NoMemory>
-        requires next { self.old.next < NUMBER_END }
+        requires next { self.old.next < NUMBER_LIMIT }
         requires used { self.old.used < 2 ^ 64 - 1 }
         ensures { OnOk result (self.new ≡ with_handle self.old handle) }
     {
-        if self.handles.insert(self.next as u64, handle).is_err() {
-            return Err(NoMemory);
-        }
+        let id = self.next as u64;
+        self.handles.insert(id, handle).map_err(|_| NoMemory)?;
         self.next += 1;
         self.used += 1;
         Ok(())

@@ -17,5 +17,7 @@ pub fn roots_are_linked()
 /// handle names it.
 pub fn stored_are_linked_or_named()
     ensures { (g : Gate) (s : ServerState) → IsInStep g s → IsGoodServer s → (i : ℕ) →
-        is_some (map.get s.tree.records i) ≡ (is_linked s.tree.records i || is_named (machine_of g s).nodes (machine_of g s).handles i) }
+        is_some (map.get s.tree.records i)
+        ≡ (is_linked s.tree.records i
+        || is_named (machine_of g s).nodes (machine_of g s).handles i) }
 {}

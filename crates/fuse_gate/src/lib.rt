@@ -1,7 +1,7 @@
 //! The gate: FUSE requests, answered by asking a 9P server.
 #![tactic(auto)]
 
-pub mod examples;
+mod examples;
 pub mod gate;
 pub mod laws;
 pub mod pump;

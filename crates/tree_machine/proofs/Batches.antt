@@ -8,7 +8,8 @@ use Rattle.tree_model.specs.Good.{IsGoodTree}
 use Rattle.tree_model.proofs.Maps.{retained, same_gets}
 use Rattle.tree_model.proofs.Counting.{weigh-insert, weigh-remove}
 use Rattle.tree_model.proofs.Keeping.{retained-is_linked}
-use Rattle.tree_machine.specs.State.{MachineState, Node, is_named, node_weight, settled, ROOT_NODE}
+use Rattle.fuse_wire.specs.declared.protocol.TheConstants.{FUSE_ROOT_ID}
+use Rattle.tree_machine.specs.State.{MachineState, Node, is_named, node_weight, kept_state}
 use Rattle.tree_machine.specs.Forgetting.{less_where, forgotten, all_forgotten}
 use Rattle.tree_machine.specs.Messages.{gone}
 use Rattle.tree_machine.proofs.Forgetting.{with_count, without}
@@ -45,7 +46,7 @@ module _ (m : MachineState) (node number : ℕ) where
   root_rest false o = where_rest o
 
   pub forgotten_rest : forgotten m node number ≡ record m { nodes = (forgotten m node number).nodes }
-  forgotten_rest = root_rest (node == ROOT_NODE) (get m.nodes node)
+  forgotten_rest = root_rest (node == FUSE_ROOT_ID) (get m.nodes node)
 
   same_tree : (t : Tree) (n : Node) (b : Bool) → cond b (without (record m { tree = t }) node) (with_count (record m { tree = t }) node number n) ≡ record (cond b (without m node) (with_count m node number n)) { tree = t }
   same_tree t n true = refl
@@ -60,7 +61,7 @@ module _ (m : MachineState) (node number : ℕ) where
   root_tree t false o = where_tree t o
 
   pub forgotten_tree : (t : Tree) → forgotten (record m { tree = t }) node number ≡ record (forgotten m node number) { tree = t }
-  forgotten_tree t = root_tree t (node == ROOT_NODE) (get m.nodes node)
+  forgotten_tree t = root_tree t (node == FUSE_ROOT_ID) (get m.nodes node)
 
   -- ---- no inode is named more often
 
@@ -81,7 +82,7 @@ module _ (m : MachineState) (node number : ℕ) where
   root_named i false = where_named i (get m.nodes node) refl
 
   pub forgotten_named : (i : ℕ) → weigh (node_weight i) (entries (forgotten m node number).nodes) ≤ weigh (node_weight i) (entries m.nodes)
-  forgotten_named i = root_named i (node == ROOT_NODE)
+  forgotten_named i = root_named i (node == FUSE_ROOT_ID)
 
 pub all_rest : (m : MachineState) (ps : List (ℕ × ℕ)) → all_forgotten m ps ≡ record m { nodes = (all_forgotten m ps).nodes }
 all_rest m [] = refl
@@ -106,12 +107,12 @@ still_named m ps i h =
     (sym (ap (λ (x : MachineState). is_named (all_forgotten m ps).nodes x.handles i) (all_rest m ps)) ∙ h)
 
 -- the records go that nothing names, and the pairs are counted down: in either order the same is left
-pub settled_between : (m : MachineState) (ps : List (ℕ × ℕ)) → IsGoodTree m.tree → settled (all_forgotten (settled m) ps) ≡ settled (all_forgotten m ps)
-settled_between m ps g =
-    ap settled (all_tree m (settled m).tree ps)
+pub kept_between : (m : MachineState) (ps : List (ℕ × ℕ)) → IsGoodTree m.tree → kept_state (all_forgotten (kept_state m) ps) ≡ kept_state (all_forgotten m ps)
+kept_between m ps g =
+    ap kept_state (all_tree m (kept_state m).tree ps)
     ∙ ap (λ (t : Tree). record (all_forgotten m ps) { tree = t }) (keep_again m.tree g (is_named m.nodes m.handles) (is_named (all_forgotten m ps).nodes (all_forgotten m ps).handles) (still_named m ps))
     ∙ ap (λ (t : Tree). record (all_forgotten m ps) { tree = keep (is_named (all_forgotten m ps).nodes (all_forgotten m ps).handles) t }) (sym (ap (λ (x : MachineState). x.tree) (all_rest m ps)))
 
 -- and as many nodes go
-pub gone_between : (m : MachineState) (ps : List (ℕ × ℕ)) → gone (settled m) (all_forgotten (settled m) ps) ≡ gone m (all_forgotten m ps)
-gone_between m ps = ap (λ (x : MachineState). gone m x) (all_tree m (settled m).tree ps)
+pub gone_between : (m : MachineState) (ps : List (ℕ × ℕ)) → gone (kept_state m) (all_forgotten (kept_state m) ps) ≡ gone m (all_forgotten m ps)
+gone_between m ps = ap (λ (x : MachineState). gone m x) (all_tree m (kept_state m).tree ps)

@@ -4,12 +4,14 @@ use Rattle.std.proofs.lemmas.Bool.{cases_eq}
 use Rattle.std.specs.Ordering.{nat_cmp}
 use Rattle.std.specs.Cmp.{nat_cmp_total}
 use Rattle.std.specs.FinMap.{get, empty, len, len-insert, len-empty, get-empty}
-use Rattle.tree_model.specs.Tree.{Tree, Record, body_at, is_directory_at, top}
+use Rattle.tree_model.specs.Tree.{Tree, Record, body_at, is_directory_at}
+use Rattle.tree_model.specs.declared.attributes.TheConstants.{TOP}
 use Rattle.tree_model.specs.Good.{IsGoodTree}
 use Rattle.tree_model.specs.Finding.{root_of, walk_on, walk_step, walk_end}
 use Rattle.tree_model.specs.Settings.{Settings}
 use Rattle.tree_model.proofs.Maps.{inserted, insert_keeps}
-use Rattle.tree_machine.specs.State.{Node, Handle, begun, ROOT_NODE}
+use Rattle.fuse_wire.specs.declared.protocol.TheConstants.{FUSE_ROOT_ID}
+use Rattle.tree_machine.specs.State.{Node, Handle, begun}
 use Rattle.tree_machine.specs.Good.{IsGoodMachine}
 
 ends_at_directory : (t : Tree) (at : Result ℕ ℕ) (root : ℕ) → walk_end t at ≡ Ok root → is_directory_at (body_at t.records root) ≡ true
@@ -32,27 +34,27 @@ module _ (s : Settings) (t : Tree) (root : ℕ) where
   abbrev pub root_node : Node
   root_node = record { ino = root; count = 1 }
 
-  pub one_node : (q : ℕ) (n : Node) → get (begun t root).nodes q ≡ Some n → (q ≡ ROOT_NODE) × (root_node ≡ n)
+  pub one_node : (q : ℕ) (n : Node) → get (begun t root).nodes q ≡ Some n → (q ≡ FUSE_ROOT_ID) × (root_node ≡ n)
   one_node q n at = ⊎_elim
-      (λ equal. (equal, (let one : Some root_node ≡ Some n = sym (inserted empty ROOT_NODE root_node) ∙ subst (λ k. get (begun t root).nodes k ≡ Some n) equal at in cc)))
-      (λ ne. absurd (let none : None ≡ Some n = sym (get-empty {X = Node} nat_cmp q) ∙ sym (insert_keeps empty ROOT_NODE root_node q ne) ∙ at in cc))
-      (cases_eq q ROOT_NODE)
+      (λ equal. (equal, (let one : Some root_node ≡ Some n = sym (inserted empty FUSE_ROOT_ID root_node) ∙ subst (λ k. get (begun t root).nodes k ≡ Some n) equal at in cc)))
+      (λ ne. absurd (let none : None ≡ Some n = sym (get-empty {X = Node} nat_cmp q) ∙ sym (insert_keeps empty FUSE_ROOT_ID root_node q ne) ∙ at in cc))
+      (cases_eq q FUSE_ROOT_ID)
 
   no_handle : (q : ℕ) → get (begun t root).handles q ≡ None
   no_handle q = get-empty {X = Handle} nat_cmp q
 
   one_long : len (begun t root).nodes + len (begun t root).handles ≡ 1
   one_long =
-      let nodes : len (begun t root).nodes ≡ 1 = len-insert nat_cmp_total empty ROOT_NODE root_node ∙ ap (λ (o : Option Node). cond (is_some o) (len (empty {X = Node} {R = nat_cmp})) (len (empty {X = Node} {R = nat_cmp}) + 1)) (get-empty {X = Node} nat_cmp ROOT_NODE) ∙ ap (λ k. k + 1) (len-empty nat_cmp Node) in
+      let nodes : len (begun t root).nodes ≡ 1 = len-insert nat_cmp_total empty FUSE_ROOT_ID root_node ∙ ap (λ (o : Option Node). cond (is_some o) (len (empty {X = Node} {R = nat_cmp})) (len (empty {X = Node} {R = nat_cmp}) + 1)) (get-empty {X = Node} nat_cmp FUSE_ROOT_ID) ∙ ap (λ k. k + 1) (len-empty nat_cmp Node) in
       let handles : len (begun t root).handles ≡ 0 = len-empty nat_cmp Handle in
       omega (arith, nodes, handles)
 
   pub begun_good : IsGoodTree t → root_of t s.root ≡ Ok root → 1 ≤ s.limit → IsGoodMachine s (begun t root)
   begun_good good found room =
-      let had : IsSome (get t.records root) = stored_by (get t.records root) (root_is_directory t s.root (Ok top) root found) in
+      let had : IsSome (get t.records root) = stored_by (get t.records root) (root_is_directory t s.root (Ok TOP) root found) in
       record {
         tree = good;
-        root = subst IsSome (sym (inserted empty ROOT_NODE root_node)) refl;
+        root = subst IsSome (sym (inserted empty FUSE_ROOT_ID root_node)) refl;
         nodes = λ q n at. let one = one_node q n at in record {
           positive = subst (λ k. 1 ≤ k) (sym one.0) (omega arith);
           drawn = subst (λ k. k < 2) (sym one.0) (omega arith);

@@ -7,7 +7,8 @@ use Rattle.std.specs.FinMap.{get, insert, remove, len, len-insert, len-remove}
 use Rattle.tree_model.specs.Settings.{Settings}
 use Rattle.tree_model.proofs.Maps.{removed}
 use Rattle.tree_model.proofs.Counting.{put_back}
-use Rattle.tree_machine.specs.State.{MachineState, Node, ROOT_NODE}
+use Rattle.fuse_wire.specs.declared.protocol.TheConstants.{FUSE_ROOT_ID}
+use Rattle.tree_machine.specs.State.{MachineState, Node}
 use Rattle.tree_machine.specs.Forgetting.{less_where, forgotten, all_forgotten}
 use Rattle.tree_machine.specs.Messages.{gone}
 use Rattle.tree_machine.specs.Good.{IsGoodMachine}
@@ -26,20 +27,20 @@ more_left : (count number : ℕ) → nat_le count number ≡ false → 1 ≤ cou
 more_left count number h = grind (arith, nat_tests)
 
 module _ (s : Settings) (m : MachineState) (g : IsGoodMachine s m) (node number : ℕ) where
-  less_good : node ≢ ROOT_NODE → (n : Node) → get m.nodes node ≡ Some n → (b : Bool) → nat_le n.count number ≡ b → IsGoodMachine s (cond b (without m node) (with_count m node number n))
+  less_good : node ≢ FUSE_ROOT_ID → (n : Node) → get m.nodes node ≡ Some n → (b : Bool) → nat_le n.count number ≡ b → IsGoodMachine s (cond b (without m node) (with_count m node number n))
   less_good ne n at true is = node_gone s m g node ne
   less_good ne n at false is = recounted s m g node n (record { ino = n.ino; count = n.count - number }) at refl (more_left n.count number is)
 
-  where_good : node ≢ ROOT_NODE → (o : Option Node) → get m.nodes node ≡ o → IsGoodMachine s (less_where m node number o)
+  where_good : node ≢ FUSE_ROOT_ID → (o : Option Node) → get m.nodes node ≡ o → IsGoodMachine s (less_where m node number o)
   where_good ne None at = g
   where_good ne (Some n) at = less_good ne n at (nat_le n.count number) refl
 
-  not_root_good : (b : Bool) → (node == ROOT_NODE) ≡ b → IsGoodMachine s (cond b m (less_where m node number (get m.nodes node)))
+  not_root_good : (b : Bool) → (node == FUSE_ROOT_ID) ≡ b → IsGoodMachine s (cond b m (less_where m node number (get m.nodes node)))
   not_root_good true is = g
-  not_root_good false is = where_good (ne_test node ROOT_NODE is) (get m.nodes node) refl
+  not_root_good false is = where_good (ne_test node FUSE_ROOT_ID is) (get m.nodes node) refl
 
   pub forgotten_good : IsGoodMachine s (forgotten m node number)
-  forgotten_good = not_root_good (node == ROOT_NODE) refl
+  forgotten_good = not_root_good (node == FUSE_ROOT_ID) refl
 
 pub all_forgotten_good : (s : Settings) (m : MachineState) → IsGoodMachine s m → (ps : List (ℕ × ℕ)) → IsGoodMachine s (all_forgotten m ps)
 all_forgotten_good s m g [] = g
@@ -65,7 +66,7 @@ module _ (m : MachineState) (node number : ℕ) where
   not_root_fewer false = where_fewer (get m.nodes node) refl
 
   pub forgotten_fewer : len (forgotten m node number).nodes ≤ len m.nodes
-  forgotten_fewer = not_root_fewer (node == ROOT_NODE)
+  forgotten_fewer = not_root_fewer (node == FUSE_ROOT_ID)
 
 pub all_fewer : (m : MachineState) (ps : List (ℕ × ℕ)) → len (all_forgotten m ps).nodes ≤ len m.nodes
 all_fewer m [] = omega arith

@@ -5,7 +5,7 @@ use Rattle.std.proofs.lemmas.Bool.{cases_eq}
 use Rattle.std.specs.Cmp.{nat_cmp_total}
 use Rattle.std.specs.FinMap.{get, insert, remove, len, len-insert}
 use Rattle.tree_model.specs.Tree.{body_at}
-use Rattle.tree_model.specs.Opening.{access}
+use Rattle.port_base.specs.OpenFlags.{access}
 use Rattle.tree_model.specs.Settings.{Settings}
 use Rattle.tree_model.proofs.Maps.{inserted, insert_keeps, removed, remove_keeps}
 use Rattle.tree_machine.specs.State.{MachineState, Handle, is_at_limit}

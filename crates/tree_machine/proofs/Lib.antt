@@ -1,9 +1,10 @@
-pub mod Settling
+pub mod KeptStates
 pub mod Nodes
 pub mod Looking
 pub mod Handles
 pub mod Opening
-pub mod Releasing
+pub mod Refusals
+pub mod Cores
 pub mod Forgetting
 pub mod Steps
 pub mod Hurting

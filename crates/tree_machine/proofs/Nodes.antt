@@ -9,8 +9,10 @@ use Rattle.std.specs.Cmp.{nat_cmp_total}
 use Rattle.std.specs.FinMap.{FinMap, get, insert, remove, len, len-insert, len-remove, contains_key}
 use Rattle.tree_model.specs.Settings.{Settings}
 use Rattle.tree_model.proofs.Maps.{inserted, insert_keeps, removed, remove_keeps}
-use Rattle.tree_machine.specs.State.{MachineState, Node, Handle, is_at_limit, ROOT_NODE, NUMBER_LIMIT, COUNT_LIMIT}
-use Rattle.tree_machine.specs.Core.{node_given, node_of}
+use Rattle.fuse_wire.specs.declared.protocol.TheConstants.{FUSE_ROOT_ID}
+use Rattle.tree_machine.specs.declared.limits.TheConstants.{NUMBER_LIMIT}
+use Rattle.tree_machine.specs.State.{MachineState, Node, Handle, is_at_limit, COUNT_LIMIT}
+use Rattle.tree_machine.specs.Core.{node_for, node_of}
 use Rattle.tree_machine.specs.Good.{IsGoodMachine}
 use Rattle.tree_machine.proofs.First.{first_entry, none_passes}
 
@@ -30,11 +32,11 @@ module _ (s : Settings) where
           (λ ne. inr (ne, sym (insert_keeps m.nodes id v q ne) ∙ at))
           (cases_eq q id)
 
-      still_root : IsSome (get (insert m.nodes id v) ROOT_NODE)
+      still_root : IsSome (get (insert m.nodes id v) FUSE_ROOT_ID)
       still_root = ⊎_elim
           (λ is. subst IsSome (sym (subst (λ k. get (insert m.nodes id v) k ≡ Some v) (sym is) (inserted m.nodes id v))) refl)
-          (λ ne. subst IsSome (sym (insert_keeps m.nodes id v ROOT_NODE ne)) g.root)
-          (cases_eq ROOT_NODE id)
+          (λ ne. subst IsSome (sym (insert_keeps m.nodes id v FUSE_ROOT_ID ne)) g.root)
+          (cases_eq FUSE_ROOT_ID id)
 
       put : 1 ≤ id → id < next → 1 ≤ v.count → IsSome (get m.tree.records v.ino) → get m.handles id ≡ None
           → ((q : ℕ) (n : Node) → q ≢ id → get m.nodes q ≡ Some n → n.ino ≢ v.ino)
@@ -92,10 +94,10 @@ module _ (s : Settings) where
     fresh_handle (Some h) at = absurd (let low = (g.handles m.next h at).drawn in omega arith)
 
     pub root_below : 1 < m.next
-    root_below = by_root (get m.nodes ROOT_NODE) refl where
-      by_root : (o : Option Node) → get m.nodes ROOT_NODE ≡ o → 1 < m.next
+    root_below = by_root (get m.nodes FUSE_ROOT_ID) refl where
+      by_root : (o : Option Node) → get m.nodes FUSE_ROOT_ID ≡ o → 1 < m.next
       by_root None at = absurd (false≢true (subst IsSome at g.root))
-      by_root (Some n) at = (g.nodes ROOT_NODE n at).drawn
+      by_root (Some n) at = (g.nodes FUSE_ROOT_ID n at).drawn
 
     -- below the limit there is room for one more number
     pub below_limit : is_at_limit s m ≡ false → (len m.nodes + len m.handles < s.limit) × (m.next < NUMBER_LIMIT)
@@ -116,17 +118,17 @@ module _ (s : Settings) where
         eq_test : (a b : ℕ) → a ≡ b → (a == b) ≡ true
         eq_test a b h = grind (arith, nat_tests)
 
-    pub given_good : (ino : ℕ) → IsSome (get m.tree.records ino) → is_at_limit s m ≡ false → (o : Option (ℕ × Node)) → node_of m ino ≡ o → IsGoodMachine s (node_given m ino o).1
+    pub given_good : (ino : ℕ) → IsSome (get m.tree.records ino) → is_at_limit s m ≡ false → (o : Option (ℕ × Node)) → node_of m ino ≡ o → IsGoodMachine s (node_for m ino o).1
     given_good ino had open_limit None at = drawn_new ino had at open_limit
     given_good ino had open_limit (Some e) at =
         let there = first_entry (λ (e : ℕ × Node). e.1.ino == ino) m.nodes e at in
         recounted e.0 e.1 (record { ino = ino; count = min (e.1.count + 1) COUNT_LIMIT }) there.0 (sym (eqb-true e.1.ino ino there.1)) (omega arith)
 
     -- a node that isn't the root goes
-    pub node_gone : (id : ℕ) → id ≢ ROOT_NODE → IsGoodMachine s (record m { nodes = remove m.nodes id })
+    pub node_gone : (id : ℕ) → id ≢ FUSE_ROOT_ID → IsGoodMachine s (record m { nodes = remove m.nodes id })
     node_gone id ne = record {
       tree = g.tree;
-      root = subst IsSome (sym (remove_keeps m.nodes id ROOT_NODE (λ h. ne (sym h)))) g.root;
+      root = subst IsSome (sym (remove_keeps m.nodes id FUSE_ROOT_ID (λ h. ne (sym h)))) g.root;
       nodes = λ q n at. let good = g.nodes q n (left q n at) in record { positive = good.positive; drawn = good.drawn; counted = good.counted; stored = good.stored };
       handles = λ q h at. let good = g.handles q h at in record { positive = good.positive; drawn = good.drawn; access = good.access; openable = good.openable };
       apart = λ q n at. g.apart q n (left q n at);

@@ -13,7 +13,7 @@ use Rattle.fuse_wire.specs.Request.{request_of, request_in, init_of, lookup_of, 
 use Rattle.fuse_wire.specs.Reply.{reply, reply_head, init_body, entry_body, attr_body, attr_bytes, u32s, u64s}
 use Rattle.tree_machine.specs.State.{begun}
 use Rattle.tree_machine.specs.State.Phase.{Started}
-use Rattle.port_base.specs.declared.errno.TheConstants.{ENFILE}
+use Rattle.port_base.specs.declared.errno.TheConstants.{ENFILE, ESTALE}
 use Rattle.std.specs.Prelude.{◌==◌, nat_le, ◌||◌, unwrap_or}
 use Rattle.std.proofs.Common.{subst, arith}
 use Rattle.tree_model.specs.declared.attributes.Attr.{Attr}
@@ -26,8 +26,11 @@ use Rattle.tree_model.specs.Finding.{find, ino_among, entries_of}
 use Rattle.fuse_wire.specs.Request.{lookup, getattr}
 use Rattle.fuse_wire.specs.Head.{head_of}
 use Rattle.tree_machine.specs.State.{Node, Handle, is_at_limit}
-use Rattle.tree_machine.specs.Core.{core, lookup_core, lookup_named, looked_up, entered, node_given, node_of, entry_reply, getattr_node, attr_reply}
-use Rattle.tree_machine.specs.Core.Reply.{Refused, EntryOf, AttrOf}
+use Rattle.tree_machine.specs.Replies.{fuse_attributes, answer_bytes}
+use Rattle.tree_machine.specs.Replies.Reply.{Entry, Attributes}
+use Rattle.tree_machine.specs.Refusals.{refused_if, refused_unknown, first_refusal, refused_or}
+use Rattle.tree_machine.specs.Core.{node_ino, lookup_refusal, looked_up, entered, node_for, node_of, entry_reply, shown_at, attr_reply}
+use Rattle.tree_machine.specs.Requests.{answer_of}
 use Rattle.std.proofs.lemmas.Str.{is_utf8-from_IsUtf8, IsUtf8-from_ascii}
 use Rattle.std.specs.Str.{is_utf8}
 use Rattle.std.proofs.Common.{lit<, not, ◌<◌, zero, suc}
@@ -36,7 +39,7 @@ use Rattle.std.specs.List.{AllByRecursion}
 use Rattle.port_base.specs.Names.{name_fault}
 use Rattle.tree_machine.proofs.First.{first_entry}
 use Rattle.tree_machine.proofs.Begun.{one_node}
-use Rattle.tree_machine.specs.Step.{step, asked, answer_bytes}
+use Rattle.tree_machine.specs.Step.{step, request_in_turn}
 use Rattle.tree_machine.specs.Samples.{tree, settings, init_frame, init_reply, started, lookup_frame, entry_reply_bytes, getattr_frame, with_hello, attr_reply_bytes}
 
 -- INIT of minor 31 is granted
@@ -111,20 +114,25 @@ hello_is_text = is_utf8-from_IsUtf8 (codes "hello") (IsUtf8-from_ascii (codes "h
 hello_has_no_fault : name_fault (codes "hello") ≡ None
 hello_has_no_fault = ap (λ (b : Bool). cond {A = Option ℕ} (not b) (Some 22) None) hello_is_text
 
-looked : (core settings started 1 (Ok (lookup (codes "hello")))).0 ≡ EntryOf 2 shown
+passed : lookup_refusal settings started (codes "hello") (get started.nodes 1) ≡ None
+passed =
+    ap (λ (o : Option Node). lookup_refusal settings started (codes "hello") o) root_at
+    ∙ ap (λ (o : Option ℕ). first_refusal (o ∷ refused_if (is_at_limit settings started) ENFILE ∷ [])) hello_has_no_fault
+    ∙ ap (λ (b : Bool). first_refusal (refused_if b ENFILE ∷ [])) open_limit
+
+looked : (answer_of settings started 1 (Ok (lookup (codes "hello")))).0 ≡ Entry 2 (fuse_attributes shown)
 looked =
-    ap (λ (o : Option Node). (lookup_core settings started (codes "hello") o).0) root_at
-    ∙ ap (λ (o : Option ℕ). (lookup_named settings started root_node (codes "hello") o).0) hello_has_no_fault
-    ∙ ap (λ (b : Bool). (cond b (Refused ENFILE, started) (looked_up settings started (find false tree 1 (codes "hello")))).0) open_limit
+    ap (λ (o : Option ℕ). (refused_or started o (looked_up settings started (find false tree (node_ino (get started.nodes 1)) (codes "hello")))).0) passed
+    ∙ ap (λ (o : Option Node). (looked_up settings started (find false tree (node_ino o) (codes "hello"))).0) root_at
     ∙ ap (λ r. (looked_up settings started r).0) found
-    ∙ ap (λ (o : Option (ℕ × Node)). (entered settings tree 2 (node_given started 2 o)).0) (unknown_by (node_of started 2) refl)
+    ∙ ap (λ (o : Option (ℕ × Node)). (entered settings tree 2 (node_for started 2 o)).0) (unknown_by (node_of started 2) refl)
     ∙ ap (entry_reply 2) shown_is
 
-entry_spelled : answer_bytes lookup_frame (EntryOf 2 shown) ≡ entry_reply_bytes
+entry_spelled : answer_bytes lookup_frame (Entry 2 (fuse_attributes shown)) ≡ entry_reply_bytes
 unfolding u32_at u64_at reply reply_head entry_body attr_bytes u32s u64s shown
 entry_spelled = refl
 
-lookup_asked : asked Started lookup_frame ≡ Ok (lookup (codes "hello"))
+lookup_asked : request_in_turn Started lookup_frame ≡ Ok (lookup (codes "hello"))
 unfolding u32_at u64_at request_of request_in lookup_of only_name name_at
 lookup_asked = refl
 
@@ -135,13 +143,13 @@ nodeid_is = refl
 -- the look-up gives node 2 and the file's attributes
 pub lookup_answered : (step settings started lookup_frame).0 ≡ entry_reply_bytes
 lookup_answered =
-    ap (λ r. answer_bytes lookup_frame (core settings started (head_of lookup_frame).nodeid r).0) lookup_asked
-    ∙ ap (λ n. answer_bytes lookup_frame (core settings started n (Ok (lookup (codes "hello")))).0) nodeid_is
+    ap (λ r. answer_bytes lookup_frame (answer_of settings started (head_of lookup_frame).nodeid r).0) lookup_asked
+    ∙ ap (λ n. answer_bytes lookup_frame (answer_of settings started n (Ok (lookup (codes "hello")))).0) nodeid_is
     ∙ ap (answer_bytes lookup_frame) looked ∙ entry_spelled
 
 -- ---- attributes of the node that the look-up gave
 
-getattr_asked : asked Started getattr_frame ≡ Ok (getattr None)
+getattr_asked : request_in_turn Started getattr_frame ≡ Ok (getattr None)
 unfolding u32_at u64_at request_of request_in getattr_of
 getattr_asked = refl
 
@@ -149,17 +157,17 @@ getattr_nodeid_is : (head_of getattr_frame).nodeid ≡ 2
 unfolding u32_at u64_at
 getattr_nodeid_is = refl
 
-got : (core settings with_hello 2 (Ok (getattr None))).0 ≡ AttrOf shown
-got =
-    ap (λ (o : Option Node). getattr_node settings with_hello o) (inserted started.nodes 2 (record { ino = 2; count = 1 }))
+attributes_are : (answer_of settings with_hello 2 (Ok (getattr None))).0 ≡ Attributes (fuse_attributes shown)
+attributes_are =
+    ap (λ (o : Option Node). (refused_or with_hello (refused_unknown o ESTALE) (attr_reply (shown_at settings tree (node_ino o)), with_hello)).0) (inserted started.nodes 2 (record { ino = 2; count = 1 }))
     ∙ ap attr_reply shown_is
 
-attr_spelled : answer_bytes getattr_frame (AttrOf shown) ≡ attr_reply_bytes
+attr_spelled : answer_bytes getattr_frame (Attributes (fuse_attributes shown)) ≡ attr_reply_bytes
 unfolding u32_at u64_at reply reply_head attr_body attr_bytes u32s u64s shown
 attr_spelled = refl
 
 pub getattr_answered : (step settings with_hello getattr_frame).0 ≡ attr_reply_bytes
 getattr_answered =
-    ap (λ r. answer_bytes getattr_frame (core settings with_hello (head_of getattr_frame).nodeid r).0) getattr_asked
-    ∙ ap (λ n. answer_bytes getattr_frame (core settings with_hello n (Ok (getattr None))).0) getattr_nodeid_is
-    ∙ ap (answer_bytes getattr_frame) got ∙ attr_spelled
+    ap (λ r. answer_bytes getattr_frame (answer_of settings with_hello (head_of getattr_frame).nodeid r).0) getattr_asked
+    ∙ ap (λ n. answer_bytes getattr_frame (answer_of settings with_hello n (Ok (getattr None))).0) getattr_nodeid_is
+    ∙ ap (answer_bytes getattr_frame) attributes_are ∙ attr_spelled

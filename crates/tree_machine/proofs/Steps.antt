@@ -1,22 +1,22 @@
 -- Each step keeps a good state good.
-use Rattle.std.proofs.Common.{ℕ, List, [], ◌∷◌, Result, Ok, Err}
-use Rattle.std.specs.FinMap.{get}
+use Rattle.std.proofs.Common.{◌≡◌, ℕ, List, [], ◌∷◌, None, Result, Ok, Err}
+use Rattle.std.specs.FinMap.{get, remove}
 use Rattle.tree_model.specs.Settings.{Settings}
 use Rattle.fuse_wire.specs.Head.{head_of}
 use Rattle.fuse_wire.specs.Request.{Request, init, lookup, getattr, open_file, read, flush, release, forget, batch_forget}
 use Rattle.tree_machine.specs.State.{MachineState}
 use Rattle.tree_machine.specs.State.Phase.{Started}
-use Rattle.tree_machine.specs.Core.{core}
+use Rattle.tree_machine.specs.Requests.{refusal_before, effect_of, answer_of}
 use Rattle.tree_machine.specs.Forgetting.{forgotten, all_forgotten, pairs_of}
-use Rattle.tree_machine.specs.Step.{step, asked}
+use Rattle.tree_machine.specs.Step.{step, request_in_turn}
 use Rattle.tree_machine.specs.Play.{play_from}
 use Rattle.tree_machine.specs.Good.{IsGoodMachine}
-use Rattle.tree_machine.proofs.Settling.{Gives, choice}
-pub use Rattle.tree_machine.proofs.Settling.{settles}
+use Rattle.tree_machine.proofs.KeptStates.{Gives, refused_or_good}
+pub use Rattle.tree_machine.proofs.KeptStates.{kept_good}
 pub use Rattle.tree_machine.proofs.Nodes.{given_good}
 use Rattle.tree_machine.proofs.Looking.{lookup_good}
 use Rattle.tree_machine.proofs.Opening.{open_good}
-use Rattle.tree_machine.proofs.Releasing.{release_good}
+use Rattle.tree_machine.proofs.Handles.{handle_gone}
 use Rattle.tree_machine.proofs.Forgetting.{forgotten_good, all_forgotten_good}
 
 module _ (s : Settings) where
@@ -33,20 +33,23 @@ module _ (s : Settings) where
       within = g.within;
     }
 
-    pub core_good : (node : ℕ) (r : Result Request ℕ) → Gives s (core s m node r)
-    core_good node (Err e) = settles s m g
-    core_good node (Ok (init major minor max_readahead flags)) = choice s _ _ _ (settles s m g) (settles s (record m { phase = Started }) begins)
-    core_good node (Ok (lookup name)) = lookup_good s m g name (get m.nodes node)
-    core_good node (Ok (getattr handle)) = settles s m g
-    core_good node (Ok (open_file flags)) = open_good s m g flags (get m.nodes node)
-    core_good node (Ok (read fh offset size flags lock)) = settles s m g
-    core_good node (Ok (flush fh)) = settles s m g
-    core_good node (Ok (release fh)) = release_good s m g fh (get m.handles fh)
-    core_good node (Ok (forget number)) = settles s (forgotten m node number) (forgotten_good s m g node number)
-    core_good node (Ok (batch_forget pairs)) = settles s (all_forgotten m (pairs_of pairs)) (all_forgotten_good s m g (pairs_of pairs))
+    effect_good : (node : ℕ) (r : Request) → refusal_before s m node r ≡ None → Gives s (effect_of s m node r)
+    effect_good node (init major minor max_readahead flags) none = kept_good s (record m { phase = Started }) begins
+    effect_good node (lookup name) none = lookup_good s m g name (get m.nodes node) none
+    effect_good node (getattr handle) none = kept_good s m g
+    effect_good node (open_file flags) none = open_good s m g flags (get m.nodes node) none
+    effect_good node (read fh offset size flags lock) none = kept_good s m g
+    effect_good node (flush fh) none = kept_good s m g
+    effect_good node (release fh) none = kept_good s (record m { handles = remove m.handles fh }) (handle_gone s m g fh)
+    effect_good node (forget number) none = kept_good s (forgotten m node number) (forgotten_good s m g node number)
+    effect_good node (batch_forget pairs) none = kept_good s (all_forgotten m (pairs_of pairs)) (all_forgotten_good s m g (pairs_of pairs))
+
+    pub answer_good : (node : ℕ) (r : Result Request ℕ) → Gives s (answer_of s m node r)
+    answer_good node (Err e) = kept_good s m g
+    answer_good node (Ok r) = refused_or_good s m g (refusal_before s m node r) (effect_of s m node r) (effect_good node r)
 
   pub step_good : (m : MachineState) (frame : List ℕ) → IsGoodMachine s m → IsGoodMachine s (step s m frame).1
-  step_good m frame g = core_good m g (head_of frame).nodeid (asked m.phase frame)
+  step_good m frame g = answer_good m g (head_of frame).nodeid (request_in_turn m.phase frame)
 
   pub play_good : (m : MachineState) (frames : List (List ℕ)) → IsGoodMachine s m → IsGoodMachine s (play_from s m frames).1
   play_good m [] g = g

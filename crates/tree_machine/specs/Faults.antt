@@ -1,28 +1,42 @@
--- What a fault of the host leaves of a request.
+-- What a request leaves that isn't carried out whole, for a fault of the host or no memory.
 use Rattle.std.specs.Prelude.{◌≡◌, ◌⊎◌, ℕ, suc, List, [], ◌∷◌, ◌++◌, take, Result, Ok}
 use Rattle.port_base.specs.declared.errno.TheConstants.{EIO}
 use Rattle.tree_model.specs.Tree.{Tree}
 use Rattle.tree_model.specs.Settings.{Settings}
 use Rattle.fuse_wire.specs.Head.{head_of}
 use Rattle.fuse_wire.specs.Request.{Request, batch_forget}
-use Rattle.tree_machine.specs.State.{MachineState, settled}
-use Rattle.tree_machine.specs.Core.{core}
-use Rattle.tree_machine.specs.Core.Reply.{Refused}
+use Rattle.tree_machine.specs.State.{MachineState, kept_state}
+use Rattle.tree_machine.specs.Replies.{answer_bytes}
+use Rattle.tree_machine.specs.Replies.Reply.{Refused}
 use Rattle.tree_machine.specs.Forgetting.{all_forgotten, pairs_of}
-use Rattle.tree_machine.specs.Step.{step, asked, answer_bytes}
+use Rattle.tree_machine.specs.Requests.{answer_of}
+use Rattle.tree_machine.specs.Step.{request_in_turn, step}
 
--- the tree after a front part of a batch's pairs
-abbrev pub IsFrontDone : MachineState → Result Request ℕ → Tree → Type 0
-IsFrontDone m (Ok (batch_forget pairs)) t = (n : ℕ) × (t ≡ (settled (all_forgotten m (take n (pairs_of pairs)))).tree)
-IsFrontDone m _ t = ⊥
+-- the tree before a request, or the one after it
+abbrev pub IsEither : Tree → Tree → Tree → Type 0
+IsEither before after t = (t ≡ before) ⊎ (t ≡ after)
 
--- the trees that a request of a node may leave that wasn't carried out whole: the one before it, the one after it, and of a batch those between
-abbrev pub IsPartServed : Settings → MachineState → ℕ → Result Request ℕ → Tree → Type 0
-IsPartServed s m node request t = (t ≡ m.tree) ⊎ (t ≡ (settled (core s m node request).1).tree) ⊎ IsFrontDone m request t
+-- the tree after a front part of what is done one after another
+abbrev pub IsAfterFront : {X : Type 0} → (List X → Tree) → List X → Tree → Type 0
+IsAfterFront after all t = (n : ℕ) × (t ≡ after (take n all))
+
+-- the trees between: of BATCH_FORGET those after a front part of its pairs (so of SETATTR those after
+-- a front part of its steps, and of WRITE of its bytes, once they are served); of no other request
+abbrev pub IsBetween : MachineState → Result Request ℕ → Tree → Type 0
+IsBetween m (Ok (batch_forget pairs)) t =
+    IsAfterFront (λ ps. (kept_state (all_forgotten m ps)).tree) (pairs_of pairs) t
+IsBetween m _ t = ⊥
+
+-- the trees that a request may leave that isn't carried out whole: the one before it, the one after
+-- it, and those between
+abbrev pub PartOf : Settings → MachineState → ℕ → Result Request ℕ → Tree → Type 0
+PartOf s m node request t =
+    IsEither m.tree (kept_state (answer_of s m node request).1).tree t ⊎ IsBetween m request t
 
 -- the same of a frame
 abbrev pub IsPartDone : Settings → MachineState → List ℕ → Tree → Type 0
-IsPartDone s m frame t = IsPartServed s m (head_of frame).nodeid (asked m.phase frame) t
+IsPartDone s m frame t =
+    PartOf s m (head_of frame).nodeid (request_in_turn m.phase frame) t
 
 -- a request that met a fault gets the error EIO; all but the tree is as before
 pub record IsHurtStep (s : Settings) (m : MachineState) (frame bytes : List ℕ) (after : MachineState) : Type 0 where

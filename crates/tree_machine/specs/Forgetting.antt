@@ -4,7 +4,8 @@ use Rattle.std.specs.FinMap as map
 use Rattle.std.specs.Simd.{first_chunks}
 use Rattle.fuse_wire.specs.Fields.{u64_at}
 use Rattle.fuse_wire.specs.declared.request.TheConstants.{FORGET_ONE_SIZE}
-use Rattle.tree_machine.specs.State.{MachineState, Node, ROOT_NODE}
+use Rattle.fuse_wire.specs.declared.protocol.TheConstants.{FUSE_ROOT_ID}
+use Rattle.tree_machine.specs.State.{MachineState, Node}
 
 -- a node goes whose count is at or below the number; else the count is less by it
 abbrev pub less_by : MachineState → ℕ → ℕ → Node → MachineState
@@ -18,7 +19,7 @@ less_where m node number (Some n) = less_by m node number n
 
 -- the root and an unknown node are passed over
 abbrev pub forgotten : MachineState → ℕ → ℕ → MachineState
-forgotten m node number = if node == ROOT_NODE then m else less_where m node number (map.get m.nodes node)
+forgotten m node number = if node == FUSE_ROOT_ID then m else less_where m node number (map.get m.nodes node)
 
 -- pair by pair: a node, and its number
 abbrev pub all_forgotten : MachineState → List (ℕ × ℕ) → MachineState

@@ -5,7 +5,9 @@ use Rattle.tree_model.specs.Tree.{Body, body_at}
 use Rattle.tree_model.specs.Tree.Body.{File, Directory, Link}
 use Rattle.tree_model.specs.Good.{IsGoodTree}
 use Rattle.tree_model.specs.Settings.{Settings}
-use Rattle.tree_machine.specs.State.{MachineState, Node, Handle, ROOT_NODE, NUMBER_LIMIT}
+use Rattle.fuse_wire.specs.declared.protocol.TheConstants.{FUSE_ROOT_ID}
+use Rattle.tree_machine.specs.declared.limits.TheConstants.{NUMBER_LIMIT}
+use Rattle.tree_machine.specs.State.{MachineState, Node, Handle}
 
 -- a node's number was drawn, it counts at least one look-up, and its inode is stored
 pub record IsGoodNode (m : MachineState) (id : ℕ) (n : Node) : Type 0 where
@@ -29,7 +31,7 @@ pub record IsGoodHandle (m : MachineState) (id : ℕ) (h : Handle) : Type 0 wher
 
 pub record IsGoodMachine (s : Settings) (m : MachineState) : Type 0 where
   pub tree : IsGoodTree m.tree
-  pub root : IsSome (map.get m.nodes ROOT_NODE)
+  pub root : IsSome (map.get m.nodes FUSE_ROOT_ID)
   pub nodes : (id : ℕ) (n : Node) → map.get m.nodes id ≡ Some n → IsGoodNode m id n
   pub handles : (id : ℕ) (h : Handle) → map.get m.handles id ≡ Some h → IsGoodHandle m id h
   -- no number is a node and a handle, and no two nodes name one inode

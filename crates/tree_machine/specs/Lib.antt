@@ -1,6 +1,9 @@
 pub mod State
 pub mod Forgetting
+pub mod Replies
+pub mod Refusals
 pub mod Core
+pub mod Requests
 pub mod Step
 pub mod Play
 pub mod Good

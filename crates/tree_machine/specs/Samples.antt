@@ -1,7 +1,8 @@
 -- The first example: a tree, three frames, and the bytes that answer them.
 use Rattle.std.specs.Prelude.{ℕ, List, [], ◌∷◌, ◌++◌, replicate, codes, false}
 use Rattle.std.specs.FinMap.{insert, empty}
-use Rattle.tree_model.specs.Tree.{Tree, top}
+use Rattle.tree_model.specs.declared.attributes.TheConstants.{TOP}
+use Rattle.tree_model.specs.Tree.{Tree}
 use Rattle.tree_model.specs.Settings.{Settings}
 use Rattle.tree_model.specs.Making.{new_tree, with_file}
 use Rattle.tree_machine.specs.State.{MachineState, begun}
@@ -11,7 +12,7 @@ use Rattle.tree_machine.specs.State.Phase.{Started}
 abbrev pub tree : Tree
 tree = with_file (record { sec = 1600000000; nsec = 0 })
     (new_tree (record { file = 1048576; entries = 65536; links = 65000 }) (record { sec = 1700000000; nsec = 5 }) (record { sec = 1600000000; nsec = 0 }) 493 0 0)
-    top (codes "hello") (record { mode = 420; uid = 1000; gid = 1000; bytes = codes "hello\n" })
+    TOP (codes "hello") (record { mode = 420; uid = 1000; gid = 1000; bytes = codes "hello\n" })
 
 -- the whole tree is shared, with up to 1024 node ids and handles
 abbrev pub settings : Settings

@@ -4,98 +4,99 @@ ghost use Rattle.std.specs.FinMap as map;
 ghost use Rattle.port_base.specs.declared.errno.TheConstants.{EBADF, EISDIR, ENOSYS, ESTALE};
 ghost use Rattle.tree_machine.specs.State.{begun};
 ghost use Rattle.fuse_wire.specs.Request.{open_file, read, flush, release};
-ghost use Rattle.tree_machine.specs.Core.{core};
-ghost use Rattle.tree_machine.specs.Core.Reply.{Refused, BytesOf, Done};
+ghost use Rattle.tree_machine.specs.Replies.Reply.{Refused, Bytes, Done};
+ghost use Rattle.tree_machine.specs.Requests.{answer_of, is_core};
 ghost use Rattle.tree_machine.specs.Forgetting.{forgotten};
 ghost use Rattle.tree_machine.specs.FileSamples.{open_frame, open_reply, with_open, read_frame, read_reply, release_frame, release_reply, with_closed, forget_frame, with_none, thrice_given, batch_frame};
 ghost use Rattle.tree_machine.specs.Messages.{messages, pieces};
-ghost use Rattle.tree_machine.specs.Play.{is_served};
-ghost use Rattle.tree_machine.specs.Step.{step, core_of};
+ghost use Rattle.tree_machine.specs.Step.{step, frame_answer};
 ghost use Rattle.tree_machine.specs.Samples.{tree, settings, init_frame, init_reply, started, lookup_frame, entry_reply_bytes, getattr_frame, with_hello, attr_reply_bytes};
 
 /// INIT of minor 31 is granted.
 #[tactic(auto, using(crate::proofs::Sampling::init_answered))]
-pub fn init_is_granted()
+fn init_is_granted()
     ensures { (step settings (begun tree 1) init_frame).0 ≡ init_reply }
 {}
 
 /// A look-up of `hello` in the root gives node 2 and the file's attributes.
 #[tactic(auto, using(crate::proofs::Sampling::lookup_answered))]
-pub fn hello_is_looked_up()
+fn hello_is_looked_up()
     ensures { (step settings started lookup_frame).0 ≡ entry_reply_bytes }
 {}
 
 /// GETATTR of that node tells the file's attributes.
 #[tactic(auto, using(crate::proofs::Sampling::getattr_answered))]
-pub fn attributes_are_told()
+fn attributes_are_told()
     ensures { (step settings with_hello getattr_frame).0 ≡ attr_reply_bytes }
 {}
 
 /// OPEN of that node gives handle 3, with two messages.
 #[tactic(auto, using(crate::proofs::FileSampling::open_answered, crate::proofs::FileSampling::open_leaves, crate::proofs::FileSampling::open_counted))]
-pub fn hello_is_opened()
+fn hello_is_opened()
     ensures reply { (step settings with_hello open_frame).0 ≡ open_reply }
-    ensures state { (core_of settings with_hello open_frame).1 ≡ with_open }
+    ensures state { (frame_answer settings with_hello open_frame).1 ≡ with_open }
     ensures messages { messages 4341 settings with_hello open_frame ≡ 2 }
 {}
 
 /// OPEN's refusals in order: flags that aren't served, a node that isn't there, a directory.
 #[tactic(auto, using(crate::proofs::FileSampling::open_flagged, crate::proofs::FileSampling::open_cut, crate::proofs::FileSampling::open_unknown, crate::proofs::FileSampling::open_directory))]
-pub fn opens_are_refused()
-    ensures written { (core settings with_hello 9 (Ok (open_file 1))).0 ≡ Refused ENOSYS }
-    ensures cut { (core settings with_hello 9 (Ok (open_file 512))).0 ≡ Refused ENOSYS }
-    ensures unknown { (core settings with_hello 9 (Ok (open_file 0))).0 ≡ Refused ESTALE }
-    ensures directory { (core settings with_hello 1 (Ok (open_file 0))).0 ≡ Refused EISDIR }
-    ensures to_read { is_served (open_file 0) ≡ true }
-    ensures to_write { is_served (open_file 2) ≡ false }
+fn opens_are_refused()
+    ensures written { (answer_of settings with_hello 9 (Ok (open_file 1))).0 ≡ Refused ENOSYS }
+    ensures cut { (answer_of settings with_hello 9 (Ok (open_file 512))).0 ≡ Refused ENOSYS }
+    ensures unknown { (answer_of settings with_hello 9 (Ok (open_file 0))).0 ≡ Refused ESTALE }
+    ensures directory { (answer_of settings with_hello 1 (Ok (open_file 0))).0 ≡ Refused EISDIR }
+    ensures to_read { is_core (open_file 0) ≡ true }
+    ensures to_write { is_core (open_file 2) ≡ false }
 {}
 
 /// What a handle is asked that isn't open.
 #[tactic(auto, using(crate::proofs::FileSampling::read_unknown, crate::proofs::FileSampling::flush_unknown, crate::proofs::FileSampling::release_unknown))]
-pub fn unknown_handles_are_refused()
-    ensures read { (core settings with_open 2 (Ok (read 9 0 4 0 None))).0 ≡ Refused EBADF }
-    ensures flush { (core settings with_open 2 (Ok (flush 9))).0 ≡ Refused EBADF }
-    ensures release { core settings with_open 2 (Ok (release 9)) ≡ (Refused EBADF, with_open) }
+fn unknown_handles_are_refused()
+    ensures read { (answer_of settings with_open 2 (Ok (read 9 0 4 0 None))).0 ≡ Refused EBADF }
+    ensures flush { (answer_of settings with_open 2 (Ok (flush 9))).0 ≡ Refused EBADF }
+    ensures release { answer_of settings with_open 2 (Ok (release 9)) ≡ (Refused EBADF, with_open) }
 {}
 
 /// READ of the handle gives bytes from an offset on, at most so many, and no more than are there.
 #[tactic(auto, using(crate::proofs::FileSampling::read_answered, crate::proofs::FileSampling::read_counted, crate::proofs::FileSampling::read_to_end, crate::proofs::FileSampling::read_beyond))]
-pub fn hello_is_read()
+fn hello_is_read()
     ensures reply { (step settings with_open read_frame).0 ≡ read_reply }
     ensures messages { messages 4341 settings with_open read_frame ≡ 1 }
-    ensures end { (core settings with_open 2 (Ok (read 3 4 4294967295 0 None))).0 ≡ BytesOf (codes "o\n") }
-    ensures beyond { (core settings with_open 2 (Ok (read 3 6 4 0 None))).0 ≡ BytesOf [] }
+    ensures end { (answer_of settings with_open 2 (Ok (read 3 4 4294967295 0 None))).0
+        ≡ Bytes (codes "o\n") }
+    ensures beyond { (answer_of settings with_open 2 (Ok (read 3 6 4 0 None))).0 ≡ Bytes [] }
 {}
 
 /// FLUSH of the handle is done, and RELEASE ends it.
 #[tactic(auto, using(crate::proofs::FileSampling::flush_done, crate::proofs::FileSampling::release_answered, crate::proofs::FileSampling::release_leaves, crate::proofs::FileSampling::release_counted))]
-pub fn hello_is_closed()
-    ensures flush { (core settings with_open 2 (Ok (flush 3))).0 ≡ Done }
+fn hello_is_closed()
+    ensures flush { (answer_of settings with_open 2 (Ok (flush 3))).0 ≡ Done }
     ensures reply { (step settings with_open release_frame).0 ≡ release_reply }
-    ensures state { (core_of settings with_open release_frame).1 ≡ with_closed }
+    ensures state { (frame_answer settings with_open release_frame).1 ≡ with_closed }
     ensures messages { messages 4341 settings with_open release_frame ≡ 1 }
 {}
 
-/// FORGET takes the node away, and so does a batch, which passes over the root and what isn't there. Neither
-/// gets a reply.
+/// FORGET takes the node away, and so does a batch, which passes over the root and what isn't there.
+/// Neither gets a reply.
 #[tactic(auto, using(crate::proofs::FileSampling::forget_silent, crate::proofs::FileSampling::forget_leaves, crate::proofs::FileSampling::forget_counted, crate::proofs::FileSampling::batch_silent, crate::proofs::FileSampling::batch_leaves, crate::proofs::FileSampling::batch_counted))]
-pub fn hello_is_forgotten()
+fn hello_is_forgotten()
     ensures silent { (step settings with_hello forget_frame).0 ≡ [] }
-    ensures state { (core_of settings with_hello forget_frame).1 ≡ with_none }
+    ensures state { (frame_answer settings with_hello forget_frame).1 ≡ with_none }
     ensures messages { messages 4341 settings with_hello forget_frame ≡ 1 }
     ensures batch_silent { (step settings with_hello batch_frame).0 ≡ [] }
-    ensures batch_state { (core_of settings with_hello batch_frame).1 ≡ with_none }
+    ensures batch_state { (frame_answer settings with_hello batch_frame).1 ≡ with_none }
     ensures batch_messages { messages 4341 settings with_hello batch_frame ≡ 1 }
 {}
 
 /// A node that was given three times is counted down by two.
 #[tactic(auto, using(crate::proofs::FileSampling::counted_down))]
-pub fn nodes_are_counted_down()
-    ensures { map.get (forgotten thrice_given 2 2).nodes 2 ≡ Some (record { ino = 2; count = 1 }) }
+fn nodes_are_counted_down()
+    ensures { map.get (forgotten thrice_given 2 2).nodes 2
+        ≡ Some (record { ino = 2; count = 1 }) }
 {}
 
 /// How many pieces a reading takes: of all that was asked for, of less, of nothing.
-pub fn pieces_are_counted()
+fn pieces_are_counted()
     ensures whole { pieces 4341 131072 131072 ≡ 31 }
     ensures even { pieces 4341 8682 8682 ≡ 2 }
     ensures whole_at_two { pieces 65549 131072 131072 ≡ 2 }

@@ -2,5 +2,6 @@
 //! laws over runs.
 #![tactic(auto)]
 
-pub mod examples;
+mod examples;
 pub mod laws;
+pub mod limits;

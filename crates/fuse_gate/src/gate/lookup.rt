@@ -1,19 +1,17 @@
 // LOOKUP.
-ghost use Rattle.std.specs.Prelude.{◌≡◌, ◌≤◌, IfOk, OnErr, Ok};
-ghost use Rattle.std.specs.FinMap as map;
+ghost use Rattle.std.specs.Prelude.{IfOk, OnErr};
 ghost use Rattle.p9_wire.specs.Qids.{qid_of};
-ghost use Rattle.tree_machine.specs.Core.{lookup_core, looked_up, node_of};
-ghost use Rattle.tree_machine.specs.Messages.{lookup_messages};
-ghost use Rattle.fid_model.specs.Handling.{Steadily};
-ghost use Rattle.fuse_gate.specs.Standing.{IsInStep, machine_of};
-ghost use Rattle.fuse_gate.specs.Replies.{plain};
-ghost use Rattle.fuse_gate.specs.Steps.{IsServed};
-ghost use Rattle.fuse_gate.specs.Changes.{HasFresh, entering_rest};
+ghost use Rattle.fuse_wire.specs.Request.{lookup};
+ghost use Rattle.fid_model.specs.Moments.{Keeps, SameTree};
+ghost use Rattle.fuse_gate.specs.Standing.{IsInStep};
+ghost use Rattle.fuse_gate.specs.Replies.{reply_of};
+ghost use Rattle.fuse_gate.specs.Steps.{ServesRequest};
+ghost use Rattle.fuse_gate.specs.Changes.{HasFresh, ServesEntry};
 
 use crate::gate::Gate;
 use crate::gate::reply::Reply;
 use fid_model::Nine;
-use p9_client::calls::{clunk, walk_one};
+use p9_client::{clunk, walk_one};
 use p9_wire::qid::Qid;
 use port_base::errno::{ENFILE, ESTALE};
 use port_base::names::name_fault;
@@ -23,15 +21,11 @@ impl Gate {
     // The entry of an inode that the next number names as a fid: it becomes a node, or goes where the inode
     // has one.
     fn enter<N: Nine>(&mut self, nine: &mut N, qid: Qid) -> Result<Reply, NoMemory>
-        requires { HasFresh self.old (N.state nine.old) qid.path (qid_of qid) }
-        ensures served { IfOk result (λ reply. let m = machine_of self.old (N.state nine.old) in
-            IsServed (looked_up (N.state nine.old).settings m (Ok qid.path)) (entering_rest (node_of m qid.path)) self.old self.new (N.state nine.old) (N.state nine.new) (N.faults nine.old) (N.faults nine.new) (N.asked nine.old) (N.asked nine.new) (plain reply)) }
-        ensures unfinished { OnErr result ((N.state nine.new).tree ≡ (N.state nine.old).tree) }
-        ensures fixed { (N.state nine.new).settings ≡ (N.state nine.old).settings }
-        ensures sized { (N.state nine.new).msize ≡ (N.state nine.old).msize }
-        ensures rises { N.faults nine.old ≤ N.faults nine.new }
-        ensures steady { N.steady nine.new ≡ N.steady nine.old }
-        ensures steadily { Steadily (N.steady nine.old) (N.faults nine.old) (N.faults nine.new) }
+        requires { HasFresh self.old (N.at nine.old).state qid.path (qid_of qid) }
+        ensures served { IfOk result (λ reply. ServesEntry qid.path
+            (self.old, N.at nine.old) (self.new, N.at nine.new) (reply_of reply)) }
+        ensures unfinished { OnErr result (SameTree (N.at nine.old) (N.at nine.new)) }
+        ensures kept { Keeps (N.at nine.old) (N.at nine.new) }
     {
         let fresh = self.next;
         match self.show(nine, fresh)? {
@@ -65,15 +59,11 @@ impl Gate {
         node: u64,
         name: &[u8],
     ) -> Result<Reply, NoMemory>
-        requires { IsInStep self.old (N.state nine.old) }
-        ensures served { IfOk result (λ reply. let m = machine_of self.old (N.state nine.old) in
-            IsServed (lookup_core (N.state nine.old).settings m name.now (map.get m.nodes node)) (lookup_messages (N.state nine.old).settings m name.now (map.get m.nodes node)) self.old self.new (N.state nine.old) (N.state nine.new) (N.faults nine.old) (N.faults nine.new) (N.asked nine.old) (N.asked nine.new) (plain reply)) }
-        ensures unfinished { OnErr result ((N.state nine.new).tree ≡ (N.state nine.old).tree) }
-        ensures fixed { (N.state nine.new).settings ≡ (N.state nine.old).settings }
-        ensures sized { (N.state nine.new).msize ≡ (N.state nine.old).msize }
-        ensures rises { N.faults nine.old ≤ N.faults nine.new }
-        ensures steady { N.steady nine.new ≡ N.steady nine.old }
-        ensures steadily { Steadily (N.steady nine.old) (N.faults nine.old) (N.faults nine.new) }
+        requires { IsInStep self.old (N.at nine.old).state }
+        ensures served { IfOk result (λ reply. ServesRequest node (lookup name.now)
+            (self.old, N.at nine.old) (self.new, N.at nine.new) (reply_of reply)) }
+        ensures unfinished { OnErr result (SameTree (N.at nine.old) (N.at nine.new)) }
+        ensures kept { Keeps (N.at nine.old) (N.at nine.new) }
     {
         if !self.nodes.contains_key(node) {
             return Ok(Reply::Refused(ESTALE));
@@ -81,7 +71,7 @@ impl Gate {
         if let Some(errno) = name_fault(name) {
             return Ok(Reply::Refused(errno));
         }
-        if self.is_full(nine.fid_limit()) {
+        if self.is_full(nine) {
             return Ok(Reply::Refused(ENFILE));
         }
         let walked = walk_one(self.alloc, nine, node as u32, self.next, name)?;

@@ -1,29 +1,28 @@
 // OPEN.
-ghost use Rattle.std.specs.Prelude.{◌≡◌, ◌≤◌, IfOk, OnErr};
-ghost use Rattle.std.specs.FinMap as map;
-ghost use Rattle.tree_model.specs.Opening.{open_check_of};
-ghost use Rattle.tree_machine.specs.Core.{open_core, opened, opens_to_read};
-ghost use Rattle.tree_machine.specs.Messages.{open_messages, opened_messages};
-ghost use Rattle.fid_model.specs.Handling.{Steadily};
-ghost use Rattle.fuse_gate.specs.Standing.{IsInStep, machine_of};
-ghost use Rattle.fuse_gate.specs.Replies.{plain};
-ghost use Rattle.fuse_gate.specs.Steps.{IsServed};
-ghost use Rattle.fuse_gate.specs.Changes.{MayOpen, handle_by};
+ghost use Rattle.std.specs.Prelude.{◌≡◌, IfOk, OnErr};
+ghost use Rattle.fuse_wire.specs.Request.{open_file};
+ghost use Rattle.tree_machine.specs.Requests.{opens_to_read};
+ghost use Rattle.fid_model.specs.Moments.{Keeps, SameTree};
+ghost use Rattle.fuse_gate.specs.Standing.{IsInStep};
+ghost use Rattle.fuse_gate.specs.Replies.{reply_of};
+ghost use Rattle.fuse_gate.specs.Steps.{ServesRequest};
+ghost use Rattle.fuse_gate.specs.Changes.{MayOpen, ServesOpening, handle_by};
 
 use crate::gate::reply::Reply;
-use crate::gate::{Gate, Handle, Node, QTDIR};
+use crate::gate::{Gate, Handle, Node};
 use fid_model::Nine;
-use p9_client::calls::clunk;
-use p9_client::files::{copy_fid, open};
+use p9_client::{clunk, copy_fid, open};
 use port_base::errno::{EISDIR, ENFILE, ENOSYS, ESTALE};
-use port_base::oflag::{APPEND, CREATE, DIRECTORY, TRUNC};
+use port_base::oflag::{O_APPEND, O_CREAT, O_DIRECTORY, O_RDONLY, O_TRUNC, access_mode, has_flag};
 use port_base::sink::NoMemory;
+use tree_model::attributes::QTDIR;
 
 // Whether flags are served: to read, and none that makes, cuts or wants a directory.
 fn opens_to_read(flags: u32) -> bool
     ensures { result ≡ opens_to_read flags }
 {
-    flags % 4 == 0 && flags & CREATE == 0 && flags & TRUNC == 0 && flags & DIRECTORY == 0
+    access_mode(flags) == O_RDONLY
+        && !(has_flag(flags, O_CREAT) || has_flag(flags, O_TRUNC) || has_flag(flags, O_DIRECTORY))
 }
 
 // The handle of a node that is opened by these flags.
@@ -32,8 +31,8 @@ fn handle_by(node: Node, flags: u32) -> Handle
 {
     Handle {
         ino: node.ino,
-        access: flags % 4,
-        append: flags & APPEND != 0,
+        access: access_mode(flags),
+        append: has_flag(flags, O_APPEND),
         kind: node.kind,
     }
 }
@@ -47,15 +46,11 @@ impl Gate {
         node: Node,
         flags: u32,
     ) -> Result<Reply, NoMemory>
-        requires { MayOpen self.old (N.state nine.old) id node flags }
-        ensures served { IfOk result (λ reply. let m = machine_of self.old (N.state nine.old) in let checked = open_check_of m.tree node.ino flags in
-            IsServed (opened m node.ino flags checked) (opened_messages checked) self.old self.new (N.state nine.old) (N.state nine.new) (N.faults nine.old) (N.faults nine.new) (N.asked nine.old) (N.asked nine.new) (plain reply)) }
-        ensures unfinished { OnErr result ((N.state nine.new).tree ≡ (N.state nine.old).tree) }
-        ensures fixed { (N.state nine.new).settings ≡ (N.state nine.old).settings }
-        ensures sized { (N.state nine.new).msize ≡ (N.state nine.old).msize }
-        ensures rises { N.faults nine.old ≤ N.faults nine.new }
-        ensures steady { N.steady nine.new ≡ N.steady nine.old }
-        ensures steadily { Steadily (N.steady nine.old) (N.faults nine.old) (N.faults nine.new) }
+        requires { MayOpen self.old (N.at nine.old).state id node flags }
+        ensures served { IfOk result (λ reply. ServesOpening node flags
+            (self.old, N.at nine.old) (self.new, N.at nine.new) (reply_of reply)) }
+        ensures unfinished { OnErr result (SameTree (N.at nine.old) (N.at nine.new)) }
+        ensures kept { Keeps (N.at nine.old) (N.at nine.new) }
     {
         let fresh = self.next;
         let copied = copy_fid(self.alloc, nine, id, fresh)?;
@@ -87,15 +82,11 @@ impl Gate {
         node: u64,
         flags: u32,
     ) -> Result<Reply, NoMemory>
-        requires { IsInStep self.old (N.state nine.old) }
-        ensures served { IfOk result (λ reply. let m = machine_of self.old (N.state nine.old) in
-            IsServed (open_core (N.state nine.old).settings m flags (map.get m.nodes node)) (open_messages (N.state nine.old).settings m flags (map.get m.nodes node)) self.old self.new (N.state nine.old) (N.state nine.new) (N.faults nine.old) (N.faults nine.new) (N.asked nine.old) (N.asked nine.new) (plain reply)) }
-        ensures unfinished { OnErr result ((N.state nine.new).tree ≡ (N.state nine.old).tree) }
-        ensures fixed { (N.state nine.new).settings ≡ (N.state nine.old).settings }
-        ensures sized { (N.state nine.new).msize ≡ (N.state nine.old).msize }
-        ensures rises { N.faults nine.old ≤ N.faults nine.new }
-        ensures steady { N.steady nine.new ≡ N.steady nine.old }
-        ensures steadily { Steadily (N.steady nine.old) (N.faults nine.old) (N.faults nine.new) }
+        requires { IsInStep self.old (N.at nine.old).state }
+        ensures served { IfOk result (λ reply. ServesRequest node (open_file flags)
+            (self.old, N.at nine.old) (self.new, N.at nine.new) (reply_of reply)) }
+        ensures unfinished { OnErr result (SameTree (N.at nine.old) (N.at nine.new)) }
+        ensures kept { Keeps (N.at nine.old) (N.at nine.new) }
     {
         if !opens_to_read(flags) {
             return Ok(Reply::Refused(ENOSYS));
@@ -103,7 +94,7 @@ impl Gate {
         let Some(found) = self.nodes.get(node).copied() else {
             return Ok(Reply::Refused(ESTALE));
         };
-        if self.is_full(nine.fid_limit()) {
+        if self.is_full(nine) {
             return Ok(Reply::Refused(ENFILE));
         }
         if found.kind == QTDIR {

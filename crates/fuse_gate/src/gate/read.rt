@@ -1,27 +1,23 @@
 // READ.
-ghost use Rattle.std.specs.Prelude.{◌≡◌, ◌≤◌, length, min, IfOk, OnErr};
-ghost use Rattle.std.specs.FinMap as map;
-ghost use Rattle.tree_model.specs.Reading.{part};
-ghost use Rattle.tree_machine.specs.Core.{read_core, READ_LIMIT};
-ghost use Rattle.tree_machine.specs.Core.Reply.{BytesOf};
-ghost use Rattle.tree_machine.specs.Messages.{pieces, read_messages};
-ghost use Rattle.fid_model.specs.Handling.{Steadily};
-ghost use Rattle.fuse_gate.specs.Standing.{IsInStep, machine_of, piece_of};
+ghost use Rattle.std.specs.Prelude.{◌≤◌, None, IfOk, OnErr};
+ghost use Rattle.fuse_wire.specs.Request.{read};
+ghost use Rattle.fid_model.specs.Moments.{Keeps, SameTree};
+ghost use Rattle.fuse_gate.specs.Standing.{IsInStep};
 ghost use Rattle.fuse_gate.specs.Files.{file_at, ReadsFile};
-ghost use Rattle.fuse_gate.specs.Replies.{plain};
-ghost use Rattle.fuse_gate.specs.Steps.{IsServed};
+ghost use Rattle.fuse_gate.specs.Replies.{reply_of};
+ghost use Rattle.fuse_gate.specs.Steps.{ServesRequest};
+ghost use Rattle.fuse_gate.specs.Changes.{ServesReading};
 
 use crate::gate::reply::Reply;
-use crate::gate::{GREATEST_MSIZE, Gate, QTDIR};
+use crate::gate::{GREATEST_MSIZE, Gate};
 use fid_model::Nine;
-use fid_model::sizes::READ_HEAD;
-use fuse_wire::reply::MAX_BYTES;
-use p9_client::files::read;
+use fuse_wire::protocol::MAX_READ;
+use p9_client::read;
+use p9_wire::protocol::RREAD_HEADER_SIZE;
 use port_base::errno::{EBADF, EISDIR};
+use port_base::oflag::O_WRONLY;
 use port_base::sink::NoMemory;
-
-/// The access of a file that is open to be written alone, `O_WRONLY` of `open(2)`.
-const WRITES_ALONE: u32 = 1;
+use tree_model::attributes::QTDIR;
 
 impl Gate {
     // The bytes of a fid's file from an offset on, at most so many, piece by piece: each is as long as a
@@ -33,19 +29,15 @@ impl Gate {
         offset: u64,
         size: u32,
     ) -> Result<Reply, NoMemory>
-        requires stands { IsInStep self.old (N.state nine.old) }
-        requires opened { ReadsFile (N.state nine.old) fid (file_at (N.state nine.old) fid) }
-        requires few { size ≤ READ_LIMIT }
-        ensures served { IfOk result (λ reply. let bytes = part (file_at (N.state nine.old) fid) offset size in
-            IsServed (BytesOf bytes, machine_of self.old (N.state nine.old)) (pieces (piece_of (N.state nine.old)) size (length bytes)) self.old self.new (N.state nine.old) (N.state nine.new) (N.faults nine.old) (N.faults nine.new) (N.asked nine.old) (N.asked nine.new) (plain reply)) }
-        ensures unfinished { OnErr result ((N.state nine.new).tree ≡ (N.state nine.old).tree) }
-        ensures fixed { (N.state nine.new).settings ≡ (N.state nine.old).settings }
-        ensures sized { (N.state nine.new).msize ≡ (N.state nine.old).msize }
-        ensures rises { N.faults nine.old ≤ N.faults nine.new }
-        ensures steady { N.steady nine.new ≡ N.steady nine.old }
-        ensures steadily { Steadily (N.steady nine.old) (N.faults nine.old) (N.faults nine.new) }
+        requires stands { IsInStep self.old (N.at nine.old).state }
+        requires opened { ReadsFile (N.at nine.old).state fid (file_at (N.at nine.old).state fid) }
+        requires few { size ≤ MAX_READ }
+        ensures served { IfOk result (λ reply. ServesReading fid offset size
+            (self.old, N.at nine.old) (self.new, N.at nine.new) (reply_of reply)) }
+        ensures unfinished { OnErr result (SameTree (N.at nine.old) (N.at nine.new)) }
+        ensures kept { Keeps (N.at nine.old) (N.at nine.new) }
     {
-        let piece = nine.msize().min(GREATEST_MSIZE) - READ_HEAD;
+        let piece = nine.msize().min(GREATEST_MSIZE) - RREAD_HEADER_SIZE;
         let mut bytes = Vec::new(self.alloc);
         'pieces: loop {
             let asked = (size - bytes.len() as u32).min(piece);
@@ -73,15 +65,11 @@ impl Gate {
         offset: u64,
         size: u32,
     ) -> Result<Reply, NoMemory>
-        requires { IsInStep self.old (N.state nine.old) }
-        ensures served { IfOk result (λ reply. let m = machine_of self.old (N.state nine.old) in
-            IsServed (read_core m offset size (map.get m.handles handle), m) (read_messages (piece_of (N.state nine.old)) (min size READ_LIMIT) (read_core m offset size (map.get m.handles handle))) self.old self.new (N.state nine.old) (N.state nine.new) (N.faults nine.old) (N.faults nine.new) (N.asked nine.old) (N.asked nine.new) (plain reply)) }
-        ensures unfinished { OnErr result ((N.state nine.new).tree ≡ (N.state nine.old).tree) }
-        ensures fixed { (N.state nine.new).settings ≡ (N.state nine.old).settings }
-        ensures sized { (N.state nine.new).msize ≡ (N.state nine.old).msize }
-        ensures rises { N.faults nine.old ≤ N.faults nine.new }
-        ensures steady { N.steady nine.new ≡ N.steady nine.old }
-        ensures steadily { Steadily (N.steady nine.old) (N.faults nine.old) (N.faults nine.new) }
+        requires { IsInStep self.old (N.at nine.old).state }
+        ensures served { IfOk result (λ reply. ServesRequest 0 (read handle offset size 0 None)
+            (self.old, N.at nine.old) (self.new, N.at nine.new) (reply_of reply)) }
+        ensures unfinished { OnErr result (SameTree (N.at nine.old) (N.at nine.new)) }
+        ensures kept { Keeps (N.at nine.old) (N.at nine.new) }
     {
         let Some(found) = self.handles.get(handle).copied() else {
             return Ok(Reply::Refused(EBADF));
@@ -89,9 +77,9 @@ impl Gate {
         if found.kind == QTDIR {
             return Ok(Reply::Refused(EISDIR));
         }
-        if found.access == WRITES_ALONE {
+        if found.access == O_WRONLY {
             return Ok(Reply::Refused(EBADF));
         }
-        self.read_pieces(nine, handle as u32, offset, size.min(MAX_BYTES as u32))
+        self.read_pieces(nine, handle as u32, offset, size.min(MAX_READ))
     }
 }

@@ -1,20 +1,17 @@
 //! Replies, before they are written.
-ghost use Rattle.std.specs.Prelude.{◌≡◌, ◌+◌, ◌≤◌, ◌++◌, ◌||◌, ◌==◌, ℕ, length, vec_len, vec_capacity};
+ghost use Rattle.std.specs.Prelude.{◌≡◌, ◌+◌, ◌≤◌, ◌++◌, ℕ, length, vec_len, vec_capacity};
 ghost use Rattle.p9_rmsg.specs.Replies.{attributes_of};
-ghost use Rattle.tree_machine.specs.Step.{is_silent};
-ghost use Rattle.fuse_gate.specs.Replies.{plain, written, IsShort, file_attributes, HasShortFields};
+ghost use Rattle.tree_machine.specs.Replies.{reply_bytes};
+ghost use Rattle.fuse_gate.specs.Replies.{reply_of, IsShort, file_attributes, HasShortFields};
 
 use fuse_wire::attr::FileAttr;
 use fuse_wire::ids::{Errno, FileHandle, INodeNo, RequestId};
-use fuse_wire::opcode::{FUSE_BATCH_FORGET, FUSE_FORGET, FUSE_INTERRUPT};
 use fuse_wire::reply::{
     ATTR_OUT_SIZE, ENTRY_OUT_SIZE, INIT_OUT_SIZE, OPEN_OUT_SIZE, OUT_HEADER_SIZE, reply_attr,
     reply_bytes, reply_empty, reply_entry, reply_error, reply_init, reply_opened,
 };
 use p9_rmsg::Rgetattr;
-
-/// The block size that is told, in bytes.
-const BLOCK_SIZE: u32 = 4096;
+use tree_model::attributes::BLOCK_SIZE;
 
 /// What answers a request.
 #[derive(Debug, Drop)]
@@ -26,10 +23,10 @@ pub enum Reply {
     /// A node and its attributes.
     Entry { node: u64, attr: FileAttr },
     /// Attributes.
-    Attr(FileAttr),
+    Attributes(FileAttr),
     /// A handle.
     Opened { handle: u64 },
-    /// Bytes of a file, at most 131072.
+    /// Bytes of a file, at most `MAX_READ`.
     Bytes(Vec<u8>),
     /// The request is granted, without more.
     Done,
@@ -38,14 +35,14 @@ pub enum Reply {
 impl Reply {
     /// How many bytes it has when it is written.
     pub fn size(&self) -> usize
-        requires { IsShort (plain self.now) }
-        ensures { (unique : ℕ) → result ≡ length (written unique (plain self.now)) }
+        requires { IsShort (reply_of self.now) }
+        ensures { (unique : ℕ) → result ≡ length (reply_bytes unique (reply_of self.now)) }
     {
         let body = match self {
             Reply::Refused(_) | Reply::Done => 0,
             Reply::Granted { .. } => INIT_OUT_SIZE,
             Reply::Entry { .. } => ENTRY_OUT_SIZE,
-            Reply::Attr(_) => ATTR_OUT_SIZE,
+            Reply::Attributes(_) => ATTR_OUT_SIZE,
             Reply::Opened { .. } => OPEN_OUT_SIZE,
             Reply::Bytes(bytes) => bytes.len(),
         };
@@ -53,18 +50,12 @@ impl Reply {
     }
 }
 
-/// Whether a request never gets a reply.
-pub fn is_silent(opcode: u32) -> bool
-    ensures { result ≡ is_silent opcode }
-{
-    opcode == FUSE_FORGET || opcode == FUSE_INTERRUPT || opcode == FUSE_BATCH_FORGET
-}
-
 /// Appends the reply to the request with this number.
 pub fn write_reply(out: &mut Vec<u8>, unique: RequestId, reply: &Reply)
-    requires short { IsShort (plain reply.now) }
-    requires room { vec_len out.old + length (written unique.0 (plain reply.now)) ≤ vec_capacity out.old }
-    ensures { out.new.items ≡ out.old.items ++ written unique.0 (plain reply.now) }
+    requires short { IsShort (reply_of reply.now) }
+    requires room { vec_len out.old + length (reply_bytes unique.0 (reply_of reply.now))
+        ≤ vec_capacity out.old }
+    ensures { out.new.items ≡ out.old.items ++ reply_bytes unique.0 (reply_of reply.now) }
 {
     match reply {
         Reply::Refused(errno) => reply_error(out, unique, Errno(*errno)),
@@ -73,14 +64,14 @@ pub fn write_reply(out: &mut Vec<u8>, unique: RequestId, reply: &Reply)
             max_readahead,
         } => reply_init(out, unique, *minor, *max_readahead),
         Reply::Entry { node, attr } => reply_entry(out, unique, INodeNo(*node), attr),
-        Reply::Attr(attr) => reply_attr(out, unique, attr),
+        Reply::Attributes(attr) => reply_attr(out, unique, attr),
         Reply::Opened { handle } => reply_opened(out, unique, FileHandle(*handle)),
         Reply::Bytes(bytes) => reply_bytes(out, unique, bytes),
         Reply::Done => reply_empty(out, unique),
     }
 }
 
-/// Attributes that a server told, laid out for FUSE.
+/// Attributes that a server told, in the names of `fuse.h`.
 pub fn file_attr(told: &Rgetattr) -> FileAttr
     requires { HasShortFields (attributes_of told.now) }
     ensures { result ≡ file_attributes (attributes_of told.now) }

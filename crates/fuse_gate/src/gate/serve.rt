@@ -1,14 +1,12 @@
 // One request.
-ghost use Rattle.std.specs.Prelude.{◌≡◌, ◌≤◌, length, IfOk, OnErr, Ok};
+ghost use Rattle.std.specs.Prelude.{◌≡◌, ◌≤◌, length, IfOk, OnErr};
 ghost use Rattle.fuse_wire.specs.Body.{plain};
-ghost use Rattle.tree_machine.specs.Core.{core};
-ghost use Rattle.tree_machine.specs.Step.{core_of, is_in_turn};
-ghost use Rattle.tree_machine.specs.Messages.{request_messages, messages};
-ghost use Rattle.tree_machine.specs.Faults.{IsPartServed, IsPartDone};
-ghost use Rattle.fid_model.specs.Handling.{Steadily};
-ghost use Rattle.fuse_gate.specs.Standing.{IsInStep, machine_of, phase_of, piece_of};
-ghost use Rattle.fuse_gate.specs.Replies.{plain as plain_reply};
-ghost use Rattle.fuse_gate.specs.Steps.{IsServed};
+ghost use Rattle.fuse_wire.specs.Head.{head_of};
+ghost use Rattle.tree_machine.specs.Step.{is_in_turn};
+ghost use Rattle.fid_model.specs.Moments.{Keeps};
+ghost use Rattle.fuse_gate.specs.Standing.{IsInStep, phase_of};
+ghost use Rattle.fuse_gate.specs.Replies.{reply_of};
+ghost use Rattle.fuse_gate.specs.Steps.{ServesRequest, LeavesPartOf, ServesFrame, LeavesPartOfFrame};
 
 use crate::gate::reply::Reply;
 use crate::gate::{Gate, Phase};
@@ -33,15 +31,12 @@ fn is_in_turn(phase: Phase, opcode: u32) -> bool
 impl Gate {
     // What a request asks of a node, in turn.
     fn serve<N: Nine>(&mut self, nine: &mut N, node: u64, body: Body<'_>) -> Result<Reply, NoMemory>
-        requires { IsInStep self.old (N.state nine.old) }
-        ensures served { IfOk result (λ reply. let m = machine_of self.old (N.state nine.old) in
-            IsServed (core (N.state nine.old).settings m node (Ok (plain body.entry))) (request_messages (piece_of (N.state nine.old)) (N.state nine.old).settings m node (Ok (plain body.entry))) self.old self.new (N.state nine.old) (N.state nine.new) (N.faults nine.old) (N.faults nine.new) (N.asked nine.old) (N.asked nine.new) (plain_reply reply)) }
-        ensures unfinished { OnErr result (IsPartServed (N.state nine.old).settings (machine_of self.old (N.state nine.old)) node (Ok (plain body.entry)) (N.state nine.new).tree) }
-        ensures fixed { (N.state nine.new).settings ≡ (N.state nine.old).settings }
-        ensures sized { (N.state nine.new).msize ≡ (N.state nine.old).msize }
-        ensures rises { N.faults nine.old ≤ N.faults nine.new }
-        ensures steady { N.steady nine.new ≡ N.steady nine.old }
-        ensures steadily { Steadily (N.steady nine.old) (N.faults nine.old) (N.faults nine.new) }
+        requires { IsInStep self.old (N.at nine.old).state }
+        ensures served { IfOk result (λ reply. ServesRequest node (plain body.entry)
+            (self.old, N.at nine.old) (self.new, N.at nine.new) (reply_of reply)) }
+        ensures unfinished { OnErr result (LeavesPartOf node (plain body.entry)
+            (self.old, N.at nine.old) (N.at nine.new)) }
+        ensures kept { Keeps (N.at nine.old) (N.at nine.new) }
     {
         match body {
             Body::Init {
@@ -51,10 +46,7 @@ impl Gate {
                 ..
             } => Ok(self.init(major, minor, max_readahead)),
             Body::Lookup { name } => self.lookup(nine, node, name),
-            Body::GetAttr {
-                handle: Some(handle),
-            } => self.getattr_handle(nine, handle),
-            Body::GetAttr { handle: None } => self.getattr_node(nine, node),
+            Body::GetAttr { handle } => self.getattr(nine, node, handle),
             Body::OpenFile { flags } => self.open(nine, node, flags),
             Body::Read {
                 fh,
@@ -75,29 +67,27 @@ impl Gate {
         }
     }
 
-    // What a frame asks.
+    // What a frame asks, whose head was read.
     pub(super) fn serve_frame<N: Nine>(
         &mut self,
         nine: &mut N,
+        head: Head,
         frame: &[u8],
     ) -> Result<Reply, NoMemory>
         requires long { IN_HEADER_SIZE ≤ length frame.now }
-        requires stands { IsInStep self.old (N.state nine.old) }
-        ensures served { IfOk result (λ reply. let m = machine_of self.old (N.state nine.old) in
-            IsServed (core_of (N.state nine.old).settings m frame.now) (messages (piece_of (N.state nine.old)) (N.state nine.old).settings m frame.now) self.old self.new (N.state nine.old) (N.state nine.new) (N.faults nine.old) (N.faults nine.new) (N.asked nine.old) (N.asked nine.new) (plain_reply reply)) }
-        ensures unfinished { OnErr result (IsPartDone (N.state nine.old).settings (machine_of self.old (N.state nine.old)) frame.now (N.state nine.new).tree) }
-        ensures fixed { (N.state nine.new).settings ≡ (N.state nine.old).settings }
-        ensures sized { (N.state nine.new).msize ≡ (N.state nine.old).msize }
-        ensures rises { N.faults nine.old ≤ N.faults nine.new }
-        ensures steady { N.steady nine.new ≡ N.steady nine.old }
-        ensures steadily { Steadily (N.steady nine.old) (N.faults nine.old) (N.faults nine.new) }
+        requires read { head ≡ head_of frame.now }
+        requires stands { IsInStep self.old (N.at nine.old).state }
+        ensures served { IfOk result (λ reply. ServesFrame frame.now
+            (self.old, N.at nine.old) (self.new, N.at nine.new) (reply_of reply)) }
+        ensures unfinished { OnErr result (LeavesPartOfFrame frame.now
+            (self.old, N.at nine.old) (N.at nine.new)) }
+        ensures kept { Keeps (N.at nine.old) (N.at nine.new) }
     {
-        let opcode = Head::read(frame).opcode;
-        if !is_in_turn(self.phase, opcode) {
+        if !is_in_turn(self.phase, head.opcode) {
             return Ok(Reply::Refused(EPROTO));
         }
-        match FuseRequest::read(frame) {
-            Ok(request) => self.serve(nine, request.head.nodeid, request.body),
+        match FuseRequest::read_behind(head, frame) {
+            Ok(request) => self.serve(nine, head.nodeid, request.body),
             Err(errno) => Ok(Reply::Refused(errno.0)),
         }
     }

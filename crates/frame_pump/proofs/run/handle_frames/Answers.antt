@@ -1,6 +1,6 @@
 -- The first turn, one more, and each answer of the loop.
 use Rattle.std.proofs.Common.{◌∙◌, refl, sym, arith}
-use Rattle.frame_pump.proofs.Pumping.{Pumping-none, Pumping-more, Completes-turn, HaltsBy-turn, Completes-last, HaltsBy-spent, HaltsBy-read}
+use Rattle.frame_pump.proofs.Pumping.{Pumping-none, Pumping-more, Completes-turn, StopsBy-turn, Completes-last, StopsBy-spent, StopsBy-read}
 use Rattle.frame_pump.proofs.run.handle_frames.Goals as goal
 
 pub loop-handled-init : goal.loop-handled-init
@@ -23,7 +23,7 @@ returns-in-Ok-false-clause-loops g c =
     Completes-turn _ _ _ _ _ _ _ _ _ c.loop-handled.invariant.pumping _ (omega arith) (rw c.in-Ok-false.field-0-test at c.in-Ok-false.ensures.turn)
 
 pub returns-in-Err-clause-loops : goal.returns-in-Err-clause-loops
-returns-in-Err-clause-loops g c = HaltsBy-turn _ _ _ _ _ _ _ _ _ c.loop-handled.invariant.pumping _ c.in-Err.cause (omega arith) c.in-Err.ensures.turn
+returns-in-Err-clause-loops g c = StopsBy-turn _ _ _ _ _ _ _ _ _ c.loop-handled.invariant.pumping _ c.in-Err.cause (omega arith) c.in-Err.ensures.turn
 
 pub returns-then-n-eq0-clause-loops : goal.returns-then-n-eq0-clause-loops
 returns-then-n-eq0-clause-loops g c =
@@ -33,9 +33,9 @@ returns-then-n-eq0-clause-loops g c =
 pub returns-in-Ok-clause-loops : goal.returns-in-Ok-clause-loops
 returns-in-Ok-clause-loops g c =
     let e = c.in-Ok.ensures in
-    HaltsBy-spent _ _ _ _ _ _ _ _ c.loop-handled.invariant.pumping (omega arith) refl refl _ e.cause (omega (arith, e.bound.1)) e.bytes
+    StopsBy-spent _ _ _ _ _ _ _ _ c.loop-handled.invariant.pumping (omega arith) refl refl _ e.cause (omega (arith, e.bound.0, e.bound.1, c.read_full.auto.buf)) e.bytes
 
 pub returns-clause-loops : goal.returns-clause-loops
 returns-clause-loops g c =
     let e = c.in-Err-read_full.ensures in
-    HaltsBy-read _ _ _ _ _ _ _ _ c.loop-handled.invariant.pumping (omega arith) refl refl e.err.0 e.cause e.err.1 (omega (arith, e.err.2, c.read_full.auto.buf))
+    StopsBy-read _ _ _ _ _ _ _ _ c.loop-handled.invariant.pumping (omega arith) refl refl e.err.0 e.cause e.err.1 (omega (arith, e.err.2, c.read_full.auto.buf))

@@ -5,8 +5,7 @@ use Rattle.fuse_gate.proofs.Reading.{Reading}
 use Rattle.fuse_gate.proofs.gate.Gate.read_pieces.Given as goal
 
 abbrev pub invariant-pieces : goal.invariant-pieces
-invariant-pieces g l = Reading (file_at (g.N.Nine.state l.initial.nine) l.fid) l.offset l.size l.initial.self l.self (g.N.Nine.state l.initial.nine) (g.N.Nine.state l.nine)
-    (g.N.Nine.faults l.initial.nine) (g.N.Nine.faults l.nine) (g.N.Nine.asked l.initial.nine) (g.N.Nine.asked l.nine) (g.N.Nine.steady l.initial.nine) (g.N.Nine.steady l.nine) l.bytes.items
+invariant-pieces g l = Reading (file_at (g.N.Nine.at l.initial.nine).state l.fid) l.offset l.size l.initial.self (g.N.Nine.at l.initial.nine) l.self (g.N.Nine.at l.nine) l.bytes.items
 
 abbrev pub decreases-pieces : goal.decreases-pieces
 decreases-pieces g l = l.size - l.bytes.len

@@ -1,9 +1,11 @@
--- INIT asks the server nothing.
-use Rattle.fuse_gate.specs.Replies.{plain}
-use Rattle.fuse_gate.proofs.Stepping.{served_init}
+-- READ looks at the handle alone.
+use Rattle.std.proofs.Common.{IfOk, sym, subst}
+use Rattle.fuse_wire.specs.Body.{plain}
+use Rattle.fuse_wire.specs.declared.request.Body.{Body}
+use Rattle.fuse_gate.specs.Replies.{reply_of}
+use Rattle.fuse_gate.specs.Steps.{ServesRequest}
 use Rattle.fuse_gate.proofs.gate.Gate.serve.Goals as goal
 
-pub returns-in-Init-clause-served : goal.returns-in-Init-clause-served
-returns-in-Init-clause-served g c =
-    served_init _ c.init.new.self (g.N.Nine.state c.args.nine.now) _ c.args.node c.in-Init.major c.in-Init.minor c.in-Init.max_readahead c.in-Init.flags (g.N.Nine.faults c.args.nine.now) (g.N.Nine.asked c.args.nine.now) (plain c.init.result) c.in-Init.is
-    (c.init.ensures (g.N.Nine.state c.args.nine.now) (g.N.Nine.faults c.args.nine.now) (g.N.Nine.asked c.args.nine.now) c.requires (g.met.N.Nine.good c.args.nine.now))
+pub returns-in-Read-clause-served : goal.returns-in-Read-clause-served
+returns-in-Read-clause-served g c =
+    subst (λ (b : Body). IfOk c.read.result (λ reply. ServesRequest c.args.node (plain b) (c.args.self.now, g.N.Nine.at c.args.nine.now) (c.read.new.self, g.N.Nine.at c.read.new.nine) (reply_of reply))) (sym c.in-Read.is) c.read.ensures.served

@@ -1,6 +1,6 @@
 -- There is room for each reply.
 use Rattle.std.proofs.Common.{ap, length, arith}
-use Rattle.fuse_gate.specs.declared.gate.reply.Reply.TheVariants.{Refused, Granted, Entry, Attr, Opened, Bytes, Done}
+use Rattle.fuse_gate.specs.declared.gate.reply.Reply.TheVariants.{Refused, Granted, Entry, Attributes, Opened, Bytes, Done}
 use Rattle.fuse_gate.proofs.Replying.{room}
 use Rattle.fuse_gate.proofs.gate.reply.write_reply.Goals as goal
 
@@ -14,7 +14,7 @@ pub reply_entry-requires : goal.reply_entry-requires
 reply_entry-requires c = room c.args.unique.0 _ _ c.args.reply.now c.requires.room (Entry c.in-Entry.node c.in-Entry.attr) c.in-Entry.is
 
 pub reply_attr-requires : goal.reply_attr-requires
-reply_attr-requires c = room c.args.unique.0 _ _ c.args.reply.now c.requires.room (Attr c.in-Attr.attr) c.in-Attr.is
+reply_attr-requires c = room c.args.unique.0 _ _ c.args.reply.now c.requires.room (Attributes c.in-Attributes.attr) c.in-Attributes.is
 
 pub reply_opened-requires : goal.reply_opened-requires
 reply_opened-requires c = room c.args.unique.0 _ _ c.args.reply.now c.requires.room (Opened c.in-Opened.handle) c.in-Opened.is

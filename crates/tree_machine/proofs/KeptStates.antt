@@ -1,5 +1,5 @@
 -- A good state stays good when the records go that nothing names.
-use Rattle.std.proofs.Common.{◌≡◌, ℕ, ◌+◌, ◌<◌, Bool, true, false, cond, ◌||◌, refl, sym, ap, ◌∙◌, subst, Some, None, arith, IsSome, nat_lt}
+use Rattle.std.proofs.Common.{◌≡◌, ℕ, ◌+◌, ◌<◌, Bool, true, false, cond, ◌||◌, refl, sym, ap, ◌∙◌, subst, Option, Some, None, arith, IsSome, nat_lt}
 use Rattle.std.specs.Prelude.{option_map}
 use Rattle.std.proofs.lemmas.Bool.Decides.{nat_tests}
 use Rattle.std.specs.Ordering.{nat_cmp}
@@ -9,8 +9,9 @@ use Rattle.tree_model.specs.Settings.{Settings}
 use Rattle.tree_model.proofs.Maps.{retained}
 use Rattle.tree_model.proofs.Counting.{weigh-remove}
 use Rattle.tree_model.proofs.Keeping.{keep_good}
-use Rattle.tree_machine.specs.State.{MachineState, Node, Handle, is_named, node_weight, handle_weight, settled}
-use Rattle.tree_machine.specs.Core.{Reply}
+use Rattle.tree_machine.specs.State.{MachineState, Node, Handle, is_named, node_weight, handle_weight, kept_state}
+use Rattle.tree_machine.specs.Replies.{Reply}
+use Rattle.tree_machine.specs.Refusals.{refused_or}
 use Rattle.tree_machine.specs.Good.{IsGoodMachine, IsOpenable}
 
 own_node : (n : Node) → node_weight n.ino n ≡ 1
@@ -48,8 +49,8 @@ kept_body t held i h = ap (option_map (λ (r : Record). r.body)) (kept_at t held
 
 module _ (s : Settings) where
   -- records that nothing names may go
-  pub settles : (m : MachineState) → IsGoodMachine s m → IsGoodMachine s (settled m)
-  settles m g =
+  pub kept_good : (m : MachineState) → IsGoodMachine s m → IsGoodMachine s (kept_state m)
+  kept_good m g =
       let held = is_named m.nodes m.handles in
       record {
         tree = keep_good m.tree g.tree held;
@@ -73,8 +74,9 @@ module _ (s : Settings) where
       }
 
   abbrev pub Gives : Reply × MachineState → Type 0
-  Gives x = IsGoodMachine s (settled x.1)
+  Gives x = IsGoodMachine s (kept_state x.1)
 
-  pub choice : (b : Bool) (x y : Reply × MachineState) → Gives x → Gives y → Gives (cond b x y)
-  choice true x y g h = g
-  choice false x y g h = h
+  -- a refusal keeps a good state good
+  pub refused_or_good : (m : MachineState) → IsGoodMachine s m → (o : Option ℕ) (x : Reply × MachineState) → (o ≡ None → Gives x) → Gives (refused_or m o x)
+  refused_or_good m g (Some e) x given = kept_good m g
+  refused_or_good m g None x given = given refl
