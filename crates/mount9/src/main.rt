@@ -9,8 +9,21 @@ use std::env;
 use std::io::{self, BufReader};
 use std::process::ExitCode;
 
-const HELP: &str =
-    "usage: mount9 serve target=PATH root=/\nReads a header and FUSE request frames from standard input, and writes a report.\n";
+const HELP: &str = "\
+usage: mount9 serve target=PATH root=/ [KEY=VALUE ..] < INPUT
+
+Reads a header that describes a tree of files, and FUSE request frames behind it, from standard
+input. Serves the frames, and writes a report to standard output.
+
+  target=PATH  where the share is mounted: / or a path that the header names
+  root=/       the directory that is shared
+  msize=N      the greatest size of a 9P message, 256 to 65560 bytes (65560); a session needs 4352
+  turns=N      how many frames are handled at most, 1 to 8192 (4096)
+  ids=N        how many node ids and handles there may be, 0 to 1000000 (1024)
+
+The status is 0 where the input was read to its end, 1 where the run stopped early, 2 for wrong
+words, 3 for a wrong header, 4 out of memory, 5 where the input and 6 where the output failed.
+";
 
 const VERSION: &str = "mount9 0.1.0\n";
 
@@ -47,7 +60,7 @@ fn about(words: &Words) -> Option<&'static str> {
 fn main(rt: HostRuntime) -> ExitCode {
     let alloc = rt.alloc();
     let Ok(words) = command_line(&rt) else {
-        return ExitCode::from(Status::Memory as u8);
+        return ExitCode::from(Status::Memory.exit_code());
     };
     let mut output = StdSink::new(rt.stdout());
     if let Some(text) = about(&words) {
@@ -56,11 +69,11 @@ fn main(rt: HostRuntime) -> ExitCode {
             Err(SinkFault::Failed) => Status::Output,
             Err(SinkFault::NoMemory) => Status::Memory,
         };
-        return ExitCode::from(status as u8);
+        return ExitCode::from(status.exit_code());
     }
     let Ok(reader) = BufReader::new(alloc, rt.stdin()) else {
-        return ExitCode::from(Status::Memory as u8);
+        return ExitCode::from(Status::Memory.exit_code());
     };
     let mut input = StdSource::new(reader);
-    ExitCode::from(run(alloc, &words, &mut input, &mut output) as u8)
+    ExitCode::from(run(alloc, &words, &mut input, &mut output))
 }

@@ -5,15 +5,16 @@ use Rattle.std.specs.Prelude.{◌↔◌, option_map}
 use Rattle.port_base.specs.Faults.{Faulted}
 use Rattle.port_base.specs.declared.errno.TheConstants.{ENFILE}
 use Rattle.fuse_gate.specs.declared.gate.TheConstants.{LEAST_MSIZE}
+use Rattle.tree_model.specs.declared.attributes.TheConstants.{TOP}
 use Rattle.tree_model.specs.Tree.{Tree, linked}
 use Rattle.fuse_wire.specs.Cuts.{Cut, cut, End}
 use Rattle.fuse_wire.specs.Cuts.End.{done, turns_spent, torn, bad_length}
 use Rattle.mount9_run.specs.Command.{Serve, command}
 use Rattle.mount9_run.specs.Header.{HeaderRead, header}
-use Rattle.mount9_run.specs.Outcome.{mount_refused, refusal, root_given, status_of, attached, mounted, run_of, outcome, outcome_by}
+use Rattle.mount9_run.specs.Outcome.{mount_refused, refusal, root_given, status_of, attached, played, mounted, run_of, outcome, outcome_by}
 use Rattle.mount9_run.specs.Running.{RanBy, Ran}
 use Rattle.mount9_run.specs.Causes.{IsAccepted, IsValidInput, IsStoppedInput, IsRefusedHeader}
-use Rattle.mount9_run.specs.declared.report.verdict.Cause.TheVariants.{MsizeTooSmall, Mount}
+use Rattle.frame_pump.specs.declared.outcome.BridgeError.TheVariants.{MsizeTooSmall, Mount}
 use Rattle.mount9_run.specs.declared.run.Status.{Status}
 use Rattle.mount9_run.specs.declared.run.Status.TheVariants.{Served, Stopped, Words, Header, Memory, Input, Output}
 use Rattle.mount9_run.proofs.HeaderTree.{header_root}
@@ -146,6 +147,15 @@ module _ (words : List (List ℕ)) (bytes : List ℕ) where
           (λ more. ⊎_elim (λ zero. absurd (let some = some_of v.accepted.serve.ids no_fid in omega (arith, zero, some)))
           (λ other. not_done (cut v.accepted.serve.turns v.accepted.rest).end other) more) others)
           v.cause
+
+  -- what valid input writes: the play of its frames
+  pub served_outcome : (v : IsValidInput words bytes) → outcome words bytes ≡ played v.accepted.serve (linked v.accepted.described.tree) TOP (cut v.accepted.serve.turns v.accepted.rest)
+  served_outcome v =
+      let a : IsAccepted words bytes = v.accepted in
+      ap (λ o. outcome_by o (header bytes)) a.commanded
+      ∙ ap (λ r. outcome_by (Some a.serve) r) a.headed
+      ∙ ap (mounted a.serve a.described.tree a.rest) (refusal_is a false (at_least a.serve.msize v.long) None v.let_in)
+      ∙ ap (λ r. attached a.serve (linked a.described.tree) r (cut a.serve.turns a.rest)) (root_is a false (positive a.serve.ids v.some))
 
   pub served_exactly : (answer ≡ Served) ↔ IsValidInput words bytes
   served_exactly = (caused Served, told_served)

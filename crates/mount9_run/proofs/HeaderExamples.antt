@@ -8,7 +8,7 @@ use Rattle.mount9_run.specs.Texts.{split_once}
 use Rattle.mount9_run.specs.Paths.{is_path}
 use Rattle.mount9_run.specs.Reading.{◌>>=◌, or_refused, keyword_at, after_word, field_at}
 use Rattle.mount9_run.specs.Numbers.{number_at, number_field, number_of, mode_field, mode_of}
-use Rattle.mount9_run.specs.HeaderEscapes.{unescaped}
+use Rattle.port_base.specs.Escapes.{unescaped}
 use Rattle.mount9_run.specs.HeaderLines.{NamedFile, present_at, file_at, name_of, bytes_of, bytes_field}
 
 pub blank_example : present_at 6 [] (codes "present /a\\040b") ≡ Ok (Some (codes "/a b" ∷ []))

@@ -3,9 +3,10 @@ use Rattle.std.proofs.Common.{◌≡◌, ◌≢◌, ℕ, ◌+◌, ◌<◌, Bool,
 use Rattle.std.specs.FinMap.{get, insert, empty}
 use Rattle.tree_model.specs.declared.attributes.Stamp.{Stamp}
 use Rattle.tree_model.specs.declared.attributes.Limits.{Limits}
-use Rattle.tree_model.specs.Tree.{Tree, Record, Records, top, body_at, is_directory_at, linked, is_linked}
+use Rattle.tree_model.specs.declared.attributes.TheConstants.{TOP}
+use Rattle.tree_model.specs.Tree.{Tree, Record, Records, body_at, is_directory_at, linked, is_linked}
 use Rattle.tree_model.specs.Finding.{root_of, directory_or_not}
-use Rattle.tree_model.specs.Making.{NewFile, new_tree, top_record, file_record, joined_by, with_file, changed, add_file_of, add_file_unless}
+use Rattle.tree_model.specs.Making.{NewFile, new_tree, top_record, file_record, joined_by, with_file, changed, add_file_of, unless_refused}
 use Rattle.tree_model.proofs.Bodies.{with_entries-is_directory}
 use Rattle.tree_model.proofs.Maps.{inserted, insert_keeps, retained}
 use Rattle.mount9_run.specs.Reading.{◌>>=◌, Place, gathered, gathered_by, line_at}
@@ -15,36 +16,36 @@ use Rattle.mount9_run.specs.declared.header.start.Start.{Start}
 use Rattle.mount9_run.specs.declared.header.start.Top.{Top}
 
 record HasTop (t : Tree) : Type 0 where
-  pub beyond : top < t.next
-  pub directory : is_directory_at (body_at t.records top) ≡ true
+  pub beyond : TOP < t.next
+  pub directory : is_directory_at (body_at t.records TOP) ≡ true
 
 new_has_top : (limits : Limits) (moment born : Stamp) (mode uid gid : ℕ) → HasTop (new_tree limits moment born mode uid gid)
 new_has_top limits moment born mode uid gid = record {
   beyond = omega arith;
-  directory = ap (λ o. is_directory_at (option_map (λ (r : Record). r.body) o)) (inserted empty top (top_record born mode uid gid));
+  directory = ap (λ o. is_directory_at (option_map (λ (r : Record). r.body) o)) (inserted empty TOP (top_record born mode uid gid));
 }
 
-changed_top : (name : List ℕ) (n : ℕ) (rs : Records) → is_directory_at (body_at rs top) ≡ true → (o : Option Record) → get rs top ≡ o → is_directory_at (body_at (changed (joined_by name n) o rs top) top) ≡ true
+changed_top : (name : List ℕ) (n : ℕ) (rs : Records) → is_directory_at (body_at rs TOP) ≡ true → (o : Option Record) → get rs TOP ≡ o → is_directory_at (body_at (changed (joined_by name n) o rs TOP) TOP) ≡ true
 changed_top name n rs h None at = h
 changed_top name n rs h (Some r) at =
-    ap (λ o. is_directory_at (option_map (λ (x : Record). x.body) o)) (inserted rs top (joined_by name n r))
+    ap (λ o. is_directory_at (option_map (λ (x : Record). x.body) o)) (inserted rs TOP (joined_by name n r))
     ∙ with_entries-is_directory r.body _ _
     ∙ ap (λ o. is_directory_at (option_map (λ (x : Record). x.body) o)) (sym at)
     ∙ h
 
-with_file_has_top : (born : Stamp) (t : Tree) (name : List ℕ) (f : NewFile) → HasTop t → HasTop (with_file born t top name f)
+with_file_has_top : (born : Stamp) (t : Tree) (name : List ℕ) (f : NewFile) → HasTop t → HasTop (with_file born t TOP name f)
 with_file_has_top born t name f h =
-    let apart : top ≢ t.next = (λ e. absurd (let b = h.beyond in omega arith)) in
-    let same : get (insert t.records t.next (file_record born f)) top ≡ get t.records top = insert_keeps t.records t.next (file_record born f) top apart in
+    let apart : TOP ≢ t.next = (λ e. absurd (let b = h.beyond in omega arith)) in
+    let same : get (insert t.records t.next (file_record born f)) TOP ≡ get t.records TOP = insert_keeps t.records t.next (file_record born f) TOP apart in
     record {
       beyond = (let b = h.beyond in omega arith);
-      directory = changed_top name t.next (insert t.records t.next (file_record born f)) (ap (λ o. is_directory_at (option_map (λ (x : Record). x.body) o)) same ∙ h.directory) (get (insert t.records t.next (file_record born f)) top) refl;
+      directory = changed_top name t.next (insert t.records t.next (file_record born f)) (ap (λ o. is_directory_at (option_map (λ (x : Record). x.body) o)) same ∙ h.directory) (get (insert t.records t.next (file_record born f)) TOP) refl;
     }
 
-unless_has_top : (refused : Option ℕ) (born : Stamp) (t u : Tree) (name : List ℕ) (f : NewFile) (n : ℕ) → add_file_unless refused born t top name f ≡ Ok (n, u) → HasTop t → HasTop u
+unless_has_top : (refused : Option ℕ) (born : Stamp) (t u : Tree) (name : List ℕ) (f : NewFile) (n : ℕ) → unless_refused refused t.next (with_file born t TOP name f) ≡ Ok (n, u) → HasTop t → HasTop u
 unless_has_top (Some e) born t u name f n is h = absurd cc
 unless_has_top None born t u name f n is h =
-    let same : ◌≡◌ {A = ℕ × Tree} (t.next, with_file born t top name f) (n, u) = cc in
+    let same : ◌≡◌ {A = ℕ × Tree} (t.next, with_file born t TOP name f) (n, u) = cc in
     subst HasTop (ap (λ (p : ℕ × Tree). p.1) same) (with_file_has_top born t name f h)
 
 -- ---- a step that succeeds
@@ -60,16 +61,16 @@ module _ (born : Stamp) (n : ℕ) (t u : Tree) (h : HasTop t) where
   more_of : Tree → Result (Option Tree) ℕ
   more_of more = Ok (Some more)
 
-  by_added : (f : NamedFile) (r : Result (ℕ × Tree) ℕ) → add_file_of born t top f.name f.file ≡ r → (added n r >>= (λ more. Ok (Some more))) ≡ Ok (Some u) → HasTop u
+  by_added : (f : NamedFile) (r : Result (ℕ × Tree) ℕ) → add_file_of born t TOP f.name f.file ≡ r → (added n r >>= (λ more. Ok (Some more))) ≡ Ok (Some u) → HasTop u
   by_added f (Err e) is told = absurd cc
   by_added f (Ok p) is told =
       let same : p.1 ≡ u = cc in
       subst HasTop same (unless_has_top _ born t p.1 f.name f.file p.0 is h)
 
-  by_line : (b : Bool) (r : Result NamedFile ℕ) → (if b then Ok None else (r >>= (λ f. added n (add_file_of born t top f.name f.file) >>= (λ more. Ok (Some more))))) ≡ Ok (Some u) → HasTop u
+  by_line : (b : Bool) (r : Result NamedFile ℕ) → (if b then Ok None else (r >>= (λ f. added n (add_file_of born t TOP f.name f.file) >>= (λ more. Ok (Some more))))) ≡ Ok (Some u) → HasTop u
   by_line true r told = absurd cc
   by_line false (Err e) told = absurd cc
-  by_line false (Ok f) told = by_added f (add_file_of born t top f.name f.file) refl told
+  by_line false (Ok f) told = by_added f (add_file_of born t TOP f.name f.file) refl told
 
   line_has_top : (line : List ℕ) → record_at born n t line ≡ Ok (Some u) → HasTop u
   unfolding record_at
@@ -119,18 +120,18 @@ header_of_has_top lines h is =
 
 -- ---- the root of the share is the top
 
-linked_root : (t : Tree) → HasTop t → root_of (linked t) [] ≡ Ok top
+linked_root : (t : Tree) → HasTop t → root_of (linked t) [] ≡ Ok TOP
 linked_root t h =
-    ap (λ o. directory_or_not (option_map (λ (r : Record). r.body) o) top) (retained t.records (is_linked t.records) top)
-    ∙ ap (λ (b : Bool). let r : Result ℕ ℕ = cond b (Ok top) (Err 20) in r) h.directory
+    ap (λ o. directory_or_not (option_map (λ (r : Record). r.body) o) TOP) (retained t.records (is_linked t.records) TOP)
+    ∙ ap (λ (b : Bool). let r : Result ℕ ℕ = cond b (Ok TOP) (Err 20) in r) h.directory
 
 with_rest_ok : (rest rest' : List ℕ) (r : Result HeaderRead ℕ) (h : HeaderRead) → with_rest rest r ≡ Ok (h, rest') → r ≡ Ok h
 with_rest_ok rest rest' (Ok x) h is = ap (λ (p : HeaderRead × List ℕ). let r : Result HeaderRead ℕ = Ok p.0 in r) (same_ok _ _ is)
 with_rest_ok rest rest' (Err n) h is = absurd cc
 
-pub header_root : (bytes rest : List ℕ) (h : HeaderRead) → header bytes ≡ Ok (h, rest) → root_of (linked h.tree) [] ≡ Ok top
+pub header_root : (bytes rest : List ℕ) (h : HeaderRead) → header bytes ≡ Ok (h, rest) → root_of (linked h.tree) [] ≡ Ok TOP
 unfolding header
 header_root bytes rest h is = by_text (text_of bytes) is where
-  by_text : (s : Split) → header_by s ≡ Ok (h, rest) → root_of (linked h.tree) [] ≡ Ok top
+  by_text : (s : Split) → header_by s ≡ Ok (h, rest) → root_of (linked h.tree) [] ≡ Ok TOP
   by_text None told = absurd cc
   by_text (Some p) told = linked_root h.tree (header_of_has_top _ h (with_rest_ok p.1 rest _ h told))

@@ -10,10 +10,10 @@ use Rattle.mount9_run.specs.Header.{HeaderRead, header, header_by, header_of, wi
 use Rattle.mount9_run.specs.Reading.{lines_of}
 use Rattle.mount9_run.specs.ReportLines.{number_line}
 use Rattle.mount9_run.specs.Report.{report}
-use Rattle.mount9_run.specs.Outcome.{refusal, mount_table, mounted, served, run_of, refused_words, outcome, outcome_by}
+use Rattle.mount9_run.specs.Outcome.{refusal, halted, mount_table, mounted, served, run_of, refused_words, outcome, outcome_by}
+use Rattle.mount9_run.specs.Wrote.{at_sink}
 use Rattle.mount9_run.specs.Running.{Ran, Tells}
-use Rattle.mount9_run.specs.declared.report.verdict.Cause.{Cause}
-use Rattle.mount9_run.specs.declared.report.verdict.Verdict.TheVariants as verdict
+use Rattle.frame_pump.specs.declared.outcome.BridgeError.{BridgeError}
 use Rattle.mount9_run.specs.declared.run.Status.{Status}
 use Rattle.mount9_run.specs.declared.run.Status.TheVariants as status
 use Rattle.mount9_run.proofs.Ran.{Ran-told, Ran-later, Ran-alike, always}
@@ -21,19 +21,19 @@ use Rattle.mount9_run.proofs.Ran.{Ran-told, Ran-later, Ran-alike, always}
 -- ---- the mount
 
 module _ (w : Serve) (h : HeaderRead) (left s0 s1 : Option (List ℕ)) (in0 in1 out0 out1 : ℕ) (answer : Status) where
-  pub Ran-unmounted : (cause : Cause) → refusal w h ≡ Some cause → in1 ≡ in0 → Tells s0 s1 out0 out1 status.Stopped (report [] (verdict.Stopped cause 0) (linked h.tree) mount_table 0) answer → Ran (run_of w h) left s0 s1 in0 in1 out0 out1 answer
-  Ran-unmounted cause is same tells = Ran-told (run_of w h) s0 s1 in0 in1 out0 out1 left status.Stopped (report [] (verdict.Stopped cause 0) (linked h.tree) mount_table 0) answer tt same (always left (λ bytes. ap (mounted w h.tree bytes) is)) tells
+  pub Ran-unmounted : {X : Type 0} {k0 k1 : X} → (cause : BridgeError) → refusal w h ≡ Some cause → in1 ≡ in0 → Tells (at_sink s0 out0 k0) (at_sink s1 out1 k1) status.Stopped (report [] (halted cause 0 0) (linked h.tree) mount_table) answer → Ran (run_of w h) left s0 s1 in0 in1 out0 out1 answer
+  Ran-unmounted cause is same tells = Ran-told (run_of w h) s0 s1 in0 in1 out0 out1 left status.Stopped (report [] (halted cause 0 0) (linked h.tree) mount_table) answer tt same (always left (λ bytes. ap (mounted w h.tree bytes) is)) tells
 
   pub Ran-mounted : refusal w h ≡ None → Ran (λ bytes. served w (linked h.tree) (cut w.turns bytes)) left s0 s1 in0 in1 out0 out1 answer → Ran (run_of w h) left s0 s1 in0 in1 out0 out1 answer
   Ran-mounted is ran = Ran-alike (run_of w h) (λ bytes. served w (linked h.tree) (cut w.turns bytes)) left s0 s1 in0 in1 out0 out1 answer (λ bytes. sym (ap (mounted w h.tree bytes) is)) ran
 
 -- ---- the words
 
-pub Ran-words : (words : List (List ℕ)) (left s0 s1 : Option (List ℕ)) (in0 out0 out1 : ℕ) (answer : Status) → command words ≡ None → Tells s0 s1 out0 out1 status.Words (codes "words\n") answer → Ran (outcome words) left s0 s1 in0 in0 out0 out1 answer
+pub Ran-words : {X : Type 0} {k0 k1 : X} (words : List (List ℕ)) (left s0 s1 : Option (List ℕ)) (in0 out0 out1 : ℕ) (answer : Status) → command words ≡ None → Tells (at_sink s0 out0 k0) (at_sink s1 out1 k1) status.Words (codes "words\n") answer → Ran (outcome words) left s0 s1 in0 in0 out0 out1 answer
 Ran-words words left s0 s1 in0 out0 out1 answer is tells = Ran-told (outcome words) s0 s1 in0 in0 out0 out1 left status.Words (codes "words\n") answer tt refl (always left (λ bytes. ap (λ o. outcome_by o (header bytes)) is)) tells
 
 -- the same, whatever the input has left
-pub Ran-refused : (s0 s1 : Option (List ℕ)) (in0 out0 out1 : ℕ) (answer : Status) → Tells s0 s1 out0 out1 status.Words (codes "words\n") answer → Ran refused_words (Some []) s0 s1 in0 in0 out0 out1 answer
+pub Ran-refused : {X : Type 0} {k0 k1 : X} (s0 s1 : Option (List ℕ)) (in0 out0 out1 : ℕ) (answer : Status) → Tells (at_sink s0 out0 k0) (at_sink s1 out1 k1) status.Words (codes "words\n") answer → Ran refused_words (Some []) s0 s1 in0 in0 out0 out1 answer
 Ran-refused s0 s1 in0 out0 out1 answer tells = Ran-told refused_words s0 s1 in0 in0 out0 out1 (Some []) status.Words (codes "words\n") answer tt refl refl tells
 
 -- words that command something aren't refused
@@ -56,11 +56,11 @@ module _ (words : List (List ℕ)) (s : Serve) (is : command words ≡ Some s) w
     no_end None h = tt
     no_end (Some bytes) h = endless bytes h
 
-    pub Ran-endless : in1 ≡ in0 → IfSome l0 (λ bytes. text_of bytes ≡ None) → Tells s0 s1 out0 out1 status.Header (number_line (codes "header") 0) answer → Ran (outcome words) l0 s0 s1 in0 in1 out0 out1 answer
+    pub Ran-endless : {X : Type 0} {k0 k1 : X} → in1 ≡ in0 → IfSome l0 (λ bytes. text_of bytes ≡ None) → Tells (at_sink s0 out0 k0) (at_sink s1 out1 k1) status.Header (number_line (codes "header") 0) answer → Ran (outcome words) l0 s0 s1 in0 in1 out0 out1 answer
     Ran-endless same none tells = Ran-told (outcome words) s0 s1 in0 in1 out0 out1 l0 status.Header (number_line (codes "header") 0) answer tt same (no_end l0 none) tells
 
     module _ (text : List ℕ) (taken : Consumes l0 l1 text) (whole : (rest : List ℕ) → text_of (text ++ rest) ≡ Some (text, rest)) where
-      pub Ran-line : (line : ℕ) → header_of (lines_of text) ≡ Err line → in1 ≡ in0 → Tells s0 s1 out0 out1 status.Header (number_line (codes "header") line) answer → Ran (outcome words) l0 s0 s1 in0 in1 out0 out1 answer
+      pub Ran-line : {X : Type 0} {k0 k1 : X} → (line : ℕ) → header_of (lines_of text) ≡ Err line → in1 ≡ in0 → Tells (at_sink s0 out0 k0) (at_sink s1 out1 k1) status.Header (number_line (codes "header") line) answer → Ran (outcome words) l0 s0 s1 in0 in1 out0 out1 answer
       Ran-line line read same tells =
           Ran-later (outcome words) (λ rest. (status.Header, number_line (codes "header") line)) text (λ rest. leads_to text rest (Err line) (whole rest) read) l0 l1 s0 s1 in1 in1 out0 out1 taken in0 same answer
           (Ran-told (λ rest. (status.Header, number_line (codes "header") line)) s0 s1 in1 in1 out0 out1 l1 status.Header (number_line (codes "header") line) answer tt refl (always l1 (λ bytes. refl)) tells)

@@ -7,7 +7,7 @@ use Rattle.port_base.specs.Faults.{Faulted}
 use Rattle.port_base.specs.Streams.{SentFront}
 use Rattle.port_base.specs.declared.sink.SinkFault.{SinkFault}
 use Rattle.port_base.specs.declared.sink.SinkFault.TheVariants.{Failed, NoMemory}
-use Rattle.mount9_run.specs.Wrote.{WroteBy}
+use Rattle.mount9_run.specs.Wrote.{WroteBy, at_sink}
 use Rattle.mount9_run.specs.Outcome.{Outcome}
 use Rattle.mount9_run.specs.Running.{Whole, Front, RanBy, Ran, IsTold, after_text, Tells}
 use Rattle.mount9_run.specs.declared.run.Status.{Status}
@@ -45,7 +45,7 @@ module _ (f : List ℕ → Outcome) (s0 s1 : Option (List ℕ)) (in0 in1 out0 ou
   after left s text t same is (Err NoMemory) h = (same, h.0, front left s text is h.1)
 
   -- a text that the outcome has was written
-  pub Ran-told : (left : Option (List ℕ)) (s : Status) (text : List ℕ) (answer : Status) → IsTold s → in1 ≡ in0 → IfSome left (λ bytes. f bytes ≡ (s, text)) → Tells s0 s1 out0 out1 s text answer → Ran f left s0 s1 in0 in1 out0 out1 answer
+  pub Ran-told : {X : Type 0} {k0 k1 : X} (left : Option (List ℕ)) (s : Status) (text : List ℕ) (answer : Status) → IsTold s → in1 ≡ in0 → IfSome left (λ bytes. f bytes ≡ (s, text)) → Tells (at_sink s0 out0 k0) (at_sink s1 out1 k1) s text answer → Ran f left s0 s1 in0 in1 out0 out1 answer
   Ran-told left s text answer t same is h = record { answer = subst (RanBy f left s0 s1 in0 in1 out0 out1) (sym h.is) (after left s text t same is h.written h.wrote.answer) }
 
 -- nothing was written, for want of memory or a failed input

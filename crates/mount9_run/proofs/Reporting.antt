@@ -11,7 +11,8 @@ use Rattle.tree_model.proofs.Maps.{retained, same_gets}
 use Rattle.tree_host.specs.Holds.{Holds, is_held}
 use Rattle.tree_host.specs.Host.{IsHeldIn}
 use Rattle.tree_host.proofs.Held.{hold_count-empty}
-use Rattle.std.specs.Prelude.{nat_lt}
+use Rattle.std.specs.Prelude.{nat_lt, IsOk}
+use Rattle.std.specs.Io.KnownBytes.{IsAtEnd}
 use Rattle.port_base.specs.Faults.{Faulted, Rose}
 use Rattle.port_base.specs.declared.errno.TheConstants.{ENFILE}
 use Rattle.fuse_wire.specs.Cuts.{Cut, cut, End}
@@ -24,18 +25,17 @@ use Rattle.frame_pump.specs.Turns.{Streams, StopsBy, Ended}
 use Rattle.frame_pump.proofs.Answering.{Answered-exact}
 use Rattle.frame_pump.specs.declared.outcome.Pumped.{Pumped}
 use Rattle.frame_pump.specs.declared.outcome.Stopped.{Stopped}
-use Rattle.frame_pump.specs.declared.outcome.PumpError.{PumpError}
-use Rattle.frame_pump.specs.declared.outcome.PumpError.TheVariants as error
-use Rattle.fuse_gate.specs.Pump.{Served, Opens, Closes, PumpsBy, AttachRefused}
+use Rattle.frame_pump.specs.declared.outcome.BridgeError.{BridgeError}
+use Rattle.frame_pump.specs.declared.outcome.BridgeError.TheVariants as error
+use Rattle.fid_model.specs.Moments.{Moment}
+use Rattle.fuse_gate.specs.Pump.{Opens, Closes, PumpsBy, AttachRefused}
 use Rattle.fuse_gate.specs.declared.gate.TheConstants.{GREATEST_MSIZE}
-use Rattle.fid_model.specs.declared.sizes.TheConstants.{READ_HEAD}
+use Rattle.p9_wire.specs.declared.protocol.TheConstants.{RREAD_HEADER_SIZE}
 use Rattle.mount9_run.specs.Command.{Serve}
 use Rattle.mount9_run.specs.Report.{report}
-use Rattle.mount9_run.specs.Outcome.{served, attached, root_given, share_settings, piece, status_of, verdict_of, mount_table}
+use Rattle.mount9_run.specs.Outcome.{served, attached, root_given, share_settings, piece, status_of, verdict_of, halted, mount_table}
 use Rattle.mount9_run.specs.Serving.{StoppedBy, SharesBy, Shares}
 use Rattle.mount9_run.specs.declared.run.Status.TheVariants as status
-use Rattle.mount9_run.specs.declared.report.verdict.Cause.TheVariants.{Attach}
-use Rattle.mount9_run.specs.declared.report.verdict.Verdict.TheVariants as verdict
 
 -- ---- a host that holds nothing stores linked records alone
 
@@ -70,7 +70,7 @@ positive n t some = absurd (grind (arith, nat_tests))
 
 -- ---- a share of a tree by a server that has never failed, with what it was sent in memory
 
-module _ (w : Serve) (n0 n1 : Served) (settings : n0.state.settings ≡ share_settings w) (sized : n0.state.msize ≡ w.msize) (zero : n0.faults ≡ 0) (same : n1.faults ≡ n0.faults) (left0 left1 : Option (List ℕ)) (r0 r1 : List ℕ) (in0 in1 : ℕ) (start : r0 ≡ []) (last : Tree) (ended : last ≡ linked n1.state.tree) where
+module _ (w : Serve) (n0 n1 : Moment) (settings : n0.state.settings ≡ share_settings w) (sized : n0.state.msize ≡ w.msize) (zero : n0.faults ≡ 0) (same : n1.faults ≡ n0.faults) (left0 left1 : Option (List ℕ)) (r0 r1 : List ℕ) (in0 in1 : ℕ) (start : r0 ≡ []) (last : Tree) (ended : last ≡ linked n1.state.tree) where
   abbrev p0 : Streams
   p0 = record { left = left0; sent = Some r0; read_faults = in0; write_faults = 0 }
 
@@ -87,7 +87,7 @@ module _ (w : Serve) (n0 n1 : Served) (settings : n0.state.settings ≡ share_se
       abbrev t : Tree
       t = linked n0.state.tree
 
-      leads : (bytes : List ℕ) → cut w.turns bytes ≡ record { frames = h.frames; end = end } → served w t (cut w.turns bytes) ≡ (status_of end, report r1 (verdict_of end handled) last mount_table (min nine (2 ^ 64 - 1)))
+      leads : (bytes : List ℕ) → cut w.turns bytes ≡ record { frames = h.frames; end = end } → served w t (cut w.turns bytes) ≡ (status_of end, report r1 (verdict_of end handled (min nine (2 ^ 64 - 1))) last mount_table)
       leads bytes is =
           let still : s1.faults ≡ s0.faults = omega (arith, same, e.faults, b.rises, h.answered.stays.rises) in
           let below : s0.faults < 2 ^ 64 - 1 = omega (arith, same, zero, e.faults, b.rises, h.answered.stays.rises) in
@@ -95,20 +95,20 @@ module _ (w : Serve) (n0 n1 : Served) (settings : n0.state.settings ≡ share_se
           let found : root_given w t ≡ Ok b.root = some_fid (nat_le w.ids 0) refl (subst (λ (s : Settings). 1 ≤ s.limit) settings b.limit) (subst (λ (s : Settings). root_of t s.root ≡ Ok b.root) settings b.found) in
           let set : s0.settings ≡ share_settings w = b.settings ∙ settings in
           let played : play_from s0.settings s0.state h.frames ≡ play_from (share_settings w) (begun t b.root) h.frames = (λ j. play_from (set j) (b.state j) h.frames) in
-          let pieces : s0.piece ≡ piece w = b.piece ∙ ap (λ n. min n GREATEST_MSIZE - READ_HEAD) sized in
+          let pieces : s0.piece ≡ piece w = b.piece ∙ ap (λ n. min n GREATEST_MSIZE - RREAD_HEADER_SIZE) sized in
           let number : messages_from s0.piece s0.settings s0.state h.frames ≡ messages_from (piece w) (share_settings w) (begun t b.root) h.frames = (λ j. messages_from (pieces j) (set j) (b.state j) h.frames) in
           let replies : (play (share_settings w) t b.root h.frames).0 ≡ r1 = sym (h.sent ∙ ap (λ r. r ++ h.replies) start ∙ exact.0 ∙ ap (λ (r : List ℕ × MachineState). r.0) played) in
           let final : linked (play (share_settings w) t b.root h.frames).1 ≡ last = sym (ended ∙ ap linked (e.tree ∙ ap (λ (m : MachineState). linked m.tree) (exact.1 ∙ ap (λ (r : List ℕ × MachineState). r.1) played))) in
           let messages : min (total (piece w) (share_settings w) t b.root h.frames) (2 ^ 64 - 1) ≡ min nine (2 ^ 64 - 1) = omega (arith, exact.2, number, sent, b.sent, h.answered.sent) in
           ap (λ (c : Cut). served w t c) is
           ∙ ap (λ (r : Result ℕ ℕ). attached w t r (record { frames = h.frames; end = end })) found
-          ∙ (λ j. (status_of end, report (replies j) (verdict_of end (h.number j)) (final j) mount_table (messages j)))
+          ∙ (λ j. (status_of end, report (replies j) (verdict_of end (h.number j) (messages j)) (final j) mount_table))
 
-      leads_known : (left : Option (List ℕ)) → IfSome left (λ bytes. cut w.turns bytes ≡ record { frames = h.frames; end = end }) → IfSome left (λ bytes. served w t (cut w.turns bytes) ≡ (status_of end, report r1 (verdict_of end handled) last mount_table (min nine (2 ^ 64 - 1))))
+      leads_known : (left : Option (List ℕ)) → IfSome left (λ bytes. cut w.turns bytes ≡ record { frames = h.frames; end = end }) → IfSome left (λ bytes. served w t (cut w.turns bytes) ≡ (status_of end, report r1 (verdict_of end handled (min nine (2 ^ 64 - 1))) last mount_table))
       leads_known None is = tt
       leads_known (Some bytes) is = leads bytes is
 
-    stopped_by : (handled nine : ℕ) → nine ≡ s1.sent → (cause : PumpError) → StopsBy s0 s1 (Unit {0}) p0 p1 w.turns handled cause → StoppedBy w n0.state.tree left0 in0 in1 r1 last handled nine cause
+    stopped_by : (handled nine : ℕ) → nine ≡ s1.sent → (cause : BridgeError) → StopsBy s0 s1 (Unit {0}) p0 p1 w.turns handled cause → StoppedBy w n0.state.tree left0 in0 in1 r1 last handled nine cause
     stopped_by handled nine sent error.Torn k = (k.0.0, leads_known handled nine sent torn k.2 left0 k.2.cut)
     stopped_by handled nine sent error.BadLength k = (k.0.0, leads_known handled nine sent bad_length k.2 left0 k.2.cut)
     stopped_by handled nine sent error.TurnsSpent k = (k.0.0, leads_known handled nine sent turns_spent k.2 left0 k.2.cut)
@@ -116,6 +116,9 @@ module _ (w : Serve) (n0 n1 : Served) (settings : n0.state.settings ≡ share_se
     stopped_by handled nine sent error.Write k = not_failed k.0.1
     stopped_by handled nine sent error.NoMemory k = k.0.0
     stopped_by handled nine sent (error.Attach errno) k = absurd k
+    stopped_by handled nine sent error.MsizeTooSmall k = absurd k
+    stopped_by handled nine sent (error.Mount errno) k = absurd k
+    stopped_by handled nine sent error.Unmount k = absurd k
 
   -- the attach was refused
   module _ (handled nine errno : ℕ) (none : handled ≡ 0) (one : nine ≡ 1) (still : p1 ≡ p0) (refused : AttachRefused n0 n1 errno) where
@@ -128,27 +131,32 @@ module _ (w : Serve) (n0 n1 : Served) (settings : n0.state.settings ≡ share_se
     final : linked (linked n0.state.tree) ≡ last
     final = sym (ended ∙ ap linked refused.0.tree)
 
-    refused_leads : (bytes : List ℕ) → served w (linked n0.state.tree) (cut w.turns bytes) ≡ (status.Stopped, report r1 (verdict.Stopped (Attach errno) handled) last mount_table (min nine (2 ^ 64 - 1)))
+    refused_leads : (bytes : List ℕ) → served w (linked n0.state.tree) (cut w.turns bytes) ≡ (status.Stopped, report r1 (halted (error.Attach errno) handled (min nine (2 ^ 64 - 1))) last mount_table)
     refused_leads bytes =
         let replies : [] ≡ r1 = sym (same_Some _ _ (ap (λ (p : Streams). p.sent) still) ∙ start) in
         let messages : 1 ≡ min nine (2 ^ 64 - 1) = omega (arith, one) in
         ap (λ (r : Result ℕ ℕ). attached w (linked n0.state.tree) r (cut w.turns bytes)) found
-        ∙ (λ j. (status.Stopped, report (replies j) (verdict.Stopped (Attach errno) (sym none j)) (final j) mount_table (messages j)))
+        ∙ (λ j. (status.Stopped, report (replies j) (halted (error.Attach errno) (sym none j) (messages j)) (final j) mount_table))
 
   over : {P : List ℕ → Type 0} (left : Option (List ℕ)) → ((bytes : List ℕ) → P bytes) → IfSome left P
   over None h = tt
   over (Some bytes) h = h bytes
 
   shares_by : (result : Result Pumped Stopped) → PumpsBy n0 n1 p0 p1 w.turns result → SharesBy w n0.state.tree left0 in0 in1 r1 last result
-  shares_by (Ok r) (s0, s1, b, e, k) = (k.1.0.0, leads_known s0 s1 b e r.handled r.nine_frames k.0 done k.1.3 left0 k.1.3.cut)
+  shares_by (Ok r) (s0, s1, b, e, k) = (k.1.0.0, leads_known s0 s1 b e r.handled r.nine_frames k.0 done k.1.2 left0 k.1.2.cut)
   shares_by (Err r) h = ⊎_elim
       (λ b. stopped_by b.0 b.1 b.2 b.3 r.handled r.nine_frames b.4.0 r.cause b.4.1)
-      (λ other. ⊎_elim
-      (λ a. subst (λ (c : PumpError). StoppedBy w n0.state.tree left0 in0 in1 r1 last r.handled r.nine_frames c) (sym a.2.1)
-      (ap (λ (p : Streams). p.read_faults) a.1, over left0 (refused_leads r.handled r.nine_frames a.2.0 a.0 a.2.2 a.1 a.2.3)))
-      (λ m. subst (λ (c : PumpError). StoppedBy w n0.state.tree left0 in0 in1 r1 last r.handled r.nine_frames c) (sym m.2) (ap (λ (p : Streams). p.read_faults) m.1))
-      other)
+      (λ n. ⊎_elim
+      (λ a. subst (λ (c : BridgeError). StoppedBy w n0.state.tree left0 in0 in1 r1 last r.handled r.nine_frames c) (sym a.1)
+      (ap (λ (p : Streams). p.read_faults) n.1, over left0 (refused_leads r.handled r.nine_frames a.0 n.0 a.2 n.1 a.3)))
+      (λ m. subst (λ (c : BridgeError). StoppedBy w n0.state.tree left0 in0 in1 r1 last r.handled r.nine_frames c) (sym m.0) (ap (λ (p : Streams). p.read_faults) n.1))
+      n.2)
       h
 
   pub Shares-from : (result : Result Pumped Stopped) → linked last ≡ last → PumpsBy n0 n1 p0 p1 w.turns result → Shares w n0.state.tree left0 in0 in1 r1 last result
   Shares-from result whole h = record { answer = shares_by result h; whole = whole }
+
+-- after a whole run the input is at its end
+pub at_end : (n0 n1 : Moment) (p0 p1 : Streams) (turns : ℕ) (result : Result Pumped Stopped) → PumpsBy n0 n1 p0 p1 turns result → IsOk result → IsAtEnd p1.left
+at_end n0 n1 _ _ turns (Ok r) h ok = h.4.1.2.taken
+at_end n0 n1 _ _ turns (Err r) h ok = absurd (false≢true ok)

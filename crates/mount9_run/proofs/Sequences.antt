@@ -9,7 +9,7 @@ use Rattle.port_base.specs.Faults.{Faulted}
 use Rattle.port_base.specs.Streams.{SentFront}
 use Rattle.port_base.specs.declared.sink.SinkFault.{SinkFault}
 use Rattle.port_base.specs.declared.sink.SinkFault.TheVariants.{Failed, NoMemory}
-use Rattle.mount9_run.specs.Wrote.{Wrote, WroteBy}
+use Rattle.mount9_run.specs.Wrote.{Shown, Wrote, WroteBy}
 
 -- a front of the first text is a front of both
 take_first : (n : ℕ) (p q : List ℕ) → (m : ℕ) × (take m (p ++ q) ≡ take n p)
@@ -31,42 +31,43 @@ then_by a b c f0 f1 f2 p q (Err Failed) same sent h = (subst (λ n. Faulted n f2
 then_by a b c f0 f1 f2 p q (Err NoMemory) same sent h = (h.0 ∙ same, front_second a b c p q sent h.1)
 
 -- a text after one that was sent
-pub Wrote-then : {a b c : Option (List ℕ)} {f0 f1 f2 : ℕ} {p q : List ℕ} {x : Unit {0}} {r : Result (Unit {0}) SinkFault} → Wrote a b f0 f1 p (Ok x) → Wrote b c f1 f2 q r → Wrote a c f0 f2 (p ++ q) r
-Wrote-then h k = record { answer = then_by _ _ _ _ _ _ _ _ _ h.answer.0 h.answer.1 k.answer }
+pub Wrote-then : {X : Type 0} {a b c : Shown X} {p q : List ℕ} {x : Unit {0}} {r : Result (Unit {0}) SinkFault} → Wrote a b p (Ok x) → Wrote b c q r → Wrote a c (p ++ q) r
+Wrote-then h k = record { answer = then_by _ _ _ _ _ _ _ _ _ h.answer.0 h.answer.1 k.answer; kept = k.kept ∙ h.kept }
 
 first_by : (a b : Option (List ℕ)) (f0 f1 : ℕ) (p q : List ℕ) (e : SinkFault) → WroteBy a b f0 f1 p (Err e) → WroteBy a b f0 f1 (p ++ q) (Err e)
 first_by a b f0 f1 p q Failed h = (h.0, front_first a b p q h.1)
 first_by a b f0 f1 p q NoMemory h = (h.0, front_first a b p q h.1)
 
 -- a text that was not sent in whole, and what would follow
-pub Wrote-stopped : {a b : Option (List ℕ)} {f0 f1 : ℕ} {p : List ℕ} {e : SinkFault} (q : List ℕ) → Wrote a b f0 f1 p (Err e) → Wrote a b f0 f1 (p ++ q) (Err e)
-Wrote-stopped q h = record { answer = first_by _ _ _ _ _ q _ h.answer }
+pub Wrote-stopped : {X : Type 0} {a b : Shown X} {p : List ℕ} {e : SinkFault} (q : List ℕ) → Wrote a b p (Err e) → Wrote a b (p ++ q) (Err e)
+Wrote-stopped q h = record { answer = first_by _ _ _ _ _ q _ h.answer; kept = h.kept }
 
 -- the rest is still to be written
-pub record Writing (sent0 sent1 : Option (List ℕ)) (out0 out1 : ℕ) (all rest : List ℕ) : Type 0 where
+pub record Writing {X : Type 0} (old new : Shown X) (all rest : List ℕ) : Type 0 where
   pub done : List ℕ
   pub whole : all ≡ done ++ rest
-  pub wrote : Wrote sent0 sent1 out0 out1 done (Ok tt)
+  pub wrote : Wrote old new done (Ok tt)
 
-module _ (s0 s1 s2 : Option (List ℕ)) (f0 f1 f2 : ℕ) (all p rest : List ℕ) (h : Writing s0 s1 f0 f1 all (p ++ rest)) where
-  pub Writing-more : Wrote s1 s2 f1 f2 p (Ok tt) → Writing s0 s2 f0 f2 all rest
-  Writing-more k = record { done = h.done ++ p; whole = h.whole ∙ sym (append_assoc h.done p rest); wrote = Wrote-then h.wrote k }
+pub Writing-more : {X : Type 0} {a b c : Shown X} {all p rest : List ℕ} → Writing a b all (p ++ rest) → Wrote b c p (Ok tt) → Writing a c all rest
+Writing-more {p = p} {rest = rest} h k = record { done = h.done ++ p; whole = h.whole ∙ sym (append_assoc h.done p rest); wrote = Wrote-then h.wrote k }
 
-  pub Writing-stop : (e : SinkFault) → Wrote s1 s2 f1 f2 p (Err e) → Wrote s0 s2 f0 f2 all (Err e)
-  Writing-stop e k = subst (λ (t : List ℕ). Wrote s0 s2 f0 f2 t (Err e)) (sym h.whole) (Wrote-then h.wrote (Wrote-stopped rest k))
+pub Writing-stop : {X : Type 0} {a b c : Shown X} {all p : List ℕ} (rest : List ℕ) → Writing a b all (p ++ rest) → (e : SinkFault) → Wrote b c p (Err e) → Wrote a c all (Err e)
+Writing-stop {a = a} {c = c} rest h e k = subst (λ (t : List ℕ). Wrote a c t (Err e)) (sym h.whole) (Wrote-then h.wrote (Wrote-stopped rest k))
 
-module _ (s0 s1 : Option (List ℕ)) (f0 f1 : ℕ) (all : List ℕ) where
-  pub Writing-memory : (rest : List ℕ) → Writing s0 s1 f0 f1 all rest → Wrote s0 s1 f0 f1 all (Err NoMemory)
-  Writing-memory rest h = record { answer = (h.wrote.answer.0, (length h.done, subst (Appends s0 s1) (sym (ap (take (length h.done)) h.whole ∙ take-append_seam h.done rest)) h.wrote.answer.1)) }
+pub Writing-memory : {X : Type 0} {a b : Shown X} {all rest : List ℕ} → Writing a b all rest → Wrote a b all (Err NoMemory)
+Writing-memory {a = a} {b = b} {rest = rest} h = record {
+  answer = (h.wrote.answer.0, (length h.done, subst (Appends a.sent b.sent) (sym (ap (take (length h.done)) h.whole ∙ take-append_seam h.done rest)) h.wrote.answer.1));
+  kept = h.wrote.kept;
+}
 
-  pub Writing-end : Writing s0 s1 f0 f1 all [] → Wrote s0 s1 f0 f1 all (Ok tt)
-  Writing-end h = subst (λ (t : List ℕ). Wrote s0 s1 f0 f1 t (Ok tt)) (sym (h.whole ∙ append-nil h.done)) h.wrote
+pub Writing-end : {X : Type 0} {a b : Shown X} {all : List ℕ} → Writing a b all [] → Wrote a b all (Ok tt)
+Writing-end {a = a} {b = b} h = subst (λ (t : List ℕ). Wrote a b t (Ok tt)) (sym (h.whole ∙ append-nil h.done)) h.wrote
 
-  pub Writing-start : s1 ≡ s0 → f1 ≡ f0 → Writing s0 s1 f0 f1 all all
-  Writing-start s f = record { done = []; whole = refl; wrote = record { answer = (f, subst (λ (t : Option (List ℕ)). Appends s0 t []) (sym s) (Appends-nil s0)) } }
+pub Writing-start : {X : Type 0} (a : Shown X) (all : List ℕ) → Writing a a all all
+Writing-start a all = record { done = []; whole = refl; wrote = record { answer = (refl, Appends-nil a.sent); kept = refl } }
 
-pub Writing-at : {s0 s1 : Option (List ℕ)} {f0 f1 : ℕ} {all rest more : List ℕ} → rest ≡ more → Writing s0 s1 f0 f1 all rest → Writing s0 s1 f0 f1 all more
-Writing-at {s0 = s0} {s1 = s1} {f0 = f0} {f1 = f1} {all = all} e h = subst (Writing s0 s1 f0 f1 all) e h
+pub Writing-at : {X : Type 0} {a b : Shown X} {all rest more : List ℕ} → rest ≡ more → Writing a b all rest → Writing a b all more
+Writing-at {a = a} {b = b} {all = all} e h = subst (Writing a b all) e h
 
-pub Wrote-at : {s0 s1 : Option (List ℕ)} {f0 f1 : ℕ} {p q : List ℕ} {r : Result (Unit {0}) SinkFault} → p ≡ q → Wrote s0 s1 f0 f1 p r → Wrote s0 s1 f0 f1 q r
-Wrote-at {s0 = s0} {s1 = s1} {f0 = f0} {f1 = f1} {r = r} e h = subst (λ (t : List ℕ). Wrote s0 s1 f0 f1 t r) e h
+pub Wrote-at : {X : Type 0} {a b : Shown X} {p q : List ℕ} {r : Result (Unit {0}) SinkFault} → p ≡ q → Wrote a b p r → Wrote a b q r
+Wrote-at {a = a} {b = b} {r = r} e h = subst (λ (t : List ℕ). Wrote a b t r) e h

@@ -7,7 +7,7 @@ use Rattle.std.proofs.lemmas.Bool.{false≢true}
 use Rattle.port_base.specs.Tables.{next_after}
 use Rattle.tree_model.specs.declared.attributes.Attr.{Attr}
 use Rattle.tree_model.specs.declared.attributes.Kind.TheVariants as kind
-use Rattle.tree_model.specs.Tree.{Tree, Record, Body, Entry, body_at, is_directory, is_directory_at, is_linked, linked}
+use Rattle.tree_model.specs.Tree.{Tree, Record, Body, DirEntry, body_at, is_directory, is_directory_at, is_linked, linked}
 use Rattle.tree_model.specs.Tree.Body.{File, Directory, Link}
 use Rattle.tree_model.specs.Good.{IsGoodTree, IsGoodBody, CookiesRise}
 use Rattle.tree_model.specs.Finding.{entries_of, entries_at}
@@ -25,10 +25,10 @@ use Rattle.mount9_run.proofs.Rising.{Rises, above, above-all, above-next, above-
 
 -- ---- the entries of a directory
 
-abbrev pub cookie : Entry → ℕ
+abbrev pub cookie : DirEntry → ℕ
 cookie e = e.cookie
 
-cookies_rise : (from : ℕ) (es : List Entry) (end : ℕ) → CookiesRise from es end → Rises cookie from es
+cookies_rise : (from : ℕ) (es : List DirEntry) (end : ℕ) → CookiesRise from es end → Rises cookie from es
 cookies_rise from [] end h = tt
 cookies_rise from (e ∷ es) end h = (h.0, cookies_rise (e.cookie + 1) es end h.1)
 
@@ -41,7 +41,7 @@ rises_at : (t : Tree) → IsGoodTree t → (dir : ℕ) (o : Option Record) → m
 rises_at t good dir None e = tt
 rises_at t good dir (Some r) e = body_rises r.body (good.records dir r e).body
 
-peeked : (k : ℕ) (o : Option (List Entry)) → option_and_then (entry_above k) o ≡ entry_above k (unwrap_or o [])
+peeked : (k : ℕ) (o : Option (List DirEntry)) → option_and_then (entry_above k) o ≡ entry_above k (unwrap_or o [])
 peeked k None = refl
 peeked k (Some es) = refl
 
@@ -52,20 +52,20 @@ module _ (t : Tree) (good : IsGoodTree t) (dir : ℕ) where
   pub entries-start : entries_text dir (entries_in t dir) ≡ entries_text dir (above cookie 0 (entries_in t dir))
   entries-start = sym (ap (entries_text dir) (above-all cookie 0 1 (entries_in t dir) entries_in-rise (lit< tt)))
 
-  module _ (k : ℕ) (e : Entry) (is : Some e ≡ peek_entry_of t dir k) where
+  module _ (k : ℕ) (e : DirEntry) (is : Some e ≡ peek_entry_of t dir k) where
     entries-next : above cookie k (entries_in t dir) ≡ e ∷ above cookie e.cookie (entries_in t dir)
     entries-next = (above-next cookie k 1 (entries_in t dir) e entries_in-rise (sym (peeked k (entries_at t.records dir)) ∙ sym is)).0
 
     pub entries-step : entries_text dir (above cookie k (entries_in t dir)) ≡ entry_line dir e.cookie e.ino e.name ++ entries_text dir (above cookie e.cookie (entries_in t dir))
     unfolding entries_text
-    entries-step = ap (λ (es : List Entry). flat_map (λ (e : Entry). entry_line dir e.cookie e.ino e.name) es) entries-next
+    entries-step = ap (λ (es : List DirEntry). flat_map (λ (e : DirEntry). entry_line dir e.cookie e.ino e.name) es) entries-next
 
     pub entries-fewer : length (above cookie e.cookie (entries_in t dir)) < length (above cookie k (entries_in t dir))
     entries-fewer = let longer : length (above cookie k (entries_in t dir)) ≡ suc (length (above cookie e.cookie (entries_in t dir))) = ap length entries-next in omega arith
 
   pub entries-end : (k : ℕ) → None ≡ peek_entry_of t dir k → entries_text dir (above cookie k (entries_in t dir)) ≡ []
   unfolding entries_text
-  entries-end k is = ap (λ (es : List Entry). flat_map (λ (e : Entry). entry_line dir e.cookie e.ino e.name) es) (above-none cookie k (entries_in t dir) (sym (peeked k (entries_at t.records dir)) ∙ sym is))
+  entries-end k is = ap (λ (es : List DirEntry). flat_map (λ (e : DirEntry). entry_line dir e.cookie e.ino e.name) es) (above-none cookie k (entries_in t dir) (sym (peeked k (entries_at t.records dir)) ∙ sym is))
 
 -- ---- the records of a tree
 

@@ -5,10 +5,11 @@ use Rattle.hex.specs.declared.error.FromHexError.{FromHexError}
 use Rattle.port_base.specs.Names.{name_fault}
 use Rattle.tree_model.specs.declared.attributes.Stamp.{Stamp}
 use Rattle.tree_model.specs.declared.attributes.Limits.{Limits}
-use Rattle.tree_model.specs.Tree.{Tree, top}
+use Rattle.tree_model.specs.declared.attributes.TheConstants.{TOP}
+use Rattle.tree_model.specs.Tree.{Tree}
 use Rattle.tree_model.specs.Making.{NewFile, add_file_of}
 use Rattle.mount9_run.specs.Paths.{is_path}
-use Rattle.mount9_run.specs.HeaderEscapes.{unescaped}
+use Rattle.port_base.specs.Escapes.{unescaped}
 use Rattle.mount9_run.specs.Reading.{◌>>=◌, check, or_refused, field_at, keyword_at, after_word}
 use Rattle.mount9_run.specs.Numbers.{number_at, number_field, mode_field}
 use Rattle.mount9_run.specs.declared.header.start.Top.{Top}
@@ -106,5 +107,5 @@ added n (Err errno) = Err n
 unfoldable pub record_at : Stamp → ℕ → Tree → List ℕ → Result (Option Tree) ℕ
 record_at born n t line = if bytes_eq line (codes "end") then Ok None else (do
   f ← file_at n line
-  more ← added n (add_file_of born t top f.name f.file)
+  more ← added n (add_file_of born t TOP f.name f.file)
   Ok (Some more))

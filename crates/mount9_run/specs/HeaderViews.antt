@@ -11,7 +11,7 @@ use Rattle.mount9_run.specs.declared.header.files.FileLine.{FileLine}
 use Rattle.mount9_run.specs.declared.header.Header.{Header}
 use Rattle.std.specs.FinMap as map
 use Rattle.tree_host.specs.declared.memory.TreeHost.{TreeHost}
-use Rattle.tree_host.specs.TreeHosts.{tree, holds}
+use Rattle.tree_host.specs.TreeHosts.{tree, holds, calls}
 use Rattle.mount9_run.specs.declared.header.text.TextError.{TextError}
 use Rattle.mount9_run.specs.declared.header.text.TextError.TheVariants.{NoEnd, Read, NoMemory}
 
@@ -24,15 +24,14 @@ header_view h = record { tree = tree h.host; permitted = h.permitted; present = 
 -- a host that is always steady, has never failed and holds nothing
 pub record IsFresh (host : TreeHost) : Type 0 where
   pub holds : holds host ≡ map.empty
-  pub faults : host.faults ≡ 0
-  pub steady : host.steady ≡ true
+  pub faults : (calls host).faults ≡ 0
+  pub steady : (calls host).steady ≡ true
 
 -- but for the tree, the host is as before
 pub record ChangesTree (old new : TreeHost) : Type 0 where
   pub born : new.born ≡ old.born
   pub holds : holds new ≡ holds old
-  pub faults : new.faults ≡ old.faults
-  pub steady : new.steady ≡ old.steady
+  pub calls : calls new ≡ calls old
 
 abbrev pub GivesBytes : Result (Option (Vec ℕ Global)) HeaderError → Option (List ℕ) → Type 0
 GivesBytes (Ok (Some v)) read = read ≡ Some v.items

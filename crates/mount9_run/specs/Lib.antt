@@ -1,7 +1,6 @@
 pub mod Command
 pub mod CommandViews
 pub mod Header
-pub mod HeaderEscapes
 pub mod HeaderLines
 pub mod HeaderViews
 pub mod Numbers
@@ -10,9 +9,11 @@ pub mod Reading
 pub mod Report
 pub mod ReportLines
 pub mod Texts
+pub mod Verdicts
 pub mod Walking
 pub mod Wrote
 pub mod Serving
 pub mod Outcome
 pub mod Running
+pub mod Statuses
 pub mod Causes

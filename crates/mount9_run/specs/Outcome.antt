@@ -11,14 +11,14 @@ use Rattle.fuse_wire.specs.Cuts.{Cut, cut, End}
 use Rattle.fuse_wire.specs.Cuts.End.{done, turns_spent, torn, bad_length}
 use Rattle.tree_machine.specs.Play.{play}
 use Rattle.tree_machine.specs.Messages.{total}
-use Rattle.fid_model.specs.declared.sizes.TheConstants.{READ_HEAD}
+use Rattle.p9_wire.specs.declared.protocol.TheConstants.{RREAD_HEADER_SIZE}
 use Rattle.fuse_gate.specs.declared.gate.TheConstants.{LEAST_MSIZE, GREATEST_MSIZE}
 use Rattle.mount9_run.specs.Command.{Serve, command}
 use Rattle.mount9_run.specs.Header.{HeaderRead, header}
 use Rattle.mount9_run.specs.ReportLines.{number_line}
 use Rattle.mount9_run.specs.Report.{report}
-use Rattle.mount9_run.specs.declared.report.verdict.Cause.{Cause}
-use Rattle.mount9_run.specs.declared.report.verdict.Cause.TheVariants.{Torn, BadLength, TurnsSpent, MsizeTooSmall, Mount, Attach}
+use Rattle.frame_pump.specs.declared.outcome.BridgeError.{BridgeError}
+use Rattle.frame_pump.specs.declared.outcome.BridgeError.TheVariants.{Torn, BadLength, TurnsSpent, MsizeTooSmall, Mount, Attach}
 use Rattle.mount9_run.specs.declared.report.verdict.Verdict.{Verdict}
 use Rattle.mount9_run.specs.declared.report.verdict.Verdict.TheVariants as verdict
 use Rattle.mount9_run.specs.declared.run.TheConstants.{MOUNT_FLAGS}
@@ -35,7 +35,7 @@ share_settings s = record { root = []; uid_map = map.empty; gid_map = map.empty;
 
 -- the most bytes of a file that one message brings
 abbrev pub piece : Serve → ℕ
-piece s = min s.msize GREATEST_MSIZE - READ_HEAD
+piece s = min s.msize GREATEST_MSIZE - RREAD_HEADER_SIZE
 
 -- the table of mounts: the root file system alone
 abbrev pub mount_table : List ℕ
@@ -50,8 +50,12 @@ abbrev pub mount_refused : List ℕ → HeaderRead → Option ℕ
 mount_refused target h = if not (is_present target h.present) then Some ENOENT else if not h.permitted then Some EPERM else None
 
 -- a report of the linked records of a tree
-abbrev pub told : List ℕ → Verdict → Tree → ℕ → List ℕ
-told replies verdict t nine = report replies verdict (linked t) mount_table nine
+abbrev pub told : List ℕ → Verdict → Tree → List ℕ
+told replies verdict t = report replies verdict (linked t) mount_table
+
+-- a run that stopped, after so many frames and 9P messages
+abbrev pub halted : BridgeError → ℕ → ℕ → Verdict
+halted cause handled nine = verdict.Halted (record { cause = cause; handled = handled; nine_frames = nine })
 
 abbrev pub status_of : End → Status
 status_of done = status.Served
@@ -60,20 +64,22 @@ status_of torn = status.Stopped
 status_of bad_length = status.Stopped
 
 -- how each end of the input is told
-abbrev pub verdict_of : End → ℕ → Verdict
-verdict_of done handled = verdict.Served MOUNT_FLAGS handled
-verdict_of turns_spent handled = verdict.Stopped TurnsSpent handled
-verdict_of torn handled = verdict.Stopped Torn handled
-verdict_of bad_length handled = verdict.Stopped BadLength handled
+abbrev pub verdict_of : End → ℕ → ℕ → Verdict
+verdict_of done handled nine = verdict.Done (record { flags = MOUNT_FLAGS; handled = handled; nine_frames = nine })
+verdict_of turns_spent handled nine = halted TurnsSpent handled nine
+verdict_of torn handled nine = halted Torn handled nine
+verdict_of bad_length handled nine = halted BadLength handled nine
 
 -- the replies of the machine, the tree that it leaves, and the messages that it takes, counted up to 2^64 - 1
 abbrev pub played : Serve → Tree → ℕ → Cut → Outcome
-played s t root c =
-    (status_of c.end, told (play (share_settings s) t root c.frames).0 (verdict_of c.end (length c.frames)) (play (share_settings s) t root c.frames).1 (min (total (piece s) (share_settings s) t root c.frames) (2 ^ 64 - 1)))
+played s t root c = (
+  status_of c.end,
+  told (play (share_settings s) t root c.frames).0 (verdict_of c.end (length c.frames) (min (total (piece s) (share_settings s) t root c.frames) (2 ^ 64 - 1))) (play (share_settings s) t root c.frames).1,
+)
 
 -- the share is attached to, if its root is a directory
 abbrev pub attached : Serve → Tree → Result ℕ ℕ → Cut → Outcome
-attached s t (Err errno) c = (status.Stopped, told [] (verdict.Stopped (Attach errno) 0) t 1)
+attached s t (Err errno) c = (status.Stopped, told [] (halted (Attach errno) 0 1) t)
 attached s t (Ok root) c = played s t root c
 
 -- where there may be no fid, no root is attached to
@@ -83,14 +89,14 @@ root_given s t = if nat_le s.ids 0 then Err ENFILE else root_of t (share_setting
 abbrev pub served : Serve → Tree → Cut → Outcome
 served s t c = attached s t (root_given s t) c
 
-abbrev pub stopped : Cause → Tree → Outcome
-stopped cause t = (status.Stopped, told [] (verdict.Stopped cause 0) t 0)
+abbrev pub stopped : BridgeError → Tree → Outcome
+stopped cause t = (status.Stopped, told [] (halted cause 0 0) t)
 
 -- why nothing is served: messages are too short, or the mount is refused
-abbrev pub refusal : Serve → HeaderRead → Option Cause
+abbrev pub refusal : Serve → HeaderRead → Option BridgeError
 refusal s h = if nat_lt s.msize LEAST_MSIZE then Some MsizeTooSmall else option_map Mount (mount_refused s.target h)
 
-abbrev pub mounted : Serve → Tree → List ℕ → Option Cause → Outcome
+abbrev pub mounted : Serve → Tree → List ℕ → Option BridgeError → Outcome
 mounted s t rest (Some cause) = stopped cause t
 mounted s t rest None = served s (linked t) (cut s.turns rest)
 

@@ -3,14 +3,15 @@ use Rattle.std.specs.Prelude.{ℕ, List, ◌++◌, codes}
 use Rattle.std.specs.List.{flat_map}
 use Rattle.std.specs.FinMap as map
 use Rattle.tree_model.specs.declared.attributes.Attr.{Attr}
-use Rattle.tree_model.specs.Tree.{Tree, Record, Body, Entry}
+use Rattle.tree_model.specs.Tree.{Tree, Record, Body, DirEntry}
 use Rattle.tree_model.specs.Tree.Body.{File, Directory, Link}
 use Rattle.tree_model.specs.Attributes.{attr_of}
 use Rattle.mount9_run.specs.declared.report.verdict.Verdict.{Verdict}
+use Rattle.mount9_run.specs.Verdicts.{nine_frames_of}
 use Rattle.mount9_run.specs.ReportLines.{directory_line, entry_line, file_line, link_line, number_line, hex_lines, verdict_line}
 
 -- a directory's entries in the order of their cookies
-unfoldable pub entries_text : ℕ → List Entry → List ℕ
+unfoldable pub entries_text : ℕ → List DirEntry → List ℕ
 entries_text dir entries = flat_map (λ e. entry_line dir e.cookie e.ino e.name) entries
 
 abbrev pub body_text : Attr → Body → List ℕ
@@ -37,5 +38,5 @@ unfoldable pub replies_text : List ℕ → List ℕ
 replies_text replies = codes "replies\n" ++ hex_lines replies
 
 -- the whole text: the replies, how the run ended, the tree, the mounts and the number of 9P messages
-unfoldable pub report : List ℕ → Verdict → Tree → List ℕ → ℕ → List ℕ
-report replies verdict t table nine = replies_text replies ++ (verdict_line verdict ++ (tree_text t ++ closing table nine))
+unfoldable pub report : List ℕ → Verdict → Tree → List ℕ → List ℕ
+report replies verdict t table = replies_text replies ++ (verdict_line verdict ++ (tree_text t ++ closing table (nine_frames_of verdict)))

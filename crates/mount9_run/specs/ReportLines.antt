@@ -6,10 +6,10 @@ use Rattle.hex.specs.Hex.{encode_lower}
 use Rattle.port_base.specs.Escapes.{octal_digit, escaped}
 use Rattle.tree_model.specs.declared.attributes.Stamp.{Stamp}
 use Rattle.tree_model.specs.declared.attributes.Attr.{Attr}
-use Rattle.mount9_run.specs.declared.report.verdict.Cause.{Cause}
-use Rattle.mount9_run.specs.declared.report.verdict.Cause.TheVariants.{Torn, BadLength, TurnsSpent, MsizeTooSmall, Mount, Attach}
+use Rattle.frame_pump.specs.declared.outcome.BridgeError.{BridgeError}
+use Rattle.frame_pump.specs.declared.outcome.BridgeError.TheVariants as cause
 use Rattle.mount9_run.specs.declared.report.verdict.Verdict.{Verdict}
-use Rattle.mount9_run.specs.declared.report.verdict.Verdict.TheVariants.{Served, Stopped}
+use Rattle.mount9_run.specs.declared.report.verdict.Verdict.TheVariants.{Done, Halted}
 
 -- one more field, after a space
 abbrev pub with_field : List ℕ → List ℕ → List ℕ
@@ -75,19 +75,23 @@ hex_rows (suc n) bytes = (encode_lower (take 32 bytes) ++ 10 ∷ []) ++ hex_rows
 unfoldable pub hex_lines : List ℕ → List ℕ
 hex_lines bytes = hex_rows (div_ceil (length bytes) 32) bytes
 
--- why a run stopped
-abbrev pub cause_fields : Cause → List (List ℕ)
-cause_fields Torn = codes "torn" ∷ []
-cause_fields BadLength = codes "length" ∷ []
-cause_fields TurnsSpent = codes "turns" ∷ []
-cause_fields MsizeTooSmall = codes "msize" ∷ []
-cause_fields (Mount e) = codes "mount" ∷ decimal e ∷ []
-cause_fields (Attach e) = codes "attach" ∷ decimal e ∷ []
+-- why a run stopped; a report tells no other cause
+abbrev pub cause_fields : BridgeError → List (List ℕ)
+cause_fields cause.Torn = codes "torn" ∷ []
+cause_fields cause.BadLength = codes "length" ∷ []
+cause_fields cause.TurnsSpent = codes "turns" ∷ []
+cause_fields cause.MsizeTooSmall = codes "msize" ∷ []
+cause_fields (cause.Mount e) = codes "mount" ∷ decimal e ∷ []
+cause_fields (cause.Attach e) = codes "attach" ∷ decimal e ∷ []
+cause_fields cause.NoMemory = []
+cause_fields cause.Read = []
+cause_fields cause.Write = []
+cause_fields cause.Unmount = []
 
 abbrev pub key_number : List ℕ → ℕ → List ℕ
 key_number key n = key ++ decimal n
 
 -- `served flags=F handled=H`, or `stopped CAUSE handled=H`
 unfoldable pub verdict_line : Verdict → List ℕ
-verdict_line (Served flags handled) = line (codes "served") (key_number (codes "flags=") flags ∷ key_number (codes "handled=") handled ∷ [])
-verdict_line (Stopped cause handled) = line (codes "stopped") (cause_fields cause ++ key_number (codes "handled=") handled ∷ [])
+verdict_line (Done served) = line (codes "served") (key_number (codes "flags=") served.flags ∷ key_number (codes "handled=") served.handled ∷ [])
+verdict_line (Halted stopped) = line (codes "stopped") (cause_fields stopped.cause ++ key_number (codes "handled=") stopped.handled ∷ [])

@@ -6,7 +6,7 @@ use Rattle.port_base.specs.Faults.{Faulted}
 use Rattle.port_base.specs.Streams.{SentFront}
 use Rattle.port_base.specs.declared.sink.SinkFault.{SinkFault}
 use Rattle.port_base.specs.declared.sink.SinkFault.TheVariants.{Failed, NoMemory}
-use Rattle.mount9_run.specs.Wrote.{Wrote}
+use Rattle.mount9_run.specs.Wrote.{Shown, Wrote}
 use Rattle.mount9_run.specs.Outcome.{Outcome}
 use Rattle.mount9_run.specs.declared.run.Status.{Status}
 use Rattle.mount9_run.specs.declared.run.Status.TheVariants.{Served, Stopped, Words, Header, Memory, Input, Output}
@@ -49,7 +49,7 @@ after_text s (Err Failed) = Output
 after_text s (Err NoMemory) = Memory
 
 -- a text was written, and the answer is so
-pub record Tells (sent0 sent1 : Option (List ℕ)) (out0 out1 : ℕ) (s : Status) (text : List ℕ) (answer : Status) : Type 0 where
+pub record Tells {X : Type 0} (old new : Shown X) (s : Status) (text : List ℕ) (answer : Status) : Type 0 where
   pub written : Result (Unit {0}) SinkFault
   pub is : answer ≡ after_text s written
-  pub wrote : Wrote sent0 sent1 out0 out1 text written
+  pub wrote : Wrote old new text written

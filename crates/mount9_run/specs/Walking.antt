@@ -2,7 +2,7 @@
 use Rattle.std.specs.Prelude.{◌≡◌, ℕ, List, [], ◌++◌, Ok, option_map, unwrap_or, if◌then◌else◌}
 use Rattle.std.specs.FinMap as map
 use Rattle.tree_model.specs.declared.attributes.Attr.{Attr}
-use Rattle.tree_model.specs.Tree.{Tree, Entry, is_linked}
+use Rattle.tree_model.specs.Tree.{Tree, DirEntry, is_linked}
 use Rattle.tree_model.specs.Finding.{entries_at}
 use Rattle.tree_model.specs.Attributes.{stat_of}
 use Rattle.tree_model.specs.Reading.{above_of, next_cookie_of}
@@ -10,7 +10,7 @@ use Rattle.mount9_run.specs.ReportLines.{directory_line}
 use Rattle.mount9_run.specs.Report.{entries_text, record_text}
 
 -- the entries of a directory, none of what is no directory
-abbrev pub entries_in : Tree → ℕ → List Entry
+abbrev pub entries_in : Tree → ℕ → List DirEntry
 entries_in t dir = unwrap_or (entries_at t.records dir) []
 
 -- a directory's line, and those of its entries

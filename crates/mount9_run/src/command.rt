@@ -9,6 +9,8 @@ use crate::path::is_path;
 use crate::text::split_once;
 use port_base::words::Words;
 use std::alloc::Global;
+use std::error::Error;
+use std::fmt;
 
 /// The greatest size of a 9P message, in bytes, where the words don't tell it.
 pub const MSIZE: u32 = 65560;
@@ -56,8 +58,20 @@ impl Command {
 pub enum WordsError {
     /// They command nothing.
     Words,
+    /// There was no memory.
     NoMemory,
 }
+
+impl fmt::Display for WordsError {
+    fn fmt<W: fmt::Write>(&self, f: &mut fmt::Formatter<W>) -> fmt::Result {
+        match self {
+            WordsError::Words => write!(f, "the words command nothing; try `--help`"),
+            WordsError::NoMemory => write!(f, "out of memory at the words"),
+        }
+    }
+}
+
+impl Error for WordsError {}
 
 // What the words so far say.
 #[derive(Drop)]

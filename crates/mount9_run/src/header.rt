@@ -10,10 +10,10 @@ pub mod error;
 mod files;
 mod lines;
 pub(crate) mod numbers;
+mod path;
 mod present;
 mod start;
 pub mod text;
-mod unescaping;
 
 use error::HeaderError;
 use files::file_lines;
@@ -185,7 +185,7 @@ mod tests {
             let refused = match read_header(rt.alloc(), text.as_bytes()) {
                 Ok(_) => None,
                 Err(HeaderError::Line(n)) => Some(n),
-                Err(HeaderError::NoMemory) => return Err(Fail::from("no memory")),
+                Err(HeaderError::NoMemory) => return Err(Fail::from("out of memory")),
             };
             assert_eq!(rt; refused, want, "{lines}");
         }

@@ -2,7 +2,7 @@
 #![tactic(auto)]
 
 pub mod command;
-pub mod examples;
+mod examples;
 pub mod header;
 pub mod laws;
 pub mod path;

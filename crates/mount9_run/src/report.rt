@@ -2,10 +2,12 @@
 ghost use Rattle.std.specs.Prelude.{◌≡◌, ◌++◌};
 ghost use Rattle.tree_model.specs.Tree.{linked};
 ghost use Rattle.tree_host.specs.TreeHosts.{tree};
-ghost use Rattle.mount9_run.specs.Wrote.{Wrote};
+ghost use Rattle.mount9_run.specs.Verdicts.{IsReported, nine_frames_of};
+ghost use Rattle.mount9_run.specs.Wrote.{Wrote, at_sink};
 ghost use Rattle.mount9_run.specs.ReportLines.{verdict_line};
 ghost use Rattle.mount9_run.specs.Report.{tree_text, closing};
 
+pub(crate) mod blocks;
 mod fields;
 mod lines;
 pub mod verdict;
@@ -23,24 +25,26 @@ use writing::{write_closing, write_verdict};
 /// table of mounts as it is printed, and the number of 9P messages. After an `Err` the sink was sent a front of it.
 pub fn write_report<K: Sink>(
     alloc: Global,
-    out: &mut K,
-    verdict: Verdict,
     host: &TreeHost,
-    table: &[u8],
-    nine: u64,
+    mounts: &[u8],
+    verdict: &Verdict,
+    sink: &mut K,
 ) -> Result<(), SinkFault>
-    ensures { Wrote (K.sent out.old) (K.sent out.new) (K.faults out.old) (K.faults out.new) (verdict_line verdict ++ (tree_text (linked (tree host.now)) ++ closing table.now nine)) result }
+    requires { IsReported verdict.now }
+    ensures { Wrote (at_sink (K.sent sink.old) (K.faults sink.old) (K.kept sink.old))
+        (at_sink (K.sent sink.new) (K.faults sink.new) (K.kept sink.new))
+        (verdict_line verdict.now ++ (tree_text (linked (tree host.now)) ++ closing mounts.now (nine_frames_of verdict.now))) result }
 {
-    write_verdict(alloc, out, verdict)?;
-    write_tree(alloc, out, host)?;
-    write_closing(alloc, out, table, nine)
+    write_verdict(alloc, sink, verdict)?;
+    write_tree(alloc, sink, host)?;
+    write_closing(alloc, sink, mounts, verdict.nine_frames())
 }
 
 #[cfg(test)]
 mod tests {
     use super::*;
     use crate::header::read_header;
-    use crate::report::verdict::Cause;
+    use crate::report::verdict::{BridgeError, Served, Stopped};
     use crate::report::writing::write_replies;
     use port_base::memory::MemSink;
     use std::test::Fail;
@@ -67,11 +71,12 @@ end
             .expect(&rt, "accepted");
         let mut out = MemSink::new(alloc);
         write_replies(alloc, &mut out, &[0xabu8; 33])?;
-        let verdict = Verdict::Served {
+        let verdict = Verdict::Done(Served {
             flags: 6,
             handled: 3,
-        };
-        write_report(alloc, &mut out, verdict, &header.host, TABLE.as_bytes(), 4)?;
+            nine_frames: 4,
+        });
+        write_report(alloc, &header.host, TABLE.as_bytes(), &verdict, &mut out)?;
         let want = "replies
 abababababababababababababababababababababababababababababababab
 ab
@@ -95,16 +100,21 @@ nine 4
     fn verdicts_of_stopped_runs(rt: HostRuntime) -> Result<(), Fail> {
         let alloc = rt.alloc();
         let cases = [
-            (Cause::Mount(2), 0, "stopped mount 2 handled=0\n"),
-            (Cause::Attach(23), 0, "stopped attach 23 handled=0\n"),
-            (Cause::Torn, 1, "stopped torn handled=1\n"),
-            (Cause::BadLength, 2, "stopped length handled=2\n"),
-            (Cause::TurnsSpent, 1, "stopped turns handled=1\n"),
-            (Cause::MsizeTooSmall, 0, "stopped msize handled=0\n"),
+            (BridgeError::Mount(2), 0, "stopped mount 2 handled=0\n"),
+            (BridgeError::Attach(23), 0, "stopped attach 23 handled=0\n"),
+            (BridgeError::Torn, 1, "stopped torn handled=1\n"),
+            (BridgeError::BadLength, 2, "stopped length handled=2\n"),
+            (BridgeError::TurnsSpent, 1, "stopped turns handled=1\n"),
+            (BridgeError::MsizeTooSmall, 0, "stopped msize handled=0\n"),
         ];
         for (cause, handled, want) in cases {
             let mut out = MemSink::new(alloc);
-            write_verdict(alloc, &mut out, Verdict::Stopped { cause, handled })?;
+            let stopped = Stopped {
+                cause,
+                handled,
+                nine_frames: 0,
+            };
+            write_verdict(alloc, &mut out, &Verdict::Halted(stopped))?;
             assert_eq!(rt; out.as_bytes(), want.as_bytes());
         }
         Ok(())

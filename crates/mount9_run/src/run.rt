@@ -1,17 +1,23 @@
 //! The top call: words and a stream in, a report out.
-ghost use Rattle.std.specs.Prelude.{◌≡◌, ◌<◌, ◌≤◌, ◌^◌, IfOk, None, [], codes};
+ghost use Rattle.std.specs.Prelude.{◌≡◌, ◌⊎◌, ◌<◌, ◌≤◌, ◌^◌, ℕ, List, IfOk, IfSome, IsOk, IsTrue, None, Ok, [], codes};
+ghost use Rattle.std.specs.Io.KnownBytes.{IsAtEnd};
+ghost use Rattle.port_base.specs.Faults.{Faulted};
 ghost use Rattle.std.specs.FinMap as map;
 ghost use Rattle.tree_model.specs.Tree.{linked};
 ghost use Rattle.tree_host.specs.TreeHosts.{tree};
 ghost use Rattle.p9_server.specs.Configs.{config_refused, settings_of};
 ghost use Rattle.fuse_wire.specs.Cuts.{cut};
+ghost use Rattle.mount9_run.specs.Header.{HeaderRead, header};
 ghost use Rattle.mount9_run.specs.HeaderViews.{IsFresh, header_view};
-ghost use Rattle.mount9_run.specs.Wrote.{Wrote};
+ghost use Rattle.mount9_run.specs.Wrote.{Wrote, at_sink};
 ghost use Rattle.mount9_run.specs.ReportLines.{number_line};
 ghost use Rattle.mount9_run.specs.Report.{report};
 ghost use Rattle.mount9_run.specs.Outcome.{share_settings, mount_table, is_present, mount_refused, refusal, served, run_of, refused_words, outcome};
 ghost use Rattle.mount9_run.specs.Running.{Ran, Tells, after_text};
-ghost use Rattle.mount9_run.specs.Serving.{Shares, stopped_by, ending_of};
+ghost use Rattle.mount9_run.specs.Verdicts.{is_reported, nine_frames_of, IsReported};
+ghost use Rattle.mount9_run.specs.Serving.{Shares, reported, stopped_by, ending_of};
+ghost use Rattle.mount9_run.specs.Statuses.{Exits, IsWholeTree, SendsPlayReport};
+ghost use Rattle.mount9_run.specs.Causes.{IsValidInput};
 ghost use Rattle.mount9_run.specs.Command.{command};
 ghost use Rattle.mount9_run.specs.CommandViews.{share_view};
 ghost use Rattle.mount9_run.specs.declared.run.Status.TheVariants as status;
@@ -20,10 +26,10 @@ use crate::command::{ShareWords, WordsError, read_words};
 use crate::header::error::HeaderError;
 use crate::header::text::{TextError, take_text};
 use crate::header::{Header, read_text};
-use crate::report::verdict::{Cause, Verdict};
-use crate::report::write_report;
-use crate::report::writing::{write_number_line, write_replies, write_text};
-use frame_pump::outcome::{PumpError, Pumped, Stopped};
+use crate::report::blocks::write_in_blocks;
+use crate::report::verdict::{Served, Verdict};
+use crate::report::writing::{write_number_line, write_text};
+use frame_pump::outcome::{BridgeError, Pumped, Stopped};
 use fuse_gate::gate::LEAST_MSIZE;
 use fuse_gate::pump::pump;
 use p9_server::{Config, Server};
@@ -39,11 +45,11 @@ use tree_host::TreeHost;
 /// The flags of the mount: `MS_NOSUID` and `MS_NODEV`.
 pub const MOUNT_FLAGS: u64 = 6;
 
-/// How a run went, by the number that is the program's exit status.
+/// How a run went.
 #[derive(Clone, Copy, Debug, PartialEq, Eq)]
 pub enum Status {
     /// The input was read to its end, and every frame handled.
-    Served = 0,
+    Served,
     /// Messages are too short, the mount or the attach was refused, or the input didn't end at a frame's end.
     Stopped,
     /// The words are refused.
@@ -56,6 +62,26 @@ pub enum Status {
     Input,
     /// The output failed.
     Output,
+}
+
+impl Status {
+    ghost use Rattle.std.specs.Prelude.{◌≡◌};
+    ghost use Rattle.mount9_run.specs.Statuses.{exit_code};
+
+    /// The number that the program exits with.
+    pub fn exit_code(self) -> u8
+        ensures { result ≡ exit_code self }
+    {
+        match self {
+            Status::Served => 0,
+            Status::Stopped => 1,
+            Status::Words => 2,
+            Status::Header => 3,
+            Status::Memory => 4,
+            Status::Input => 5,
+            Status::Output => 6,
+        }
+    }
 }
 
 // The answer after the text that goes with it.
@@ -71,7 +97,9 @@ fn after_text(status: Status, written: Result<(), SinkFault>) -> Status
 
 // A text, and the answer that goes with it.
 fn tell<K: Sink>(out: &mut K, status: Status, text: &[u8]) -> Status
-    ensures { Tells (K.sent out.old) (K.sent out.new) (K.faults out.old) (K.faults out.new) status text.now result }
+    ensures { Tells (at_sink (K.sent out.old) (K.faults out.old) (K.kept out.old))
+        (at_sink (K.sent out.new) (K.faults out.new) (K.kept out.new))
+        status text.now result }
 {
     let written = write_text(out, text);
     after_text(status, written)
@@ -79,35 +107,19 @@ fn tell<K: Sink>(out: &mut K, status: Status, text: &[u8]) -> Status
 
 // The line that tells the first refused line of a header.
 fn tell_line<K: Sink>(alloc: Global, out: &mut K, line: u64) -> Status
-    ensures { Tells (K.sent out.old) (K.sent out.new) (K.faults out.old) (K.faults out.new) status.Header (number_line (codes "header") line) result }
+    ensures { Tells (at_sink (K.sent out.old) (K.faults out.old) (K.kept out.old))
+        (at_sink (K.sent out.new) (K.faults out.new) (K.kept out.new))
+        status.Header (number_line (codes "header") line) result }
 {
     let written = write_number_line(alloc, out, b"header", line);
     after_text(Status::Header, written)
 }
 
-// A whole report.
-#[tactic(auto, unfolding(crate::specs::Report::report))]
-fn write_whole<K: Sink>(
-    alloc: Global,
-    out: &mut K,
-    replies: &[u8],
-    verdict: Verdict,
-    host: &TreeHost,
-    nine: u64,
-) -> Result<(), SinkFault>
-    ensures { Wrote (K.sent out.old) (K.sent out.new) (K.faults out.old) (K.faults out.new) (report replies.now verdict (linked (tree host.now)) mount_table nine) result }
-{
-    write_replies(alloc, out, replies)?;
-    let table = b"1 1 0:1 / / rw - rootfs rootfs rw\n";
-    write_report(alloc, out, verdict, host, table, nine)
-}
-
-// What is reported of a run: its answer, how it ended, and the number of 9P messages.
+// What is reported of a run: its answer, and how it ended.
 #[derive(Clone, Copy, Debug, PartialEq, Eq)]
 struct Ending {
     status: Status,
     verdict: Verdict,
-    nine: u64,
 }
 
 // A whole report, and the answer that goes with it.
@@ -118,10 +130,13 @@ fn tell_report<K: Sink>(
     replies: &[u8],
     host: &TreeHost,
 ) -> Status
-    ensures told { Tells (K.sent out.old) (K.sent out.new) (K.faults out.old) (K.faults out.new) ending.status (report replies.now ending.verdict (linked (tree host.now)) mount_table ending.nine) result }
-    ensures range { ending.nine < 2 ^ 64 }
+    requires { IsReported ending.verdict }
+    ensures told { Tells (at_sink (K.sent out.old) (K.faults out.old) (K.kept out.old))
+        (at_sink (K.sent out.new) (K.faults out.new) (K.kept out.new))
+        ending.status (report replies.now ending.verdict (linked (tree host.now)) mount_table) result }
+    ensures range { nine_frames_of ending.verdict < 2 ^ 64 }
 {
-    let written = write_whole(alloc, out, replies, ending.verdict, host, ending.nine);
+    let written = write_in_blocks(alloc, out, replies, &ending.verdict, host);
     after_text(ending.status, written)
 }
 
@@ -192,7 +207,10 @@ fn share<S: Source>(
     requires settings { settings_of config ≡ share_settings (share_view words.now) }
     requires msize { config.msize ≡ words.now.msize }
     requires allowed { config_refused config.msize config.root.items ≡ None }
-    ensures { Shares (share_view words.now) (tree host) (S.left input.old) (S.faults input.old) (S.faults input.new) result.replies.bytes.items (tree result.host) result.told }
+    ensures ended { IsOk result.told → IsAtEnd (S.left input.new) }
+    ensures input { S.kept input.new ≡ S.kept input.old }
+    ensures lender { S.lender input.new ≡ S.lender input.old }
+    ensures shares { Shares (share_view words.now) (tree host) (S.left input.old) (S.faults input.old) (S.faults input.new) result.replies.bytes.items (tree result.host) result.told }
 {
     let Ok(mut server) = Server::with_config(alloc, host, config) else {
         unreachable!()
@@ -207,42 +225,48 @@ fn share<S: Source>(
     }
 }
 
-// How a share that stopped ends a run.
+// How a share that stopped ends a run; no mount is taken away yet.
 fn stopped_by(stopped: Stopped) -> Result<Ending, Status>
-    ensures { result ≡ stopped_by stopped.handled stopped.nine_frames stopped.cause }
+    ensures by { result ≡ stopped_by stopped.handled stopped.nine_frames stopped.cause }
+    ensures reported { IfOk result (λ ending. IsReported ending.verdict) }
 {
-    let cause = match stopped.cause {
-        PumpError::Torn => Cause::Torn,
-        PumpError::BadLength => Cause::BadLength,
-        PumpError::TurnsSpent => Cause::TurnsSpent,
-        PumpError::Attach(errno) => Cause::Attach(errno),
-        PumpError::NoMemory => return Err(Status::Memory),
-        PumpError::Read => return Err(Status::Input),
-        PumpError::Write => return Err(Status::Output),
-    };
-    let verdict = Verdict::Stopped {
-        cause,
-        handled: stopped.handled,
-    };
-    Ok(Ending {
+    match stopped.cause {
+        BridgeError::NoMemory => Err(Status::Memory),
+        BridgeError::Read => Err(Status::Input),
+        BridgeError::Write => Err(Status::Output),
+        BridgeError::Unmount => Err(Status::Output),
+        BridgeError::Torn => Ok(halted(stopped)),
+        BridgeError::BadLength => Ok(halted(stopped)),
+        BridgeError::TurnsSpent => Ok(halted(stopped)),
+        BridgeError::MsizeTooSmall => Ok(halted(stopped)),
+        BridgeError::Mount(_) => Ok(halted(stopped)),
+        BridgeError::Attach(_) => Ok(halted(stopped)),
+    }
+}
+
+// A run that stopped, and is reported.
+fn halted(stopped: Stopped) -> Ending
+    ensures { result ≡ reported stopped.cause stopped.handled stopped.nine_frames }
+{
+    Ending {
         status: Status::Stopped,
-        verdict,
-        nine: stopped.nine_frames,
-    })
+        verdict: Verdict::Halted(stopped),
+    }
 }
 
 // How what a share told ends a run: by a report, or by an answer alone.
 fn ending_of(told: Result<Pumped, Stopped>) -> Result<Ending, Status>
-    ensures { result ≡ ending_of told }
+    ensures by { result ≡ ending_of told }
+    ensures reported { IfOk result (λ ending. IsReported ending.verdict) }
 {
     match told {
         Ok(pumped) => Ok(Ending {
             status: Status::Served,
-            verdict: Verdict::Served {
+            verdict: Verdict::Done(Served {
                 flags: MOUNT_FLAGS,
                 handled: pumped.handled,
-            },
-            nine: pumped.nine_frames,
+                nine_frames: pumped.nine_frames,
+            }),
         }),
         Err(stopped) => stopped_by(stopped),
     }
@@ -258,7 +282,11 @@ fn serve<S: Source, K: Sink>(
 ) -> Status
     requires fresh { IsFresh host }
     requires long { LEAST_MSIZE ≤ words.now.msize }
-    ensures { Ran (λ bytes. served (share_view words.now) (linked (tree host)) (cut words.now.turns bytes)) (S.left input.old) (K.sent out.old) (K.sent out.new) (S.faults input.old) (S.faults input.new) (K.faults out.old) (K.faults out.new) result }
+    ensures ended { result ≡ status.Served → IsAtEnd (S.left input.new) }
+    ensures input { S.kept input.new ≡ S.kept input.old }
+    ensures lender { S.lender input.new ≡ S.lender input.old }
+    ensures output { K.kept out.new ≡ K.kept out.old }
+    ensures ran { Ran (λ bytes. served (share_view words.now) (linked (tree host)) (cut words.now.turns bytes)) (S.left input.old) (K.sent out.old) (K.sent out.new) (S.faults input.old) (S.faults input.new) (K.faults out.old) (K.faults out.new) result }
 {
     let Ok(config) = share_config(alloc, words) else {
         return Status::Memory;
@@ -275,14 +303,15 @@ fn serve<S: Source, K: Sink>(
 }
 
 // Why nothing is served, though words and header are accepted.
-fn refusal(words: &ShareWords, header: &Header) -> Option<Cause>
-    ensures { result ≡ refusal (share_view words.now) (header_view header.now) }
+fn refusal(words: &ShareWords, header: &Header) -> Option<BridgeError>
+    ensures why { result ≡ refusal (share_view words.now) (header_view header.now) }
+    ensures reported { IfSome result (λ cause. IsTrue (is_reported cause)) }
 {
     if words.msize < LEAST_MSIZE {
-        return Some(Cause::MsizeTooSmall);
+        return Some(BridgeError::MsizeTooSmall);
     }
     match mount_refused(&words.target, header) {
-        Some(errno) => Some(Cause::Mount(errno)),
+        Some(errno) => Some(BridgeError::Mount(errno)),
         None => None,
     }
 }
@@ -296,27 +325,34 @@ fn mount<S: Source, K: Sink>(
     out: &mut K,
 ) -> Status
     requires { IsFresh header.host }
-    ensures { Ran (run_of (share_view words.now) (header_view header)) (S.left input.old) (K.sent out.old) (K.sent out.new) (S.faults input.old) (S.faults input.new) (K.faults out.old) (K.faults out.new) result }
+    ensures ended { result ≡ status.Served → IsAtEnd (S.left input.new) }
+    ensures input { S.kept input.new ≡ S.kept input.old }
+    ensures lender { S.lender input.new ≡ S.lender input.old }
+    ensures output { K.kept out.new ≡ K.kept out.old }
+    ensures ran { Ran (run_of (share_view words.now) (header_view header)) (S.left input.old) (K.sent out.old) (K.sent out.new) (S.faults input.old) (S.faults input.new) (K.faults out.old) (K.faults out.new) result }
 {
     if let Some(cause) = refusal(words, &header) {
-        let ending = Ending {
-            status: Status::Stopped,
-            verdict: Verdict::Stopped { cause, handled: 0 },
-            nine: 0,
-        };
+        let ending = halted(Stopped {
+            cause,
+            handled: 0,
+            nine_frames: 0,
+        });
         return tell_report(alloc, out, ending, &[], &header.host);
     }
     serve(alloc, words, header.host, input, out)
 }
 
-/// Runs the program: `words` is the command line, `input` a header and the request frames behind it. The
-/// number of the answer is the exit status. What is written is the report, or `words` or `header N` where
-/// these are refused; after want of memory or a failed stream a front of it. Where the words are refused nothing
-/// is read.
-pub fn run<S: Source, K: Sink>(alloc: Global, words: &Words, input: &mut S, out: &mut K) -> Status
+// Runs the program, and tells how by a word.
+fn answer<S: Source, K: Sink>(alloc: Global, words: &Words, input: &mut S, out: &mut K) -> Status
     ensures ran { Ran (outcome words.now) (S.left input.old) (K.sent out.old) (K.sent out.new) (S.faults input.old) (S.faults input.new) (K.faults out.old) (K.faults out.new) result }
     ensures unread { command words.now ≡ None → input.new ≡ input.old }
     ensures refused { command words.now ≡ None → Ran refused_words (Some []) (K.sent out.old) (K.sent out.new) (S.faults input.old) (S.faults input.new) (K.faults out.old) (K.faults out.new) result }
+    ensures headed { result ≡ status.Served → IfSome (S.left input.old) (λ bytes. (h : HeaderRead) (rest : List ℕ) →
+        header bytes ≡ Ok (h, rest) → IsWholeTree h.tree) }
+    ensures ended { result ≡ status.Served → IsAtEnd (S.left input.new) }
+    ensures input { S.kept input.new ≡ S.kept input.old }
+    ensures lender { S.lender input.new ≡ S.lender input.old }
+    ensures output { K.kept out.new ≡ K.kept out.old }
 {
     let command = match read_words(alloc, words) {
         Ok(command) => command,
@@ -335,4 +371,30 @@ pub fn run<S: Source, K: Sink>(alloc: Global, words: &Words, input: &mut S, out:
         Err(HeaderError::Line(line)) => tell_line(alloc, out, line),
         Err(HeaderError::NoMemory) => Status::Memory,
     }
+}
+
+/// Runs the program: `words` is the command line, `input` a header and the request frames behind it. The
+/// answer is the exit status. What is written is the report, or `words` or `header N` where
+/// these are refused; out of memory or after a failed stream a front of it.
+///
+/// 0: the input was read to its end, and every frame was handled. 1: messages are too short, the mount or the
+/// attach was refused, or the input didn't end at a frame's end. 2: the words are refused, and nothing was
+/// read. 3: the header is refused. 4: out of memory. 5: the input failed. 6: the output failed.
+pub fn run<S: Source, K: Sink>(alloc: Global, words: &Words, input: &mut S, out: &mut K) -> u8
+    ensures exits { Exits (outcome words.now) (S.left input.old) (K.sent out.old) (K.sent out.new)
+        (S.faults input.old) (S.faults input.new) (K.faults out.old) (K.faults out.new) result }
+    ensures played { result ≡ 0 → IfSome (S.left input.old) (λ bytes.
+        SendsPlayReport words.now bytes (K.sent out.old) (K.sent out.new)) }
+    ensures valid { IfSome (S.left input.old) (λ bytes. IsValidInput words.now bytes →
+        (Faulted (S.faults input.old) (S.faults input.new) → ⊥) →
+        (Faulted (K.faults out.old) (K.faults out.new) → ⊥) → (result ≡ 0) ⊎ (result ≡ 4)) }
+    ensures unread { command words.now ≡ None → input.new ≡ input.old }
+    ensures refused { command words.now ≡ None → Exits refused_words (Some []) (K.sent out.old) (K.sent out.new)
+        (S.faults input.old) (S.faults input.new) (K.faults out.old) (K.faults out.new) result }
+    ensures ended { result ≡ 0 → IsAtEnd (S.left input.new) }
+    ensures input { S.kept input.new ≡ S.kept input.old }
+    ensures lender { S.lender input.new ≡ S.lender input.old }
+    ensures output { K.kept out.new ≡ K.kept out.old }
+{
+    answer(alloc, words, input, out).exit_code()
 }

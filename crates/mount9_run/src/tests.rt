@@ -1,4 +1,4 @@
-use crate::run::{Status, run};
+use crate::run::run;
 use port_base::failing::{FailSink, FailSource};
 use port_base::memory::{MemSink, SliceSource};
 use port_base::words::Words;
@@ -98,7 +98,7 @@ fn a_file_is_opened_read_and_forgotten(rt: HostRuntime) -> Result<(), Fail> {
     }
     let mut input = SliceSource::new(&bytes);
     let mut out = MemSink::new(alloc);
-    assert_eq!(rt; run(alloc, &words, &mut input, &mut out), Status::Served);
+    assert_eq!(rt; run(alloc, &words, &mut input, &mut out), 0);
     let ended = "served flags=6 handled=13\n";
     let want = format!(in alloc; "replies\n{SESSION_REPLIES}{ended}{TREE}nine 9\n")?;
     assert_eq!(rt; out.as_bytes(), want.as_bytes());
@@ -160,11 +160,7 @@ fn runs_that_stop(rt: HostRuntime) -> Result<(), Fail> {
         bytes.extend_from_slice(&frames)?;
         let mut input = SliceSource::new(&bytes);
         let mut out = MemSink::new(alloc);
-        assert_eq!(rt;
-            run(alloc, &words, &mut input, &mut out),
-            Status::Stopped,
-            "{line}"
-        );
+        assert_eq!(rt; run(alloc, &words, &mut input, &mut out), 1, "{line}");
         let want = format!(in alloc; "replies\n{ended}{TREE}nine {nine}\n")?;
         assert_eq!(rt; out.as_bytes(), want.as_bytes(), "{line}");
     }
@@ -177,10 +173,10 @@ fn a_stream_that_fails_at_once(rt: HostRuntime) -> Result<(), Fail> {
     let words = words_of(alloc, "serve target=/mnt root=/")?;
     let mut input = FailSource::new(alloc, HEADER, &[0])?;
     let mut out = MemSink::new(alloc);
-    assert_eq!(rt; run(alloc, &words, &mut input, &mut out), Status::Input);
+    assert_eq!(rt; run(alloc, &words, &mut input, &mut out), 5);
     let mut input = SliceSource::new(HEADER);
     let mut out = FailSink::new(alloc, &[0])?;
-    assert_eq!(rt; run(alloc, &words, &mut input, &mut out), Status::Output);
+    assert_eq!(rt; run(alloc, &words, &mut input, &mut out), 6);
     assert!(rt; out.as_bytes().is_empty());
     Ok(())
 }
@@ -192,9 +188,9 @@ fn runs_of_an_old_minor_number(rt: HostRuntime) -> Result<(), Fail> {
     let frames = hex::decode(alloc, FRAMES).ok().expect(&rt, "hex");
     // How many bytes of the frames are there, the answer, the replies, and how the run ended.
     let cases = [
-        (0, Status::Served, "", "served flags=6 handled=0\n"),
-        (150, Status::Served, REPLIES, "served flags=6 handled=2\n"),
-        (3, Status::Stopped, "", "stopped torn handled=0\n"),
+        (0, 0u8, "", "served flags=6 handled=0\n"),
+        (150, 0, REPLIES, "served flags=6 handled=2\n"),
+        (3, 1, "", "stopped torn handled=0\n"),
     ];
     for (size, status, replies, verdict) in cases {
         let mut bytes = Vec::from_slice(alloc, HEADER)?;

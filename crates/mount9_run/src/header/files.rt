@@ -2,7 +2,7 @@
 ghost use Rattle.std.specs.Prelude.{◌≡◌, IfOk, IfSome, Option, None, ◌<◌};
 ghost use Rattle.std.specs.Option.{option_map};
 ghost use Rattle.port_base.specs.Names.{name_fault};
-ghost use Rattle.tree_model.specs.Tree.{top};
+ghost use Rattle.tree_model.specs.declared.attributes.TheConstants.{TOP};
 ghost use Rattle.tree_model.specs.Making.{add_file_of};
 ghost use Rattle.tree_host.specs.TreeHosts.{tree};
 ghost use Rattle.mount9_run.specs.Reading.{Gives, GivesNext, gathered, lines_of};
@@ -12,14 +12,12 @@ ghost use Rattle.mount9_run.specs.HeaderViews.{file_view, GivesBytes, ChangesTre
 use crate::header::error::HeaderError;
 use crate::header::lines::{Place, field, keyword, next_line};
 use crate::header::numbers::{mode_field, owner_field};
-use crate::header::unescaping::path_of_field;
+use crate::header::path::path_of_field;
 use port_base::names::name_fault;
 use std::alloc::Global;
 use tree_host::{NewItem, TreeHost};
 use tree_model::HostError;
-
-// The inode number of the top directory.
-const TOP: u64 = 1;
+use tree_model::attributes::TOP;
 
 /// A file directly below the top: its mode, below 4096, its owners, its bytes and its name.
 #[derive(Debug, Drop)]
@@ -105,7 +103,7 @@ fn file_line(alloc: Global, at: u64, line: &[u8]) -> Result<FileLine, HeaderErro
 fn add_file(at: u64, host: &mut TreeHost, file: &FileLine) -> Result<(), HeaderError>
     requires mode { file.now.mode < 4096 }
     requires named { name_fault file.now.name.items ≡ None }
-    ensures tree { Gives (λ _. tree host.new) result (added at (add_file_of host.old.born (tree host.old) top (file_view file.now).name (file_view file.now).file)) }
+    ensures tree { Gives (λ _. tree host.new) result (added at (add_file_of host.old.born (tree host.old) TOP (file_view file.now).name (file_view file.now).file)) }
     ensures rest { ChangesTree host.old host.new }
 {
     let item = NewItem::File {

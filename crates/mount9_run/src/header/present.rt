@@ -5,7 +5,7 @@ ghost use Rattle.mount9_run.specs.HeaderLines.{present_at};
 
 use crate::header::error::HeaderError;
 use crate::header::lines::{Place, after_word, next_line};
-use crate::header::unescaping::path_of_field;
+use crate::header::path::path_of_field;
 use crate::path::is_path;
 use port_base::words::Words;
 use std::alloc::Global;

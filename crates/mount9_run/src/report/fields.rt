@@ -2,40 +2,36 @@
 //! an `Err` the line is of no use.
 ghost use Rattle.std.specs.Prelude.{◌≡◌, ◌++◌, ◌∷◌, [], OnOk, fold, replicate, ◌≤◌};
 ghost use Rattle.std.specs.Fmt.{decimal};
-ghost use Rattle.port_base.specs.Escapes.{octal_digit, escaped_byte, escaped};
+ghost use Rattle.port_base.specs.Escapes.{octal_digit, escaped};
 ghost use Rattle.mount9_run.specs.ReportLines.{with_field, mode_text, stamp_text, attr_fields, key_number};
 
-use std::alloc::{AllocError, Global};
+use port_base::buffer::push;
+use port_base::escapes::push_escaped;
+use port_base::sink::NoMemory;
+use std::alloc::Global;
 use tree_model::{Attr, Stamp};
 
-/// Adds a text as it is.
-pub fn push_text(line: &mut Vec<u8>, text: &[u8]) -> Result<(), AllocError>
-    ensures { OnOk result (line.new.items ≡ line.old.items ++ text.now) }
-{
-    line.extend_from_slice(text)
-}
-
 // Adds a number as it is.
-fn push_decimal(alloc: Global, line: &mut Vec<u8>, n: u64) -> Result<(), AllocError>
+fn push_decimal(alloc: Global, line: &mut Vec<u8>, n: u64) -> Result<(), NoMemory>
     ensures { OnOk result (line.new.items ≡ line.old.items ++ decimal n) }
 {
-    let text = n.to_string(alloc)?;
-    push_text(line, text.as_bytes())
+    let text = n.to_string(alloc).map_err(|_| NoMemory)?;
+    push(line, text.as_bytes())
 }
 
 /// Adds a field.
-pub fn push_field(line: &mut Vec<u8>, field: &[u8]) -> Result<(), AllocError>
+pub fn push_field(line: &mut Vec<u8>, field: &[u8]) -> Result<(), NoMemory>
     ensures { OnOk result (line.new.items ≡ with_field line.old.items field.now) }
 {
-    push_text(line, b" ")?;
-    push_text(line, field)
+    push(line, b" ")?;
+    push(line, field)
 }
 
 /// Adds a number.
-pub fn push_number(alloc: Global, line: &mut Vec<u8>, n: u64) -> Result<(), AllocError>
+pub fn push_number(alloc: Global, line: &mut Vec<u8>, n: u64) -> Result<(), NoMemory>
     ensures { OnOk result (line.new.items ≡ with_field line.old.items (decimal n)) }
 {
-    let text = n.to_string(alloc)?;
+    let text = n.to_string(alloc).map_err(|_| NoMemory)?;
     push_field(line, text.as_bytes())
 }
 
@@ -45,7 +41,7 @@ pub fn push_key_number(
     line: &mut Vec<u8>,
     key: &[u8],
     n: u64,
-) -> Result<(), AllocError>
+) -> Result<(), NoMemory>
     ensures { OnOk result (line.new.items ≡ with_field line.old.items (key_number key.now n)) }
 {
     push_field(line, key)?;
@@ -62,7 +58,7 @@ fn octal_digit(n: u32, place: u32) -> u8
 
 /// Adds a mode.
 #[tactic(auto, unfolding(crate::specs::ReportLines::mode_text))]
-pub fn push_mode(line: &mut Vec<u8>, mode: u32) -> Result<(), AllocError>
+pub fn push_mode(line: &mut Vec<u8>, mode: u32) -> Result<(), NoMemory>
     ensures { OnOk result (line.new.items ≡ with_field line.old.items (mode_text mode)) }
 {
     let digits = [
@@ -75,57 +71,37 @@ pub fn push_mode(line: &mut Vec<u8>, mode: u32) -> Result<(), AllocError>
 }
 
 // Adds so many zeros.
-fn push_zeros(line: &mut Vec<u8>, count: usize) -> Result<(), AllocError>
+fn push_zeros(line: &mut Vec<u8>, count: usize) -> Result<(), NoMemory>
     ensures { OnOk result (line.new.items ≡ line.old.items ++ replicate count 48) }
 {
     for _ in 0..count {
-        line.push(b'0')?;
+        line.push(b'0').map_err(|_| NoMemory)?;
     }
     Ok(())
 }
 
 /// Adds a moment.
 #[tactic(auto, unfolding(crate::specs::ReportLines::stamp_text))]
-pub fn push_stamp(alloc: Global, line: &mut Vec<u8>, stamp: Stamp) -> Result<(), AllocError>
+pub fn push_stamp(alloc: Global, line: &mut Vec<u8>, stamp: Stamp) -> Result<(), NoMemory>
     ensures { OnOk result (line.new.items ≡ with_field line.old.items (stamp_text stamp)) }
 {
     push_number(alloc, line, stamp.sec)?;
-    push_text(line, b".")?;
-    let nsec = stamp.nsec.to_string(alloc)?;
+    push(line, b".")?;
+    let nsec = stamp.nsec.to_string(alloc).map_err(|_| NoMemory)?;
     push_zeros(line, 9usize.saturating_sub(nsec.len()))?;
-    push_text(line, nsec.as_bytes())
-}
-
-fn push_escaped_byte(line: &mut Vec<u8>, b: u8) -> Result<(), AllocError>
-    ensures { OnOk result (line.new.items ≡ line.old.items ++ escaped_byte b) }
-{
-    if b == b' ' || b == b'\t' || b == b'\n' || b == b'\r' || b == b'\\' {
-        let text = [
-            b'\\',
-            octal_digit(b as u32, 64),
-            octal_digit(b as u32, 8),
-            octal_digit(b as u32, 1),
-        ];
-        push_text(line, &text)
-    } else {
-        push_text(line, &[b])
-    }
+    push(line, nsec.as_bytes())
 }
 
 /// Adds a name with its escapes.
-#[tactic(auto, unfolding(port_base::specs::Escapes::escaped))]
-pub fn push_escaped(line: &mut Vec<u8>, name: &[u8]) -> Result<(), AllocError>
+pub fn push_name(line: &mut Vec<u8>, name: &[u8]) -> Result<(), NoMemory>
     ensures { OnOk result (line.new.items ≡ with_field line.old.items (escaped name.now)) }
 {
-    push_text(line, b" ")?;
-    for b in name {
-        push_escaped_byte(line, *b)?;
-    }
-    Ok(())
+    push(line, b" ")?;
+    push_escaped(line, name)
 }
 
 /// Adds what is told of an inode: INO MODE UID GID LINKS A M C.
-pub fn push_attr(alloc: Global, line: &mut Vec<u8>, attr: &Attr) -> Result<(), AllocError>
+pub fn push_attr(alloc: Global, line: &mut Vec<u8>, attr: &Attr) -> Result<(), NoMemory>
     ensures { OnOk result (line.new.items ≡ fold with_field line.old.items (attr_fields attr.now)) }
 {
     push_number(alloc, line, attr.ino)?;

@@ -1,28 +1,29 @@
 //! Lines of a report, in memory. After an `Err` the line is of no use.
-ghost use Rattle.std.specs.Prelude.{◌≡◌, ◌++◌, ◌∷◌, [], OnOk, fold};
+ghost use Rattle.std.specs.Prelude.{◌≡◌, ◌++◌, ◌∷◌, [], IsTrue, OnOk, fold};
 ghost use Rattle.hex.specs.Hex.{encode_lower};
+ghost use Rattle.mount9_run.specs.Verdicts.{is_reported, IsReported};
 ghost use Rattle.mount9_run.specs.ReportLines.{with_field, cause_fields, directory_line, entry_line, file_head, link_line, number_line, verdict_line};
 
-use crate::report::fields::{
-    push_attr, push_escaped, push_field, push_key_number, push_number, push_text,
-};
-use crate::report::verdict::{Cause, Verdict};
-use std::alloc::{AllocError, Global};
+use crate::report::fields::{push_attr, push_field, push_key_number, push_name, push_number};
+use crate::report::verdict::{BridgeError, Served, Stopped, Verdict};
+use port_base::buffer::push;
+use port_base::sink::NoMemory;
+use std::alloc::Global;
 use tree_model::Attr;
 
 // Begins a line with its word.
-fn start_line(line: &mut Vec<u8>, word: &[u8]) -> Result<(), AllocError>
+fn start_line(line: &mut Vec<u8>, word: &[u8]) -> Result<(), NoMemory>
     ensures { OnOk result (line.new.items ≡ word.now) }
 {
     line.clear();
-    push_text(line, word)
+    push(line, word)
 }
 
 // Ends a line.
-fn end_line(line: &mut Vec<u8>) -> Result<(), AllocError>
+fn end_line(line: &mut Vec<u8>) -> Result<(), NoMemory>
     ensures { OnOk result (line.new.items ≡ line.old.items ++ 10 ∷ []) }
 {
-    push_text(line, b"\n")
+    push(line, b"\n")
 }
 
 /// Makes a directory's line.
@@ -33,7 +34,7 @@ pub fn make_directory_line(
     attr: &Attr,
     above: u64,
     next_cookie: u64,
-) -> Result<(), AllocError>
+) -> Result<(), NoMemory>
     ensures { OnOk result (line.new.items ≡ directory_line attr.now above next_cookie) }
 {
     start_line(line, b"dir")?;
@@ -52,25 +53,25 @@ pub fn make_entry_line(
     cookie: u64,
     child: u64,
     name: &[u8],
-) -> Result<(), AllocError>
+) -> Result<(), NoMemory>
     ensures { OnOk result (line.new.items ≡ entry_line dir cookie child name.now) }
 {
     start_line(line, b"in")?;
     push_number(alloc, line, dir)?;
     push_number(alloc, line, cookie)?;
     push_number(alloc, line, child)?;
-    push_escaped(line, name)?;
+    push_name(line, name)?;
     end_line(line)
 }
 
 /// Makes the front of a file's line, up to its bytes.
 #[tactic(auto, unfolding(crate::specs::ReportLines::file_head))]
-pub fn make_file_head(alloc: Global, line: &mut Vec<u8>, attr: &Attr) -> Result<(), AllocError>
+pub fn make_file_head(alloc: Global, line: &mut Vec<u8>, attr: &Attr) -> Result<(), NoMemory>
     ensures { OnOk result (line.new.items ≡ file_head attr.now) }
 {
     start_line(line, b"file")?;
     push_attr(alloc, line, attr)?;
-    push_text(line, b" ")
+    push(line, b" ")
 }
 
 /// Makes the line of a symbolic link.
@@ -80,12 +81,12 @@ pub fn make_link_line(
     line: &mut Vec<u8>,
     attr: &Attr,
     target: &[u8],
-) -> Result<(), AllocError>
+) -> Result<(), NoMemory>
     ensures { OnOk result (line.new.items ≡ link_line attr.now target.now) }
 {
     start_line(line, b"link")?;
     push_attr(alloc, line, attr)?;
-    push_escaped(line, target)?;
+    push_name(line, target)?;
     end_line(line)
 }
 
@@ -96,7 +97,7 @@ pub fn make_number_line(
     line: &mut Vec<u8>,
     word: &[u8],
     n: u64,
-) -> Result<(), AllocError>
+) -> Result<(), NoMemory>
     ensures { OnOk result (line.new.items ≡ number_line word.now n) }
 {
     start_line(line, word)?;
@@ -105,61 +106,57 @@ pub fn make_number_line(
 }
 
 /// Makes a line of bytes in hex.
-pub fn make_hex_line(alloc: Global, line: &mut Vec<u8>, bytes: &[u8]) -> Result<(), AllocError>
+pub fn make_hex_line(alloc: Global, line: &mut Vec<u8>, bytes: &[u8]) -> Result<(), NoMemory>
     ensures { OnOk result (line.new.items ≡ encode_lower bytes.now ++ 10 ∷ []) }
 {
-    let text = hex::encode(alloc, bytes)?;
+    let text = hex::encode(alloc, bytes).map_err(|_| NoMemory)?;
     start_line(line, text.as_bytes())?;
     end_line(line)
 }
 
 // Adds why a run stopped.
-fn push_cause(alloc: Global, line: &mut Vec<u8>, cause: Cause) -> Result<(), AllocError>
+fn push_cause(alloc: Global, line: &mut Vec<u8>, cause: BridgeError) -> Result<(), NoMemory>
+    requires { IsTrue (is_reported cause) }
     ensures { OnOk result (line.new.items ≡ fold with_field line.old.items (cause_fields cause)) }
 {
     match cause {
-        Cause::Torn => push_field(line, b"torn"),
-        Cause::BadLength => push_field(line, b"length"),
-        Cause::TurnsSpent => push_field(line, b"turns"),
-        Cause::MsizeTooSmall => push_field(line, b"msize"),
-        Cause::Mount(errno) => {
+        BridgeError::Torn => push_field(line, b"torn"),
+        BridgeError::BadLength => push_field(line, b"length"),
+        BridgeError::TurnsSpent => push_field(line, b"turns"),
+        BridgeError::MsizeTooSmall => push_field(line, b"msize"),
+        BridgeError::Mount(errno) => {
             push_field(line, b"mount")?;
             push_number(alloc, line, errno as u64)
         }
-        Cause::Attach(errno) => {
+        BridgeError::Attach(errno) => {
             push_field(line, b"attach")?;
             push_number(alloc, line, errno as u64)
         }
+        BridgeError::NoMemory => unreachable!(),
+        BridgeError::Read => unreachable!(),
+        BridgeError::Write => unreachable!(),
+        BridgeError::Unmount => unreachable!(),
     }
 }
 
 #[tactic(auto, unfolding(crate::specs::ReportLines::verdict_line))]
-fn make_served_line(
-    alloc: Global,
-    line: &mut Vec<u8>,
-    flags: u64,
-    handled: u32,
-) -> Result<(), AllocError>
-    ensures { OnOk result (line.new.items ≡ verdict_line (Verdict.Served flags handled)) }
+fn make_served_line(alloc: Global, line: &mut Vec<u8>, served: &Served) -> Result<(), NoMemory>
+    ensures { OnOk result (line.new.items ≡ verdict_line (Verdict.Done served.now)) }
 {
     start_line(line, b"served")?;
-    push_key_number(alloc, line, b"flags=", flags)?;
-    push_key_number(alloc, line, b"handled=", handled as u64)?;
+    push_key_number(alloc, line, b"flags=", served.flags)?;
+    push_key_number(alloc, line, b"handled=", served.handled as u64)?;
     end_line(line)
 }
 
 #[tactic(auto, unfolding(crate::specs::ReportLines::verdict_line))]
-fn make_stopped_line(
-    alloc: Global,
-    line: &mut Vec<u8>,
-    cause: Cause,
-    handled: u32,
-) -> Result<(), AllocError>
-    ensures { OnOk result (line.new.items ≡ verdict_line (Verdict.Stopped cause handled)) }
+fn make_stopped_line(alloc: Global, line: &mut Vec<u8>, stopped: &Stopped) -> Result<(), NoMemory>
+    requires { IsTrue (is_reported stopped.now.cause) }
+    ensures { OnOk result (line.new.items ≡ verdict_line (Verdict.Halted stopped.now)) }
 {
     start_line(line, b"stopped")?;
-    push_cause(alloc, line, cause)?;
-    push_key_number(alloc, line, b"handled=", handled as u64)?;
+    push_cause(alloc, line, stopped.cause)?;
+    push_key_number(alloc, line, b"handled=", stopped.handled as u64)?;
     end_line(line)
 }
 
@@ -167,12 +164,13 @@ fn make_stopped_line(
 pub fn make_verdict_line(
     alloc: Global,
     line: &mut Vec<u8>,
-    verdict: Verdict,
-) -> Result<(), AllocError>
-    ensures { OnOk result (line.new.items ≡ verdict_line verdict) }
+    verdict: &Verdict,
+) -> Result<(), NoMemory>
+    requires { IsReported verdict.now }
+    ensures { OnOk result (line.new.items ≡ verdict_line verdict.now) }
 {
     match verdict {
-        Verdict::Served { flags, handled } => make_served_line(alloc, line, flags, handled),
-        Verdict::Stopped { cause, handled } => make_stopped_line(alloc, line, cause, handled),
+        Verdict::Done(served) => make_served_line(alloc, line, served),
+        Verdict::Halted(stopped) => make_stopped_line(alloc, line, stopped),
     }
 }

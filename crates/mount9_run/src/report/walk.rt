@@ -5,7 +5,7 @@ ghost use Rattle.hex.specs.Hex.{encode_lower};
 ghost use Rattle.tree_model.specs.Tree.{body_at, is_directory_at, linked};
 ghost use Rattle.tree_model.specs.Reading.{bytes_at, is_file_at, part};
 ghost use Rattle.tree_host.specs.TreeHosts.{tree};
-ghost use Rattle.mount9_run.specs.Wrote.{Wrote};
+ghost use Rattle.mount9_run.specs.Wrote.{Wrote, at_sink};
 ghost use Rattle.mount9_run.specs.ReportLines.{file_line, hex_or_dash};
 ghost use Rattle.mount9_run.specs.Report.{entries_text, records_text, tree_text};
 ghost use Rattle.mount9_run.specs.Walking.{entries_in, directory_text, stored_text, linked_text, IsStored};
@@ -31,7 +31,9 @@ fn write_entries<K: Sink>(
     dir: u64,
 ) -> Result<(), SinkFault>
     requires { IsTrue (is_directory_at (body_at (tree host.now).records dir)) }
-    ensures { Wrote (K.sent out.old) (K.sent out.new) (K.faults out.old) (K.faults out.new) (entries_text dir (entries_in (tree host.now) dir)) result }
+    ensures { Wrote (at_sink (K.sent out.old) (K.faults out.old) (K.kept out.old))
+        (at_sink (K.sent out.new) (K.faults out.new) (K.kept out.new))
+        (entries_text dir (entries_in (tree host.now) dir)) result }
 {
     let mut at = 0;
     'entries: while let Some((cookie, child, name)) = host.peek_entry(dir, at) {
@@ -50,7 +52,9 @@ fn write_directory<K: Sink>(
     attr: &Attr,
 ) -> Result<(), SinkFault>
     requires { IsTrue (is_directory_at (body_at (tree host.now).records attr.now.ino)) }
-    ensures { Wrote (K.sent out.old) (K.sent out.new) (K.faults out.old) (K.faults out.new) (directory_text (tree host.now) attr.now) result }
+    ensures { Wrote (at_sink (K.sent out.old) (K.faults out.old) (K.kept out.old))
+        (at_sink (K.sent out.new) (K.faults out.new) (K.kept out.new))
+        (directory_text (tree host.now) attr.now) result }
 {
     let above = host.above(attr.ino);
     let next_cookie = host.next_cookie(attr.ino);
@@ -78,7 +82,9 @@ fn write_pieces<K: Sink>(
     ino: u64,
 ) -> Result<(), SinkFault>
     requires { IsTrue (is_file_at (body_at (tree host.now).records ino)) }
-    ensures { Wrote (K.sent out.old) (K.sent out.new) (K.faults out.old) (K.faults out.new) (encode_lower (bytes_at (tree host.now) ino)) result }
+    ensures { Wrote (at_sink (K.sent out.old) (K.faults out.old) (K.kept out.old))
+        (at_sink (K.sent out.new) (K.faults out.new) (K.kept out.new))
+        (encode_lower (bytes_at (tree host.now) ino)) result }
 {
     let mut offset = 0;
     'pieces: loop {
@@ -107,7 +113,9 @@ fn write_bytes<K: Sink>(
 ) -> Result<(), SinkFault>
     requires file { IsTrue (is_file_at (body_at (tree host.now).records ino)) }
     requires size { size ≡ length (bytes_at (tree host.now) ino) }
-    ensures { Wrote (K.sent out.old) (K.sent out.new) (K.faults out.old) (K.faults out.new) (hex_or_dash (bytes_at (tree host.now) ino)) result }
+    ensures { Wrote (at_sink (K.sent out.old) (K.faults out.old) (K.kept out.old))
+        (at_sink (K.sent out.new) (K.faults out.new) (K.kept out.new))
+        (hex_or_dash (bytes_at (tree host.now) ino)) result }
 {
     if size == 0 {
         write_text(out, b"-")
@@ -126,7 +134,9 @@ fn write_file<K: Sink>(
 ) -> Result<(), SinkFault>
     requires file { IsTrue (is_file_at (body_at (tree host.now).records attr.now.ino)) }
     requires size { attr.now.size ≡ length (bytes_at (tree host.now) attr.now.ino) }
-    ensures { Wrote (K.sent out.old) (K.sent out.new) (K.faults out.old) (K.faults out.new) (file_line attr.now (bytes_at (tree host.now) attr.now.ino)) result }
+    ensures { Wrote (at_sink (K.sent out.old) (K.faults out.old) (K.kept out.old))
+        (at_sink (K.sent out.new) (K.faults out.new) (K.kept out.new))
+        (file_line attr.now (bytes_at (tree host.now) attr.now.ino)) result }
 {
     write_file_head(alloc, out, buffer, attr)?;
     write_bytes(alloc, out, buffer, host, attr.ino, attr.size)?;
@@ -142,7 +152,9 @@ fn write_stored<K: Sink>(
     attr: &Attr,
 ) -> Result<(), SinkFault>
     requires { IsStored (tree host.now) attr.now }
-    ensures { Wrote (K.sent out.old) (K.sent out.new) (K.faults out.old) (K.faults out.new) (stored_text (tree host.now) attr.now.ino) result }
+    ensures { Wrote (at_sink (K.sent out.old) (K.faults out.old) (K.kept out.old))
+        (at_sink (K.sent out.new) (K.faults out.new) (K.kept out.new))
+        (stored_text (tree host.now) attr.now.ino) result }
 {
     match attr.kind {
         Kind::File => write_file(alloc, out, buffer, host, attr),
@@ -160,7 +172,9 @@ fn write_linked<K: Sink>(
     attr: &Attr,
 ) -> Result<(), SinkFault>
     requires { IsStored (tree host.now) attr.now }
-    ensures { Wrote (K.sent out.old) (K.sent out.new) (K.faults out.old) (K.faults out.new) (linked_text (tree host.now) attr.now.ino) result }
+    ensures { Wrote (at_sink (K.sent out.old) (K.faults out.old) (K.kept out.old))
+        (at_sink (K.sent out.new) (K.faults out.new) (K.kept out.new))
+        (linked_text (tree host.now) attr.now.ino) result }
 {
     if attr.links == 0 {
         return Ok(());
@@ -170,7 +184,9 @@ fn write_linked<K: Sink>(
 
 // Writes the records that are linked.
 fn write_records<K: Sink>(alloc: Global, out: &mut K, host: &TreeHost) -> Result<(), SinkFault>
-    ensures { Wrote (K.sent out.old) (K.sent out.new) (K.faults out.old) (K.faults out.new) (records_text (map.entries (linked (tree host.now)).records)) result }
+    ensures { Wrote (at_sink (K.sent out.old) (K.faults out.old) (K.kept out.old))
+        (at_sink (K.sent out.new) (K.faults out.new) (K.kept out.new))
+        (records_text (map.entries (linked (tree host.now)).records)) result }
 {
     let mut buffer = Vec::new(alloc);
     let mut at = 0;
@@ -184,7 +200,9 @@ fn write_records<K: Sink>(alloc: Global, out: &mut K, host: &TreeHost) -> Result
 /// Writes the next number of a tree and its linked records.
 #[tactic(auto, unfolding(crate::specs::Report::tree_text))]
 pub fn write_tree<K: Sink>(alloc: Global, out: &mut K, host: &TreeHost) -> Result<(), SinkFault>
-    ensures { Wrote (K.sent out.old) (K.sent out.new) (K.faults out.old) (K.faults out.new) (tree_text (linked (tree host.now))) result }
+    ensures { Wrote (at_sink (K.sent out.old) (K.faults out.old) (K.kept out.old))
+        (at_sink (K.sent out.new) (K.faults out.new) (K.kept out.new))
+        (tree_text (linked (tree host.now))) result }
 {
     write_number_line(alloc, out, b"tree", host.next_ino())?;
     write_records(alloc, out, host)

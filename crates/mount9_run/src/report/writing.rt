@@ -1,7 +1,8 @@
 //! A report, written to a sink. After an `Err` the sink was sent a front of what the call writes.
 ghost use Rattle.std.specs.Prelude.{◌≡◌, ◌++◌, ◌∷◌, [], take, drop, codes};
 ghost use Rattle.hex.specs.Hex.{encode_lower};
-ghost use Rattle.mount9_run.specs.Wrote.{Wrote};
+ghost use Rattle.mount9_run.specs.Verdicts.{IsReported};
+ghost use Rattle.mount9_run.specs.Wrote.{Wrote, at_sink};
 ghost use Rattle.mount9_run.specs.ReportLines.{directory_line, entry_line, file_head, link_line, number_line, hex_lines, verdict_line};
 ghost use Rattle.mount9_run.specs.Report.{replies_text, closing};
 
@@ -16,13 +17,11 @@ use tree_model::Attr;
 
 /// Writes a text.
 pub fn write_text<K: Sink>(out: &mut K, text: &[u8]) -> Result<(), SinkFault>
-    ensures { Wrote (K.sent out.old) (K.sent out.new) (K.faults out.old) (K.faults out.new) text.now result }
+    ensures { Wrote (at_sink (K.sent out.old) (K.faults out.old) (K.kept out.old))
+        (at_sink (K.sent out.new) (K.faults out.new) (K.kept out.new))
+        text.now result }
 {
-    match write_all(out, text) {
-        Ok(()) => Ok(()),
-        Err(SinkFault::Failed) => Err(SinkFault::Failed),
-        Err(SinkFault::NoMemory) => Err(SinkFault::NoMemory),
-    }
+    write_all(out, text)
 }
 
 /// Writes a line of a word and a number.
@@ -32,7 +31,9 @@ pub fn write_number_line<K: Sink>(
     word: &[u8],
     n: u64,
 ) -> Result<(), SinkFault>
-    ensures { Wrote (K.sent out.old) (K.sent out.new) (K.faults out.old) (K.faults out.new) (number_line word.now n) result }
+    ensures { Wrote (at_sink (K.sent out.old) (K.faults out.old) (K.kept out.old))
+        (at_sink (K.sent out.new) (K.faults out.new) (K.kept out.new))
+        (number_line word.now n) result }
 {
     let mut line = Vec::new(alloc);
     if make_number_line(alloc, &mut line, word, n).is_err() {
@@ -42,8 +43,15 @@ pub fn write_number_line<K: Sink>(
 }
 
 /// Writes the line that tells how a run ended.
-pub fn write_verdict<K: Sink>(alloc: Global, out: &mut K, verdict: Verdict) -> Result<(), SinkFault>
-    ensures { Wrote (K.sent out.old) (K.sent out.new) (K.faults out.old) (K.faults out.new) (verdict_line verdict) result }
+pub fn write_verdict<K: Sink>(
+    alloc: Global,
+    out: &mut K,
+    verdict: &Verdict,
+) -> Result<(), SinkFault>
+    requires { IsReported verdict.now }
+    ensures { Wrote (at_sink (K.sent out.old) (K.faults out.old) (K.kept out.old))
+        (at_sink (K.sent out.new) (K.faults out.new) (K.kept out.new))
+        (verdict_line verdict.now) result }
 {
     let mut line = Vec::new(alloc);
     if make_verdict_line(alloc, &mut line, verdict).is_err() {
@@ -61,7 +69,9 @@ pub fn write_directory_line<K: Sink>(
     above: u64,
     next_cookie: u64,
 ) -> Result<(), SinkFault>
-    ensures { Wrote (K.sent out.old) (K.sent out.new) (K.faults out.old) (K.faults out.new) (directory_line attr.now above next_cookie) result }
+    ensures { Wrote (at_sink (K.sent out.old) (K.faults out.old) (K.kept out.old))
+        (at_sink (K.sent out.new) (K.faults out.new) (K.kept out.new))
+        (directory_line attr.now above next_cookie) result }
 {
     if make_directory_line(alloc, buffer, attr, above, next_cookie).is_err() {
         return Err(SinkFault::NoMemory);
@@ -79,7 +89,9 @@ pub fn write_entry_line<K: Sink>(
     child: u64,
     name: &[u8],
 ) -> Result<(), SinkFault>
-    ensures { Wrote (K.sent out.old) (K.sent out.new) (K.faults out.old) (K.faults out.new) (entry_line dir cookie child name.now) result }
+    ensures { Wrote (at_sink (K.sent out.old) (K.faults out.old) (K.kept out.old))
+        (at_sink (K.sent out.new) (K.faults out.new) (K.kept out.new))
+        (entry_line dir cookie child name.now) result }
 {
     if make_entry_line(alloc, buffer, dir, cookie, child, name).is_err() {
         return Err(SinkFault::NoMemory);
@@ -94,7 +106,9 @@ pub fn write_file_head<K: Sink>(
     buffer: &mut Vec<u8>,
     attr: &Attr,
 ) -> Result<(), SinkFault>
-    ensures { Wrote (K.sent out.old) (K.sent out.new) (K.faults out.old) (K.faults out.new) (file_head attr.now) result }
+    ensures { Wrote (at_sink (K.sent out.old) (K.faults out.old) (K.kept out.old))
+        (at_sink (K.sent out.new) (K.faults out.new) (K.kept out.new))
+        (file_head attr.now) result }
 {
     if make_file_head(alloc, buffer, attr).is_err() {
         return Err(SinkFault::NoMemory);
@@ -110,7 +124,9 @@ pub fn write_link_line<K: Sink>(
     attr: &Attr,
     target: &[u8],
 ) -> Result<(), SinkFault>
-    ensures { Wrote (K.sent out.old) (K.sent out.new) (K.faults out.old) (K.faults out.new) (link_line attr.now target.now) result }
+    ensures { Wrote (at_sink (K.sent out.old) (K.faults out.old) (K.kept out.old))
+        (at_sink (K.sent out.new) (K.faults out.new) (K.kept out.new))
+        (link_line attr.now target.now) result }
 {
     if make_link_line(alloc, buffer, attr, target).is_err() {
         return Err(SinkFault::NoMemory);
@@ -120,7 +136,9 @@ pub fn write_link_line<K: Sink>(
 
 /// Writes bytes in hex.
 pub fn write_hex<K: Sink>(alloc: Global, out: &mut K, bytes: &[u8]) -> Result<(), SinkFault>
-    ensures { Wrote (K.sent out.old) (K.sent out.new) (K.faults out.old) (K.faults out.new) (encode_lower bytes.now) result }
+    ensures { Wrote (at_sink (K.sent out.old) (K.faults out.old) (K.kept out.old))
+        (at_sink (K.sent out.new) (K.faults out.new) (K.kept out.new))
+        (encode_lower bytes.now) result }
 {
     match hex::encode(alloc, bytes) {
         Ok(text) => write_text(out, text.as_bytes()),
@@ -147,7 +165,9 @@ fn write_hex_line<K: Sink>(
     buffer: &mut Vec<u8>,
     row: &[u8],
 ) -> Result<(), SinkFault>
-    ensures { Wrote (K.sent out.old) (K.sent out.new) (K.faults out.old) (K.faults out.new) (encode_lower row.now ++ 10 ∷ []) result }
+    ensures { Wrote (at_sink (K.sent out.old) (K.faults out.old) (K.kept out.old))
+        (at_sink (K.sent out.new) (K.faults out.new) (K.kept out.new))
+        (encode_lower row.now ++ 10 ∷ []) result }
 {
     if make_hex_line(alloc, buffer, row).is_err() {
         return Err(SinkFault::NoMemory);
@@ -157,7 +177,9 @@ fn write_hex_line<K: Sink>(
 
 // Writes lines of 32 bytes in hex.
 fn write_hex_lines<K: Sink>(alloc: Global, out: &mut K, bytes: &[u8]) -> Result<(), SinkFault>
-    ensures { Wrote (K.sent out.old) (K.sent out.new) (K.faults out.old) (K.faults out.new) (hex_lines bytes.now) result }
+    ensures { Wrote (at_sink (K.sent out.old) (K.faults out.old) (K.kept out.old))
+        (at_sink (K.sent out.new) (K.faults out.new) (K.kept out.new))
+        (hex_lines bytes.now) result }
 {
     let mut buffer = Vec::new(alloc);
     let mut rest = bytes;
@@ -172,7 +194,9 @@ fn write_hex_lines<K: Sink>(alloc: Global, out: &mut K, bytes: &[u8]) -> Result<
 /// Writes the replies.
 #[tactic(auto, unfolding(crate::specs::Report::replies_text))]
 pub fn write_replies<K: Sink>(alloc: Global, out: &mut K, replies: &[u8]) -> Result<(), SinkFault>
-    ensures { Wrote (K.sent out.old) (K.sent out.new) (K.faults out.old) (K.faults out.new) (replies_text replies.now) result }
+    ensures { Wrote (at_sink (K.sent out.old) (K.faults out.old) (K.kept out.old))
+        (at_sink (K.sent out.new) (K.faults out.new) (K.kept out.new))
+        (replies_text replies.now) result }
 {
     write_text(out, b"replies\n")?;
     write_hex_lines(alloc, out, replies)
@@ -186,7 +210,9 @@ pub fn write_closing<K: Sink>(
     table: &[u8],
     nine: u64,
 ) -> Result<(), SinkFault>
-    ensures { Wrote (K.sent out.old) (K.sent out.new) (K.faults out.old) (K.faults out.new) (closing table.now nine) result }
+    ensures { Wrote (at_sink (K.sent out.old) (K.faults out.old) (K.kept out.old))
+        (at_sink (K.sent out.new) (K.faults out.new) (K.kept out.new))
+        (closing table.now nine) result }
 {
     write_text(out, b"mounts\n")?;
     write_text(out, table)?;

@@ -1,6 +1,8 @@
 -- The texts follow one another.
+use Rattle.std.proofs.Common.{ap}
 use Rattle.std.proofs.lemmas.Result.{err_from_is_err_and}
-use Rattle.mount9_run.proofs.Sequences.{Wrote-then, Wrote-stopped}
+use Rattle.mount9_run.proofs.Sequences.{Wrote-then, Wrote-stopped, Wrote-at}
+use Rattle.mount9_run.specs.Report.{closing}
 use Rattle.mount9_run.proofs.report.write_report.Goals as goal
 
 pub returns-in_err-write_verdict : goal.returns-in_err-write_verdict
@@ -10,4 +12,4 @@ pub returns-in_err-write_tree : goal.returns-in_err-write_tree
 returns-in_err-write_tree g c = let p = err_from_is_err_and c.from_residual-in_err-write_tree.result c.from_residual-in_err-write_tree.ensures.1 in rw (p.1, p.2) (Wrote-then c.in_ok-write_verdict.ensures (Wrote-stopped _ c.in_err-write_tree.ensures))
 
 pub returns : goal.returns
-returns g c = Wrote-then c.in_ok-write_verdict.ensures (Wrote-then c.in_ok-write_tree.ensures c.write_closing.ensures)
+returns g c = Wrote-then c.in_ok-write_verdict.ensures (Wrote-then c.in_ok-write_tree.ensures (Wrote-at (ap (closing c.args.mounts.now) c.nine_frames.ensures) c.write_closing.ensures))

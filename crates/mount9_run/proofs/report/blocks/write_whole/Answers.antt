@@ -2,7 +2,7 @@
 use Rattle.std.proofs.lemmas.Result.{err_from_is_err_and}
 use Rattle.mount9_run.specs.Report.{report}
 use Rattle.mount9_run.proofs.Sequences.{Wrote-then, Wrote-stopped}
-use Rattle.mount9_run.proofs.run.write_whole.Goals as goal
+use Rattle.mount9_run.proofs.report.blocks.write_whole.Goals as goal
 
 pub returns-in_err-write_replies : goal.returns-in_err-write_replies
 unfolding report

@@ -1,0 +1,191 @@
+#!/usr/bin/env python3
+"""Turns a session in words into the input of mount9, and a report's replies into words.
+
+    session.py input SESSION > INPUT          the header and the frames of the session
+    session.py replies SESSION REPORT         each request of the session with its reply
+    session.py run PROGRAM SESSION [WORD ..]  runs the program on the session, and prints both
+
+SESSION is a text: a header as docs/FORMATS.md describes it, up to its line `end`, and then a
+request on each line. Blank lines and lines that begin with `#` are passed over. Numbers are
+decimal; a name stands as it is, or as `\\xHH` for a byte.
+
+    INIT [MINOR]                    FLUSH HANDLE
+    LOOKUP NODE NAME                RELEASE HANDLE
+    GETATTR NODE [HANDLE]           FORGET NODE COUNT
+    OPEN NODE FLAGS                 BATCH_FORGET NODE COUNT [NODE COUNT ..]
+    READ HANDLE OFFSET SIZE         FRAME OPCODE NODE HEX
+    BYTES HEX                       (bytes that need be no frame)
+
+FRAME is any request: the body in hex, or - for none. The unique numbers are 1, 2 and so on.
+It needs Python 3.8 or later, and nothing else.
+"""
+import re
+import struct
+import subprocess
+import sys
+
+OPCODES = {"LOOKUP": 1, "FORGET": 2, "GETATTR": 3, "OPEN": 14, "READ": 15, "RELEASE": 18,
+           "FLUSH": 25, "INIT": 26, "BATCH_FORGET": 42}
+SILENT = {2, 36, 42}
+ERRORS = {1: "EPERM", 2: "ENOENT", 5: "EIO", 9: "EBADF", 13: "EACCES", 17: "EEXIST", 20: "ENOTDIR",
+          21: "EISDIR", 22: "EINVAL", 23: "ENFILE", 27: "EFBIG", 28: "ENOSPC", 31: "EMLINK",
+          36: "ENAMETOOLONG", 38: "ENOSYS", 39: "ENOTEMPTY", 40: "ELOOP", 71: "EPROTO",
+          95: "EOPNOTSUPP", 116: "ESTALE"}
+ATTRIBUTES = ("ino size blocks atime mtime ctime atimensec mtimensec ctimensec mode nlink uid gid"
+              " rdev blksize flags").split()
+
+
+def name_bytes(word):
+    """The bytes of a name, in which \\xHH is a byte."""
+    parts = re.split(r"\\x([0-9a-fA-F]{2})", word)
+    out = b""
+    for i, part in enumerate(parts):
+        out += bytes([int(part, 16)]) if i % 2 else part.encode()
+    return out
+
+
+def body_of(request, words):
+    """The node and the body of a request."""
+    numbers = [int(word) for word in words if re.fullmatch(r"[0-9]+", word)]
+    if request == "INIT":
+        return 0, struct.pack("<IIII", 7, numbers[0] if numbers else 31, 131072, 0) + bytes(48)
+    if request == "LOOKUP":
+        return int(words[0]), name_bytes(words[1] if len(words) > 1 else "") + b"\0"
+    if request == "GETATTR":
+        given = len(numbers) > 1
+        return numbers[0], struct.pack("<IIQ", int(given), 0, numbers[1] if given else 0)
+    if request == "OPEN":
+        return numbers[0], struct.pack("<II", numbers[1], 0)
+    if request == "READ":
+        handle, offset, size = numbers
+        return 0, struct.pack("<QQIIQII", handle, offset, size, 0, 0, 0, 0)
+    if request in ("FLUSH", "RELEASE"):
+        return 0, struct.pack("<Q", numbers[0]) + bytes(16)
+    if request == "FORGET":
+        return numbers[0], struct.pack("<Q", numbers[1])
+    if request == "BATCH_FORGET":
+        pairs = b"".join(struct.pack("<Q", number) for number in numbers)
+        return 0, struct.pack("<II", len(numbers) // 2, 0) + pairs
+    raise ValueError("no such request: " + request)
+
+
+def frame_of(unique, line):
+    """The opcode and the bytes of a request, which is a line of words."""
+    request, *words = line.split(" ")
+    if request == "BYTES":
+        return None, bytes.fromhex(words[0])
+    if request == "FRAME":
+        opcode, node = int(words[0]), int(words[1])
+        body = b"" if words[2] == "-" else bytes.fromhex(words[2])
+    else:
+        opcode = OPCODES.get(request)
+        if opcode is None:
+            raise ValueError("no such request: " + request)
+        node, body = body_of(request, words)
+    head = struct.pack("<IIQQIIII", 40 + len(body), opcode, unique, node, 0, 0, 0, 0)
+    return opcode, head + body
+
+
+def parse(text):
+    """The header and the requests: a line, an opcode and a frame each."""
+    lines = text.split("\n")
+    end = lines.index("end") if "end" in lines else len(lines) - 2
+    header = "".join(line + "\n" for line in lines[:end + 1])
+    requests = []
+    for line in lines[end + 1:]:
+        if line.strip() and not line.startswith("#"):
+            try:
+                opcode, frame = frame_of(len(requests) + 1, line)
+            except (ValueError, IndexError) as error:
+                raise SystemExit("session: %s: %s" % (line, error))
+            requests.append((line, opcode, frame))
+    return header, requests
+
+
+def input_of(session):
+    header, requests = parse(session)
+    return header.encode() + b"".join(frame for _, _, frame in requests)
+
+
+def attributes(body):
+    values = struct.unpack("<QQQQQQIIIIIIIIII", body[:88])
+    shown = dict(zip(ATTRIBUTES, values))
+    return "ino=%(ino)d size=%(size)d mode=0%(mode)o nlink=%(nlink)d uid=%(uid)d gid=%(gid)d" % shown
+
+
+def reply_in_words(opcode, error, body):
+    if error:
+        return "error " + ERRORS.get(error, str(error))
+    if opcode == 26:
+        return "granted minor=%d max_readahead=%d" % struct.unpack("<II", body[4:12])
+    if opcode == 1:
+        return "node=%d %s" % (struct.unpack("<Q", body[:8])[0], attributes(body[40:]))
+    if opcode == 3:
+        return attributes(body[16:])
+    if opcode == 14:
+        return "handle=%d" % struct.unpack("<Q", body[:8])
+    if opcode == 15:
+        return "%d bytes %s" % (len(body), repr(body[:64])[1:] + (" .." if len(body) > 64 else ""))
+    return body.hex() if body else "done"
+
+
+def replies_in(report):
+    """The reply bytes of a report, by their unique numbers."""
+    lines = report.split("\n")
+    if not lines or lines[0] != "replies":
+        return {}
+    count = next((i for i, line in enumerate(lines[1:]) if " " in line), len(lines) - 1)
+    data = bytes.fromhex("".join(lines[1:1 + count]))
+    replies, at = {}, 0
+    while at < len(data):
+        length, error, unique = struct.unpack("<IIQ", data[at:at + 16])
+        replies[unique] = ((-error) % 2 ** 32, data[at + 16:at + length])
+        at += length
+    return replies
+
+
+def replies_of(session, report):
+    out = []
+    replies = replies_in(report)
+    for unique, (line, opcode, _) in enumerate(parse(session)[1], 1):
+        if unique in replies:
+            told = reply_in_words(opcode, *replies[unique])
+        else:
+            told = "no reply" if opcode in SILENT else "not answered"
+        out.append("%s: %s\n" % (line, told))
+    return "".join(out)
+
+
+def rest_of(report):
+    """What a report tells behind its replies."""
+    lines = report.split("\n")
+    at = 0
+    if lines[0] == "replies":
+        at = next((i for i, line in enumerate(lines) if " " in line), len(lines) - 1)
+    return "\n".join(lines[at:])
+
+
+def main(words):
+    try:
+        command, *rest = words
+        if command == "input":
+            sys.stdout.buffer.write(input_of(open(rest[0]).read()))
+        elif command == "replies":
+            sys.stdout.write(replies_of(open(rest[0]).read(), open(rest[1]).read()))
+        elif command == "run":
+            session = open(rest[1]).read()
+            share = rest[2:] or ["serve", "target=/mnt", "root=/"]
+            ran = subprocess.run([rest[0]] + share, input=input_of(session), stdout=subprocess.PIPE)
+            report = ran.stdout.decode()
+            sys.stdout.write(replies_of(session, report) + rest_of(report))
+            return ran.returncode
+        else:
+            raise ValueError
+    except (ValueError, IndexError):
+        sys.stderr.write(__doc__)
+        return 2
+    return 0
+
+
+if __name__ == "__main__":
+    sys.exit(main(sys.argv[1:]))
