@@ -3,7 +3,13 @@ use Rattle.std.specs.Prelude.{ℕ, ◌-◌, ◌^◌, List, [], ◌∷◌, codes}
 use Rattle.std.specs.List.{fold}
 use Rattle.std.specs.Int.RustNames.{bit_and, bit_or}
 use Rattle.port_base.specs.declared.flags.MsFlags.{MsFlags}
-use Rattle.port_base.specs.declared.flags.TheConstants.MsFlags.{MS_RDONLY, MS_NOSUID, MS_NODEV, MS_NOEXEC, MS_SYNCHRONOUS, MS_REMOUNT, MS_MANDLOCK, MS_DIRSYNC, MS_NOATIME, MS_NODIRATIME, MS_BIND, MS_MOVE, MS_REC, MS_RELATIME, MS_STRICTATIME}
+use Rattle.port_base.specs.declared.flags.TheConstants.MsFlags.{MS_RDONLY, MS_NOSUID, MS_NODEV}
+use Rattle.port_base.specs.declared.flags.TheConstants.MsFlags.{MS_NOEXEC, MS_SYNCHRONOUS}
+use Rattle.port_base.specs.declared.flags.TheConstants.MsFlags.{MS_REMOUNT, MS_MANDLOCK}
+use Rattle.port_base.specs.declared.flags.TheConstants.MsFlags.{MS_DIRSYNC, MS_NOATIME}
+use Rattle.port_base.specs.declared.flags.TheConstants.MsFlags.{MS_NODIRATIME, MS_BIND, MS_MOVE}
+use Rattle.port_base.specs.declared.flags.TheConstants.MsFlags.{MS_REC, MS_RELATIME}
+use Rattle.port_base.specs.declared.flags.TheConstants.MsFlags.{MS_STRICTATIME}
 
 -- the bits of a set of flags
 abbrev pub bits_of : MsFlags → ℕ

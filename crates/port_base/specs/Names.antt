@@ -1,5 +1,6 @@
 -- The rules that names of files keep.
-use Rattle.std.specs.Prelude.{ℕ, List, length, Bool, ◌||◌, not, ◌==◌, nat_lt, if◌then◌else◌, Option, Some, None, bytes_eq, codes}
+use Rattle.std.specs.Prelude.{ℕ, List, length, Bool, ◌||◌, not, ◌==◌, nat_lt, if◌then◌else◌}
+use Rattle.std.specs.Prelude.{Option, Some, None, bytes_eq, codes}
 use Rattle.std.specs.List.{list_any}
 use Rattle.std.specs.Str.{is_utf8}
 use Rattle.port_base.specs.declared.errno.TheConstants.{ENOENT, ENAMETOOLONG, EINVAL}

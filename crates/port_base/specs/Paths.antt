@@ -1,5 +1,7 @@
 -- Paths by their components, as Rust's `Path` compares them.
-use Rattle.std.specs.Prelude.{◌≡◌, ℕ, ◌<◌, List, [], ◌∷◌, ◌++◌, length, Bool, not, ◌&&◌, ◌||◌, ◌==◌, if◌then◌else◌, Option, Some, None, is_none, slice_index, bytes_eq, codes, drop, filter}
+use Rattle.std.specs.Prelude.{◌≡◌, ℕ, ◌<◌, List, [], ◌∷◌, ◌++◌, length, Bool, not, ◌&&◌, ◌||◌}
+use Rattle.std.specs.Prelude.{◌==◌, if◌then◌else◌, Option, Some, None, is_none, slice_index}
+use Rattle.std.specs.Prelude.{bytes_eq, codes, drop, filter}
 use Rattle.std.specs.List.{slice_split, before_first, starts_with, list_all}
 use Rattle.std.specs.Option.{option_to_list}
 use Rattle.std.specs.Cmp.Lexicographic.{pointwise}
@@ -63,4 +65,5 @@ are_joined_names path = list_all (λ part. is_none (name_fault part)) (slice_spl
 
 -- the top, or a slash and names without fault joined by single slashes
 abbrev pub is_rooted_path : List ℕ → Bool
-is_rooted_path path = is_slash (slice_index path 0) && ((length path == 1) || are_joined_names (drop 1 path))
+is_rooted_path path = is_slash (slice_index path 0)
+    && ((length path == 1) || are_joined_names (drop 1 path))

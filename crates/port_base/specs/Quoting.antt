@@ -1,5 +1,6 @@
 -- Bytes between double quotes.
-use Rattle.std.specs.Prelude.{ℕ, ◌+◌, ◌-◌, ◌/◌, ◌%◌, List, [], ◌∷◌, ◌++◌, nat_lt, ◌==◌, ◌||◌, if◌then◌else◌, codes}
+use Rattle.std.specs.Prelude.{ℕ, ◌+◌, ◌-◌, ◌/◌, ◌%◌, List, [], ◌∷◌, ◌++◌, nat_lt, ◌==◌, ◌||◌}
+use Rattle.std.specs.Prelude.{if◌then◌else◌, codes}
 use Rattle.std.specs.List.{flat_map}
 
 -- a digit of a number in base 16, with lower-case letters
@@ -12,7 +13,8 @@ upper_hex_digit digit = if nat_lt digit 10 then 48 + digit else 65 + (digit - 10
 
 -- a byte's number in base 16, without a leading zero
 abbrev pub hex_number : ℕ → List ℕ
-hex_number byte = if nat_lt byte 16 then hex_digit byte ∷ [] else hex_digit (byte / 16) ∷ hex_digit (byte % 16) ∷ []
+hex_number byte = if nat_lt byte 16 then hex_digit byte ∷ [] else hex_digit (byte / 16)
+    ∷ hex_digit (byte % 16) ∷ []
 
 -- a byte as it stands between the quotes
 unfoldable pub quoted_byte : ℕ → List ℕ

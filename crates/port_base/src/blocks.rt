@@ -1,5 +1,6 @@
 //! A sink that collects bytes into blocks.
-ghost use Rattle.std.specs.Prelude.{◌≡◌, ◌++◌, ◌+◌, ◌-◌, ◌^◌, ◌≤◌, ◌<◌, [], min, take, drop, length, vec_len, vec_capacity, OnOk, OnErr, Err};
+ghost use Rattle.std.specs.Prelude.{◌≡◌, ◌++◌, ◌+◌, ◌-◌, ◌^◌, ◌≤◌, ◌<◌, [], min, take, drop};
+ghost use Rattle.std.specs.Prelude.{length, vec_len, vec_capacity, OnOk, OnErr, Err};
 ghost use Rattle.std.specs.Io.KnownBytes.{Appends};
 ghost use Rattle.port_base.specs.Faults.{SinkCause};
 ghost use Rattle.port_base.specs.Streams.{SentFront};
@@ -10,8 +11,9 @@ use crate::sink::{NoMemory, Sink, SinkFault, write_all, write_counted};
 /// How many bytes a block has.
 pub const BLOCK_LENGTH: usize = 65536;
 
-/// Collects what it is sent into blocks of 64 KiB, each of which it writes to the sink below at once. What it was
-/// sent is what that sink was sent and what waits for it. `finish` writes what still waits.
+/// Collects what it is sent into blocks of 64 KiB, each of which it writes to the sink below at
+/// once. What it was sent is what that sink was sent and what waits for it. `finish` writes what
+/// still waits.
 pub struct Blocks<'a, K> {
     inner: &'a mut K,
     waiting: &'a mut Vec<u8>,
@@ -24,8 +26,8 @@ pub struct Blocks<'a, K> {
 }
 
 impl<'a, K: Sink> Blocks<'a, K> {
-    /// A sink over this one, in which nothing waits. The buffer, whose contents are of no use before and after,
-    /// holds what waits. It takes no memory yet.
+    /// A sink over this one, in which nothing waits. The buffer, whose contents are of no use
+    /// before and after, holds what waits. It takes no memory yet.
     pub fn new(inner: &'a mut K, buffer: &'a mut Vec<u8>) -> Blocks<'a, K>
         ensures same_reference { result.inner.ghost_name ≡ inner.entry.ghost_name }
         ensures inner { result.inner.now ≡ inner.old }
@@ -101,7 +103,8 @@ impl<'a, K: Sink> Blocks<'a, K> {
     // How many bytes of a piece the block has place for, and can be counted.
     fn count_of(&self, piece: &[u8]) -> usize
         requires { vec_len self.now.waiting.now < BLOCK_LENGTH }
-        ensures { result ≡ min (min (length piece.now) (BLOCK_LENGTH - vec_len self.now.waiting.now))
+        ensures { result
+            ≡ min (min (length piece.now) (BLOCK_LENGTH - vec_len self.now.waiting.now))
             (2 ^ 64 - 1 - (self.now.passed + (vec_len self.now.waiting.now - self.now.gone))) }
     {
         let left = (self.waiting.len() - self.gone) as u64;
@@ -117,8 +120,10 @@ impl<'a, K: Sink> Blocks<'a, K> {
         requires within { count ≤ length piece.now }
         requires place { vec_len self.old.waiting.now + count ≤ BLOCK_LENGTH }
         requires block { BLOCK_LENGTH ≤ vec_capacity self.old.waiting.now }
-        requires countable { self.old.passed + (vec_len self.old.waiting.now - self.old.gone) + count < 2 ^ 64 }
-        ensures waiting { self.new.waiting.now.items ≡ self.old.waiting.now.items ++ take count piece.now }
+        requires countable { self.old.passed + (vec_len self.old.waiting.now - self.old.gone)
+            + count < 2 ^ 64 }
+        ensures waiting { self.new.waiting.now.items ≡ self.old.waiting.now.items
+            ++ take count piece.now }
         ensures capacity { vec_capacity self.old.waiting.now ≤ vec_capacity self.new.waiting.now }
         ensures gone { self.new.gone ≡ self.old.gone }
         ensures passed { self.new.passed ≡ self.old.passed }
@@ -138,7 +143,8 @@ impl<'a, K: Sink> Blocks<'a, K> {
             (drop self.entry.gone self.entry.waiting.now.items)) }
         ensures memory { result ≡ Err SinkFault.NoMemory →
             K.room self.entry.inner.now < vec_len self.entry.waiting.now - self.entry.gone }
-        ensures cause { SinkCause (K.faults self.entry.inner.now) (K.faults self.exit.0.now) result }
+        ensures cause { SinkCause (K.faults self.entry.inner.now) (K.faults self.exit.0.now)
+            result }
         ensures kept { K.kept self.exit.0.now ≡ K.kept self.entry.inner.now }
     {
         let Blocks {
@@ -159,14 +165,16 @@ impl<K: Sink> Sink for Blocks<'_, K> {
 
     ghost sent = { λ s. sent_with (K.sent s.inner.now) s.waiting.now.items s.gone };
 
-    ghost room = { λ s. room_beside (vec_capacity s.waiting.now) (K.room s.inner.now) (vec_len s.waiting.now - s.gone) s.passed };
+    ghost room = { λ s. room_beside (vec_capacity s.waiting.now) (K.room s.inner.now)
+        (vec_len s.waiting.now - s.gone) s.passed };
 
     ghost faults = { λ s. K.faults s.inner.now };
 
     // The sink below, what it was sent before this one began, and what no call of it changes.
     ghost Kept = { GName × (Option (List ℕ) × K.Kept) };
 
-    ghost kept = { λ s. (s.inner.ghost_name, (sent_before (K.sent s.inner.now) s.passed, K.kept s.inner.now)) };
+    ghost kept = { λ s.
+        (s.inner.ghost_name, (sent_before (K.sent s.inner.now) s.passed, K.kept s.inner.now)) };
 
     fn reserve(&mut self, n: usize) -> Result<(), NoMemory> {
         if self.waiting.capacity() < BLOCK_LENGTH && self.waiting.reserve(BLOCK_LENGTH).is_err() {

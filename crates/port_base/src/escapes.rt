@@ -1,12 +1,14 @@
 //! The escapes of names and paths in texts, which are those of fstab(5).
 ghost use Rattle.std.specs.Prelude.{◌≡◌, ◌++◌, ℕ, List, IfOk, OnOk, option_map};
-ghost use Rattle.port_base.specs.Escapes.{is_escaped, escaped_byte, escaped, unescaped, IsUnescaped, BeginsWith};
+ghost use Rattle.port_base.specs.Escapes.{is_escaped, escaped_byte, escaped, unescaped};
+ghost use Rattle.port_base.specs.Escapes.{IsUnescaped, BeginsWith};
 
 use crate::buffer::push;
 use crate::sink::NoMemory;
 use std::alloc::Global;
 
-// Whether the byte stands as an escape: a space, a tab, a line feed, a carriage return or a backslash.
+// Whether the byte stands as an escape: a space, a tab, a line feed, a carriage return or a
+// backslash.
 fn is_special(byte: u8) -> bool
     ensures { result ≡ is_escaped byte }
 {
@@ -38,8 +40,8 @@ pub fn push_escaped(out: &mut Vec<u8>, bytes: &[u8]) -> Result<(), NoMemory>
     Ok(())
 }
 
-/// The bytes with exactly spaces, tabs, line feeds, carriage returns and backslashes as a backslash and three
-/// octal digits.
+/// The bytes with exactly spaces, tabs, line feeds, carriage returns and backslashes as a
+/// backslash and three octal digits.
 pub fn escaped(alloc: Global, bytes: &[u8]) -> Result<Vec<u8>, NoMemory>
     ensures { IfOk result (λ text. text.items ≡ escaped bytes.now) }
 {
@@ -87,7 +89,8 @@ pub fn unescaped(alloc: Global, field: &[u8]) -> Result<Option<Vec<u8>>, NoMemor
     text_of(alloc, field)
 }
 
-/// What is read is the one text whose escaped text is the field, and nothing exactly where there is none.
+/// What is read is the one text whose escaped text is the field, and nothing exactly where there
+/// is none.
 #[tactic(auto, using(crate::proofs::Unescaping::reading_is_unescaped))]
 pub fn what_is_read_is_escaped_as_the_field()
     ensures { (field : List ℕ) → IsUnescaped field (unescaped field) }

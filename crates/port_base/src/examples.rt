@@ -1,5 +1,7 @@
-//! The definitions of this crate at examples. Each function makes no call: its contract is the example.
-ghost use Rattle.std.specs.Prelude.{◌≡◌, ◌∷◌, ◌++◌, ◌^◌, ◌-◌, [], codes, replicate, true, false, None, Some};
+//! The definitions of this crate at examples. Each function makes no call: its contract is the
+//! example.
+ghost use Rattle.std.specs.Prelude.{◌≡◌, ◌∷◌, ◌++◌, ◌^◌, ◌-◌, [], codes, replicate, true, false};
+ghost use Rattle.std.specs.Prelude.{None, Some};
 ghost use Rattle.port_base.specs.Escapes.{escaped};
 ghost use Rattle.port_base.specs.Failing.{counted};
 ghost use Rattle.port_base.specs.Flags.{known_flags, without};
@@ -29,7 +31,8 @@ pub fn names_without_a_fault()
     ensures three_dots { name_fault (codes "...") ≡ None }
 {}
 
-/// The components of a path from the top, of one that begins with a dot, and of one with a dot inside.
+/// The components of a path from the top, of one that begins with a dot, and of one with a dot
+/// inside.
 #[tactic(auto, using(crate::proofs::ByComputing::components_from_the_top, crate::proofs::ByComputing::components_behind_a_dot, crate::proofs::ByComputing::components_around_a_dot, crate::proofs::ByComputing::components_of_nothing))]
 pub fn components_of_paths()
     ensures from_the_top { components (codes "/a//./b/") ≡ codes "/" ∷ codes "a" ∷ codes "b" ∷ [] }

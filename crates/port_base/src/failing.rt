@@ -1,6 +1,8 @@
 //! Sources and sinks in memory that fail in the calls that a test names.
-ghost use Rattle.std.specs.Prelude.{◌≡◌, ◌-◌, ◌^◌, ◌<◌, ◌↔◌, ◌++◌, ◌∷◌, ℕ, List, length, [], true, false};
-ghost use Rattle.std.specs.Prelude.{Some, IfOk, OnOk, OnErr, IsErr, IsTrue, IsNone, Err, if◌then◌else◌, vec_len, vec_capacity};
+ghost use Rattle.std.specs.Prelude.{◌≡◌, ◌-◌, ◌^◌, ◌<◌, ◌↔◌, ◌++◌, ◌∷◌, ℕ, List, length, [], true};
+ghost use Rattle.std.specs.Prelude.{false};
+ghost use Rattle.std.specs.Prelude.{Some, IfOk, OnOk, OnErr, IsErr, IsTrue, IsNone, Err};
+ghost use Rattle.std.specs.Prelude.{if◌then◌else◌, vec_len, vec_capacity};
 ghost use Rattle.std.specs.Borrow.{GName};
 ghost use Rattle.std.specs.Io.{ReadsAtMost, WritesAtMost};
 ghost use Rattle.std.specs.Io.KnownBytes.{ReadConsumes, WriteAppends};
@@ -129,12 +131,15 @@ impl Source for FailSource<'_> {
 
     ghost lender = { λ s. 0 };
 
+    ghost buffered = { λ s. [] };
+
     fn read(&mut self, buf: &mut [u8]) -> Result<usize, ReadFault>
         ensures bound { ReadsAtMost result buf.new }
         ensures bytes { ReadConsumes
             (Some self.old.source.rest.now) (Some self.new.source.rest.now) result buf.new }
         ensures cause { ReadCause self.old.failing.faults self.new.failing.faults result }
-        ensures silent { IsNone (Some self.old.source.rest.now) → IsNone (Some self.new.source.rest.now) }
+        ensures silent { IsNone (Some self.old.source.rest.now)
+            → IsNone (Some self.new.source.rest.now) }
         ensures kept { self.new.failing.script.numbers ≡ self.old.failing.script.numbers }
         ensures lender { ◌≡◌ {A = GName} 0 0 }
         ensures fails { IsErr result ↔ IsTrue (is_due self.old.failing.script) }
@@ -145,6 +150,13 @@ impl Source for FailSource<'_> {
         }
         self.source.read(buf)
     }
+
+    fn buffer(&self) -> &[u8] {
+        let _failing = &self.failing;
+        &[]
+    }
+
+    fn consume(&mut self, _n: usize) {}
 }
 
 /// Bytes in memory, but for the writes that fail.

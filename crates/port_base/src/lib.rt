@@ -1,4 +1,5 @@
-//! What every crate stands on: sources and sinks of bytes, numbers of the system, names, tables and words.
+//! What every crate stands on: sources and sinks of bytes, numbers of the system, names, tables
+//! and words.
 #![tactic(auto)]
 
 pub mod blocks;

@@ -21,10 +21,11 @@ fn is_dots(name: &[u8]) -> bool
     name == b".".as_slice() || name == b"..".as_slice()
 }
 
-fn is_utf8(name: &[u8]) -> bool
-    ensures { result ≡ is_utf8 name.now }
+/// Whether these bytes are text in UTF-8.
+pub fn is_utf8(bytes: &[u8]) -> bool
+    ensures { result ≡ is_utf8 bytes.now }
 {
-    match std::str::from_utf8(name) {
+    match std::str::from_utf8(bytes) {
         Ok(_) => true,
         Err(_) => false,
     }
@@ -36,8 +37,8 @@ fn is_misspelled(name: &[u8]) -> bool
     has_separator(name) || is_dots(name) || !is_utf8(name)
 }
 
-/// The first fault of a name, as an error number: ENOENT for an empty name, ENAMETOOLONG for more than
-/// 255 bytes, EINVAL for a slash, a zero byte, `.`, `..`, or bytes that aren't UTF-8.
+/// The first fault of a name, as an error number: ENOENT for an empty name, ENAMETOOLONG for more
+/// than 255 bytes, EINVAL for a slash, a zero byte, `.`, `..`, or bytes that aren't UTF-8.
 pub fn name_fault(name: &[u8]) -> Option<u32>
     ensures { result ≡ name_fault name.now }
 {

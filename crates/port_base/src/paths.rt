@@ -3,7 +3,9 @@ ghost use Rattle.std.specs.Prelude.{◌≡◌, ◌<◌, ◌↔◌, IsTrue, true,
 ghost use Rattle.std.specs.Option.{option_map};
 ghost use Rattle.std.specs.List.{before_first, after_first};
 ghost use Rattle.std.specs.Iterator.{YieldsFirstRef, item_count};
-ghost use Rattle.port_base.specs.Paths.{are_joined_names, is_rooted_path, components, components_left, is_name, is_slash, lead, names, path_starts_with, same_path, strip, FirstName, TakesLead};
+ghost use Rattle.port_base.specs.Paths.{are_joined_names, is_rooted_path, components};
+ghost use Rattle.port_base.specs.Paths.{components_left, is_name, is_slash, lead, names};
+ghost use Rattle.port_base.specs.Paths.{path_starts_with, same_path, strip, FirstName, TakesLead};
 
 use crate::names::name_fault;
 
@@ -78,7 +80,8 @@ impl<'a> Components<'a> {
 
     // The leading component, the first time.
     fn take_lead(&mut self) -> Option<&'a [u8]>
-        ensures lead { TakesLead (components_left self.old) (components_left self.new) (option_map (λ part. part.now) result) }
+        ensures lead { TakesLead (components_left self.old) (components_left self.new)
+            (option_map (λ part. part.now) result) }
         ensures begun { self.new.begun ≡ true }
     {
         if self.begun {
@@ -120,7 +123,8 @@ impl<'a> Iterator for Components<'a> {
 
 // What follows the components of a base, where a path begins with them.
 fn strip<'a>(mut path: Components<'a>, mut base: Components<'_>) -> Option<Components<'a>>
-    ensures { option_map components_left result ≡ strip (components_left path.entry) (components_left base.entry) }
+    ensures { option_map components_left result ≡ strip (components_left path.entry)
+        (components_left base.entry) }
 {
     'parts: while let Some(part) = base.next() {
         match path.next() {
@@ -135,9 +139,9 @@ fn strip<'a>(mut path: Components<'a>, mut base: Components<'_>) -> Option<Compo
     Some(path)
 }
 
-/// Whether two paths have the same components, as Rust's `Path` compares them: empty parts and `.` parts
-/// are passed over, but for a `.` that a relative path begins with, and the slash that an absolute path
-/// begins with counts.
+/// Whether two paths have the same components, as Rust's `Path` compares them: empty parts and `.`
+/// parts are passed over, but for a `.` that a relative path begins with, and the slash that an
+/// absolute path begins with counts.
 pub fn same_path(a: &[u8], b: &[u8]) -> bool
     ensures value { result ≡ same_path a.now b.now }
     ensures components { IsTrue result ↔ (components a.now ≡ components b.now) }

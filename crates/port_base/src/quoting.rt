@@ -66,9 +66,9 @@ fn push_quoted(out: &mut Vec<u8>, byte: u8) -> Result<(), NoMemory>
     }
 }
 
-/// The bytes between double quotes, as printable ASCII: `\"`, `\\`, `\t`, `\n`, `\r` and `\0` for these
-/// bytes, `\u{h}` with lower-case digits for other bytes below 0x20 and for 0x7f, `\xHH` with capital
-/// digits for bytes from 0x80 on, and each other byte as it is.
+/// The bytes between double quotes, as printable ASCII: `\"`, `\\`, `\t`, `\n`, `\r` and `\0` for
+/// these bytes, `\u{h}` with lower-case digits for other bytes below 0x20 and for 0x7f, `\xHH`
+/// with capital digits for bytes from 0x80 on, and each other byte as it is.
 #[tactic(auto, unfolding(crate::specs::Quoting::quoted))]
 pub fn quoted(alloc: Global, path: &[u8]) -> Result<Vec<u8>, NoMemory>
     ensures { IfOk result (λ text. text.items ≡ quoted path.now) }

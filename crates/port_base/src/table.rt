@@ -1,5 +1,6 @@
 //! A map from numbers, which contracts see as a finite map.
-ghost use Rattle.std.specs.Prelude.{◌≡◌, ◌<◌, ℕ, Some, None, OnOk, OnErr, IfSome, IfNone, IsSome, IsOk, option_copied, option_map};
+ghost use Rattle.std.specs.Prelude.{◌≡◌, ◌<◌, ℕ, Some, None, OnOk, OnErr, IfSome, IfNone, IsSome};
+ghost use Rattle.std.specs.Prelude.{IsOk, option_copied, option_map};
 ghost use Rattle.port_base.specs.Tables.{next_after};
 ghost use Rattle.std.specs.Ordering.{nat_cmp};
 ghost use Rattle.std.specs.FinMap as map;
@@ -72,7 +73,8 @@ impl<V> Table<V> {
         }
     }
 
-    /// Gives a key a value. A key that has one already takes no memory; without memory nothing changes.
+    /// Gives a key a value. A key that has one already takes no memory; without memory nothing
+    /// changes.
     pub fn insert(&mut self, key: u64, value: V) -> Result<(), AllocError>
     where
         V: Drop,

@@ -49,15 +49,30 @@ impl<S: Source> Source for Take<'_, S> {
 
     ghost Kept = { Option (List ℕ) × (GName × S.Kept) };
 
-    ghost kept = { λ t. (option_map (drop t.rest) (S.left t.source.now), (S.lender t.source.now, S.kept t.source.now)) };
+    ghost kept = { λ t. (
+      option_map (drop t.rest) (S.left t.source.now),
+      (S.lender t.source.now, S.kept t.source.now),
+    ) };
 
     ghost lender = { λ t. t.source.ghost_name };
+
+    ghost buffered = { λ t. take t.rest (S.buffered t.source.now) };
 
     fn read(&mut self, buf: &mut [u8]) -> Result<usize, ReadFault> {
         let most = at_most(buf.len(), self.rest);
         let n = self.source.read(&mut buf[..most])?;
         self.rest -= n as u64;
         Ok(n)
+    }
+
+    fn buffer(&self) -> &[u8] {
+        let buffer = self.source.buffer();
+        &buffer[..at_most(buffer.len(), self.rest)]
+    }
+
+    fn consume(&mut self, n: usize) {
+        self.source.consume(n);
+        self.rest -= n as u64;
     }
 }
 

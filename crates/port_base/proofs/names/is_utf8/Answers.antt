@@ -9,7 +9,7 @@ not_utf8 bs true e h = absurd (h (IsUtf8-from_is_utf8 bs e))
 not_utf8 bs false e h = refl
 
 pub returns-in-Err : goal.returns-in-Err
-returns-in-Err c = not_utf8 c.args.name.now _ refl c.in-Err.ensures.cases.0
+returns-in-Err c = not_utf8 c.args.bytes.now _ refl c.in-Err.ensures.cases.0
 
 pub returns-in-Ok : goal.returns-in-Ok
-returns-in-Ok c = sym (is_utf8-from_IsUtf8 c.args.name.now c.in-Ok.ensures.cases.1)
+returns-in-Ok c = sym (is_utf8-from_IsUtf8 c.args.bytes.now c.in-Ok.ensures.cases.1)
