@@ -14,14 +14,23 @@ const ROOM_LENGTH: usize = 65536;
 /// How many bytes are read at once.
 const PIECE_LENGTH: usize = 1024;
 
-/// Reads the next n bytes. The buffer grows with what comes in.
-///
-/// `UnexpectedEof`: the source ended before, and all its bytes were taken.
-pub fn decode_bytes<S: Source>(
-    alloc: Global,
-    source: &mut S,
-    n: usize,
-) -> Result<Vec<u8>, WireError>
+// A copy of the next n bytes, which the source has in memory.
+fn copy_buffered<S: Source>(alloc: Global, source: &mut S, n: usize) -> Result<Vec<u8>, WireError>
+    requires { n ≤ length (S.buffered source.old) }
+    ensures decodes { Decodes (λ v. v.items) (bytes_at n) (S.left source.old) (S.left source.new)
+        (S.faults source.old) (S.faults source.new) result }
+    ensures stop { IfErr result (EndsShort (S.left source.new)) }
+    ensures kept { S.kept source.new ≡ S.kept source.old }
+    ensures lender { S.lender source.new ≡ S.lender source.old }
+    ensures len { IfOk result (λ v. length v.items ≡ n) }
+{
+    let bytes = source.buffer()[..n].to_vec(alloc)?;
+    source.consume(n);
+    Ok(bytes)
+}
+
+// Reads the next n bytes a piece at a time.
+fn read_pieces<S: Source>(alloc: Global, source: &mut S, n: usize) -> Result<Vec<u8>, WireError>
     ensures decodes { Decodes (λ v. v.items) (bytes_at n) (S.left source.old) (S.left source.new)
         (S.faults source.old) (S.faults source.new) result }
     ensures stop { IfErr result (EndsShort (S.left source.new)) }
@@ -39,4 +48,27 @@ pub fn decode_bytes<S: Source>(
         bytes.extend_from_slice(&piece[..count])?;
     }
     Ok(bytes)
+}
+
+/// Reads the next n bytes: by one copy where the source has them in memory, or else into a buffer
+/// that grows with what comes in.
+///
+/// `UnexpectedEof`: the source ended before, and all its bytes were taken.
+pub fn decode_bytes<S: Source>(
+    alloc: Global,
+    source: &mut S,
+    n: usize,
+) -> Result<Vec<u8>, WireError>
+    ensures decodes { Decodes (λ v. v.items) (bytes_at n) (S.left source.old) (S.left source.new)
+        (S.faults source.old) (S.faults source.new) result }
+    ensures stop { IfErr result (EndsShort (S.left source.new)) }
+    ensures kept { S.kept source.new ≡ S.kept source.old }
+    ensures lender { S.lender source.new ≡ S.lender source.old }
+    ensures len { IfOk result (λ v. length v.items ≡ n) }
+{
+    if n <= source.buffer().len() {
+        copy_buffered(alloc, source, n)
+    } else {
+        read_pieces(alloc, source, n)
+    }
 }

@@ -234,13 +234,56 @@ fn decode_long<M: Framed, S: Source>(
     body_in(alloc, bytes.as_slice())
 }
 
+// What the next bytes say, which the source has in memory. They aren't copied.
+fn decode_buffered<M: Framed, S: Source>(
+    alloc: Global,
+    source: &mut S,
+    count: usize,
+) -> Result<(u16, Result<M, WireError>), WireError>
+    requires long { 3 ≤ count }
+    requires buffered { count ≤ length (S.buffered source.old) }
+    ensures decodes { Decodes (framed_view M.view) (body_reading M.reading count)
+        (S.left source.old)
+        (S.left source.new) (S.faults source.old) (S.faults source.new) result }
+    ensures fault { IfOk result (λ f. IfErr f.1 IsMalformed) }
+    ensures stop { IfErr result (EndsShort (S.left source.new)) }
+    ensures kept { S.kept source.new ≡ S.kept source.old }
+    ensures lender { S.lender source.new ≡ S.lender source.old }
+{
+    let body = body_in(alloc, &source.buffer()[..count]);
+    source.consume(count);
+    body
+}
+
+// What the bytes behind a frame's size say.
+fn decode_rest<M: Framed, S: Source>(
+    alloc: Global,
+    source: &mut S,
+    count: usize,
+) -> Result<(u16, Result<M, WireError>), WireError>
+    requires { 3 ≤ count }
+    ensures decodes { Decodes (framed_view M.view) (body_reading M.reading count)
+        (S.left source.old)
+        (S.left source.new) (S.faults source.old) (S.faults source.new) result }
+    ensures fault { IfOk result (λ f. IfErr f.1 IsMalformed) }
+    ensures stop { IfErr result (EndsShort (S.left source.new)) }
+    ensures kept { S.kept source.new ≡ S.kept source.old }
+    ensures lender { S.lender source.new ≡ S.lender source.old }
+{
+    if count <= source.buffer().len() {
+        decode_buffered(alloc, source, count)
+    } else if count <= SHORT_LENGTH {
+        decode_short(alloc, source, count)
+    } else {
+        decode_long(alloc, source, count)
+    }
+}
+
 /// Reads a frame of at most `limit` bytes to its end: its tag, and its message or the first fault
-/// of
-/// the body.
+/// of the body.
 ///
 /// `InvalidData`: a size below 7 or above `limit`, whose four bytes were taken. `UnexpectedEof`:
-/// the
-/// source ended before the frame did, and all its bytes were taken.
+/// the source ended before the frame did, and all its bytes were taken.
 pub fn decode_frame<M: Framed, S: Source>(
     alloc: Global,
     source: &mut S,
@@ -258,12 +301,7 @@ pub fn decode_frame<M: Framed, S: Source>(
     if size < HEADER_LENGTH || size > limit {
         return Err(WireError::InvalidData);
     }
-    let length = size as usize - 4;
-    if length <= SHORT_LENGTH {
-        decode_short(alloc, source, length)
-    } else {
-        decode_long(alloc, source, length)
-    }
+    decode_rest(alloc, source, size as usize - 4)
 }
 
 /// Reads a frame of at most `limit` bytes whose body is well formed.

@@ -9,30 +9,14 @@ pub returns-then-size-lt-HEADER_LENGTH-clause-took :
 returns-then-size-lt-HEADER_LENGTH-clause-took g c =
     took_size _ _ c.in_ok-size.size c.in_ok-size.ensures.decodes.answer.1
 
-pub returns-then-length-le-SHORT_LENGTH-clause-decodes :
-    goal.returns-then-length-le-SHORT_LENGTH-clause-decodes
-returns-then-length-le-SHORT_LENGTH-clause-decodes g c =
+pub returns-clause-decodes : goal.returns-clause-decodes
+returns-clause-decodes g c =
     after_size g.M.Framed.view g.M.Framed.reading c.args.limit c.in_ok-size.size _ _ _ _ _ _
     (omega arith) (omega arith) c.in_ok-size.ensures.decodes
-    c.decode_short.result c.decode_short.ensures.decodes
+    c.decode_rest.result c.decode_rest.ensures.decodes
 
-pub returns-then-length-le-SHORT_LENGTH-clause-took :
-    goal.returns-then-length-le-SHORT_LENGTH-clause-took
-returns-then-length-le-SHORT_LENGTH-clause-took g c =
-    ended_within _ _ c.decode_short.result
-    (Took-trans _ _ _ c.in_ok-size.ensures.decodes.took c.decode_short.ensures.decodes.took)
-    c.decode_short.ensures.stop
-
-pub returns-else-length-le-SHORT_LENGTH-clause-decodes :
-    goal.returns-else-length-le-SHORT_LENGTH-clause-decodes
-returns-else-length-le-SHORT_LENGTH-clause-decodes g c =
-    after_size g.M.Framed.view g.M.Framed.reading c.args.limit c.in_ok-size.size _ _ _ _ _ _
-    (omega arith) (omega arith) c.in_ok-size.ensures.decodes
-    c.decode_long.result c.decode_long.ensures.decodes
-
-pub returns-else-length-le-SHORT_LENGTH-clause-took :
-    goal.returns-else-length-le-SHORT_LENGTH-clause-took
-returns-else-length-le-SHORT_LENGTH-clause-took g c =
-    ended_within _ _ c.decode_long.result
-    (Took-trans _ _ _ c.in_ok-size.ensures.decodes.took c.decode_long.ensures.decodes.took)
-    c.decode_long.ensures.stop
+pub returns-clause-took : goal.returns-clause-took
+returns-clause-took g c =
+    ended_within _ _ c.decode_rest.result
+    (Took-trans _ _ _ c.in_ok-size.ensures.decodes.took c.decode_rest.ensures.decodes.took)
+    c.decode_rest.ensures.stop

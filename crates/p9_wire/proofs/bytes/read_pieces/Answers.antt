@@ -4,7 +4,7 @@ use Rattle.std.proofs.lemmas.Grind.{common_steps}
 use Rattle.std.proofs.lemmas.List.{length-take}
 use Rattle.std.proofs.lemmas.Result.{err_from_is_err_and}
 use Rattle.p9_wire.proofs.Pieces.{Came-more, Came-stops, Came-memory}
-use Rattle.p9_wire.proofs.bytes.decode_bytes.Goals as goal
+use Rattle.p9_wire.proofs.bytes.read_pieces.Goals as goal
 
 pub returns-in_err-fill-clause-decodes : goal.returns-in_err-fill-clause-decodes
 returns-in_err-fill-clause-decodes g c =

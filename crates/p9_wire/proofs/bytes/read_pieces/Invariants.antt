@@ -1,6 +1,6 @@
 use Rattle.std.proofs.Common.{◌≡◌, ◌-◌, ◌≤◌, length}
 use Rattle.p9_wire.proofs.Pieces.{Came}
-use Rattle.p9_wire.proofs.bytes.decode_bytes.Given as goal
+use Rattle.p9_wire.proofs.bytes.read_pieces.Given as goal
 
 abbrev pub invariant-loop-piece : goal.invariant-loop-piece
 invariant-loop-piece g l = record {
