@@ -27,8 +27,10 @@ CauseBy steady before now (Err (Errno e)) = now ≡ before
 CauseBy steady before now (Err Fault) = Faulted before now × (steady ≡ false)
 CauseBy steady before now (Err NoMemory) = now ≡ before
 
--- a fault is counted, and comes only where the host isn't steady; every other answer leaves the count
-pub record Causes {A : Type 0} (steady : Bool) (before now : ℕ) (result : Result A HostError) : Type 0 where
+-- a fault is counted, and comes only where the host isn't steady; every other answer leaves the
+-- count
+pub record Causes {A : Type 0} (steady : Bool) (before now : ℕ)
+    (result : Result A HostError) : Type 0 where
   pub counted : CauseBy steady before now result
 
 -- ---- scripts

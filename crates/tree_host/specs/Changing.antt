@@ -4,7 +4,10 @@ use Rattle.tree_model.specs.declared.attributes.Stamp.{Stamp}
 use Rattle.tree_model.specs.declared.attributes.HostError.{HostError}
 use Rattle.tree_model.specs.declared.attributes.HostError.TheVariants.{Errno, Fault, NoMemory}
 use Rattle.tree_model.specs.Tree.{Tree, Record, Body}
-use Rattle.tree_model.specs.Attributing.{restamped, never, touch_ctime_of, remoded, refused_for_link, set_mode_of, owned_by, set_owner_of, retimed, times_refused, set_times_of, resized, rewritten_at, len_refused, set_len_of}
+use Rattle.tree_model.specs.Attributing.{restamped, never, touch_ctime_of, remoded}
+use Rattle.tree_model.specs.Attributing.{refused_for_link, set_mode_of, owned_by, set_owner_of}
+use Rattle.tree_model.specs.Attributing.{retimed, times_refused, set_times_of, resized}
+use Rattle.tree_model.specs.Attributing.{rewritten_at, len_refused, set_len_of}
 use Rattle.tree_host.specs.declared.change.Change.{Change}
 use Rattle.tree_host.specs.declared.change.Change.TheVariants.{Ctime, Mode, Owner, Times, Len}
 
@@ -46,6 +49,7 @@ MakesBy refused made old new (Err (Errno e)) = (refused ≡ Some e) × (new ≡ 
 MakesBy refused made old new (Err Fault) = ⊥
 MakesBy refused made old new (Err NoMemory) = new ≡ old
 
--- what changes is as it is to be, or, after a refusal or where memory is wanted, as it was
-pub record Makes {X : Type 0} (refused : Option ℕ) (made old new : X) (result : Result (Unit {0}) HostError) : Type 0 where
+-- what changes is as it is to be, or, after a refusal or when out of memory, as it was
+pub record Makes {X : Type 0} (refused : Option ℕ) (made old new : X)
+    (result : Result (Unit {0}) HostError) : Type 0 where
   pub exactly : MakesBy refused made old new result

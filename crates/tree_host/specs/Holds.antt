@@ -20,4 +20,5 @@ held_more h i = map.insert h i (hold_count h i + 1)
 
 -- one hold less: the last takes the inode away
 abbrev pub held_less : Holds → ℕ → Holds
-held_less h i = if nat_lt 1 (hold_count h i) then map.insert h i (hold_count h i - 1) else map.remove h i
+held_less h i = if nat_lt 1 (hold_count h i) then map.insert h i (hold_count h i - 1)
+    else map.remove h i

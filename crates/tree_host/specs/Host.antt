@@ -36,16 +36,21 @@ LeavesBy told old new (Err (Errno e)) = (told ≡ Err e) × (new ≡ old)
 LeavesBy told old new (Err Fault) = new ≡ old
 LeavesBy told old new (Err NoMemory) = new ≡ old
 
--- an answer and the new tree, or a refusal, are those that a definition gives; after every error the tree is as it was
-pub record Leaves {A : Type 0} (told : Result (A × Tree) ℕ) (old new : Tree) (result : Result A HostError) : Type 0 where
+-- an answer and the new tree, or a refusal, are those that a definition gives; after every error
+-- the tree is as it was
+pub record Leaves {A : Type 0} (told : Result (A × Tree) ℕ) (old new : Tree)
+    (result : Result A HostError) : Type 0 where
   pub exactly : LeavesBy told old new result
 
 abbrev pub ReadsBy : Result (List ℕ) ℕ → List ℕ → List ℕ → Result ℕ HostError → Type 0
-ReadsBy told old new (Ok n) = (told ≡ Ok (take n new)) × (n ≤ length new) × (drop n new ≡ drop n old)
+ReadsBy told old new (Ok n) = (told ≡ Ok (take n new)) × (n ≤ length new)
+    × (drop n new ≡ drop n old)
 ReadsBy told old new (Err (Errno e)) = (told ≡ Err e) × (new ≡ old)
 ReadsBy told old new (Err Fault) = new ≡ old
 ReadsBy told old new (Err NoMemory) = new ≡ old
 
--- the bytes that a definition gives stand at the front of a buffer, whose rest is as it was; or the refusal is the definition's
-pub record Reads (told : Result (List ℕ) ℕ) (old new : List ℕ) (result : Result ℕ HostError) : Type 0 where
+-- the bytes that a definition gives stand at the front of a buffer, whose rest is as it was; or
+-- the refusal is the definition's
+pub record Reads (told : Result (List ℕ) ℕ) (old new : List ℕ) (result : Result ℕ HostError) : Type
+    0 where
   pub exactly : ReadsBy told old new result

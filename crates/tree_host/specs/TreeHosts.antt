@@ -66,6 +66,7 @@ new_file mode uid gid bytes = record { mode = mode; uid = uid; gid = gid; bytes 
 -- the first refusal of what is added, or its number and the tree with it
 abbrev pub add_of : Stamp → Tree → ℕ → List ℕ → NewItem → Result (ℕ × Tree) ℕ
 add_of stamp t dir name (Dir mode uid gid) = add_directory_of stamp t dir name mode uid gid
-add_of stamp t dir name (File mode uid gid bytes) = add_file_of stamp t dir name (new_file mode uid gid bytes.now)
+add_of stamp t dir name (File mode uid gid bytes) =
+    add_file_of stamp t dir name (new_file mode uid gid bytes.now)
 add_of stamp t dir name (Link uid gid target) = add_link_of stamp t dir name uid gid target.now
 add_of stamp t dir name (Hard ino) = add_hard_of t dir name ino

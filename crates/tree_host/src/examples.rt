@@ -3,7 +3,8 @@
 //! bytes.
 ghost use Rattle.std.specs.Prelude.{◌≡◌, true, false, Ok, Err, Some, None, [], ◌∷◌, codes};
 ghost use Rattle.std.specs.FinMap.{empty};
-ghost use Rattle.port_base.specs.declared.errno.TheConstants.{EEXIST, EFBIG, ENOENT, ENOTDIR, EOPNOTSUPP, EPERM};
+ghost use Rattle.port_base.specs.declared.errno.TheConstants.{EEXIST, EFBIG, ENOENT, ENOTDIR};
+ghost use Rattle.port_base.specs.declared.errno.TheConstants.{EOPNOTSUPP, EPERM};
 ghost use Rattle.tree_model.specs.Samples.{born, sample, hello};
 ghost use Rattle.tree_model.specs.Tree.Body.{File, Link};
 ghost use Rattle.tree_model.specs.Placing.{with_record, with_link, directory_record};
@@ -34,14 +35,17 @@ pub fn walking()
     ensures file { walk_of sample.records (codes "/hello/") ≡ Err ENOTDIR }
     ensures missing { walk_of sample.records (codes "/b") ≡ Err ENOENT }
     ensures below { walk_of sample.records (codes "/hello/b") ≡ Err ENOTDIR }
-    ensures place { place_among (codes "b") (record { cookie = 1; name = hello; ino = 2 } ∷ record { cookie = 2; name = codes "b"; ino = 3 } ∷ []) ≡ Some 1 }
-    ensures no_place { place_among (codes "B") (record { cookie = 2; name = codes "b"; ino = 3 } ∷ []) ≡ None }
+    ensures place { place_among (codes "b") (record { cookie = 1; name = hello; ino = 2 }
+        ∷ record { cookie = 2; name = codes "b"; ino = 3 } ∷ []) ≡ Some 1 }
+    ensures no_place { place_among (codes "B") (record { cookie = 2; name = codes "b"; ino = 3 }
+        ∷ []) ≡ None }
 {}
 
 /// Changes of the file's record, and what refuses them.
 #[tactic(auto, using(crate::proofs::Sampling::mode_changed, crate::proofs::Sampling::too_long))]
 pub fn changing()
-    ensures mode { change_of (Mode 384) sample 2 ≡ Ok (tt, with_changed (changed_by (Mode 384) born) 2 sample) }
+    ensures mode { change_of (Mode 384) sample 2
+        ≡ Ok (tt, with_changed (changed_by (Mode 384) born) 2 sample) }
     ensures long { change_of (Len 9) sample 2 ≡ Err EFBIG }
     ensures long_body { change_refused (Len 9) 8 (File hello) ≡ Some EFBIG }
     ensures link { change_refused (Mode 384) 8 (Link hello) ≡ Some EOPNOTSUPP }
@@ -52,8 +56,10 @@ pub fn changing()
 /// A directory beside the file, a further name of the file, and what is refused.
 #[tactic(auto, using(crate::proofs::Sampling::directory_added, crate::proofs::Sampling::name_added, crate::proofs::Sampling::name_there, crate::proofs::Sampling::of_directory))]
 pub fn adding()
-    ensures directory { add_of born sample 1 (codes "d") (Dir 493 0 0) ≡ Ok (3, with_record sample 1 (codes "d") (directory_record born 493 0 0 1)) }
-    ensures name { add_of born sample 1 (codes "b") (Hard 2) ≡ Ok (2, with_link sample 1 (codes "b") 2) }
+    ensures directory { add_of born sample 1 (codes "d") (Dir 493 0 0)
+        ≡ Ok (3, with_record sample 1 (codes "d") (directory_record born 493 0 0 1)) }
+    ensures name { add_of born sample 1 (codes "b") (Hard 2)
+        ≡ Ok (2, with_link sample 1 (codes "b") 2) }
     ensures there { add_of born sample 1 hello (Hard 2) ≡ Err EEXIST }
     ensures of_directory { add_of born sample 1 (codes "b") (Hard 1) ≡ Err EPERM }
 {}

@@ -1,12 +1,15 @@
 //! What serves a tree of files.
-ghost use Rattle.std.specs.Prelude.{◌≡◌, ◌≢◌, ◌-◌, ◌^◌, ◌<◌, ℕ, Bool, Option, All, length, IfOk, IfErr, OnErr, Some, None, Ok, Err, slice_get};
+ghost use Rattle.std.specs.Prelude.{◌≡◌, ◌≢◌, ◌-◌, ◌^◌, ◌<◌, ℕ, Bool, true, Option, length, IfOk};
+ghost use Rattle.std.specs.Prelude.{IfErr, OnErr, None, Ok, Err};
 ghost use Rattle.port_base.specs.Names.{name_fault};
+ghost use Rattle.port_base.specs.Paths.{is_rooted_path};
 ghost use Rattle.tree_model.specs.Tree.{Tree, keep};
 ghost use Rattle.tree_model.specs.Good.{IsGoodTree};
 ghost use Rattle.tree_model.specs.Finding.{root_of, path_names, lookup_of};
 ghost use Rattle.std.specs.Result.{result_map_both};
 ghost use Rattle.tree_model.specs.Attributes.{stat_of, statfs_of};
-ghost use Rattle.tree_model.specs.Attributing.{touch_ctime_of, set_mode_of, set_owner_of, set_times_of, set_len_of, write_of};
+ghost use Rattle.tree_model.specs.Attributing.{touch_ctime_of, set_mode_of, set_owner_of};
+ghost use Rattle.tree_model.specs.Attributing.{set_times_of, set_len_of, write_of};
 ghost use Rattle.tree_model.specs.Reading.{entry_after_of};
 ghost use Rattle.tree_model.specs.Creating.{create_of, mkdir_of, link_of};
 ghost use Rattle.tree_model.specs.Unlinking.{unlink_of, rmdir_of};
@@ -33,11 +36,10 @@ pub trait Host {
     /// How many faults were counted, whether no call faults, and, where it is told, which calls do.
     ghost calls: { Self → Calls };
 
-    /// The directory at the end of an absolute path, which gets a hold. ENOTDIR where the record
-    /// so far, or the last, is no directory; ENOENT where it has no such entry.
+    /// The directory at the end of a rooted path, which gets a hold. ENOTDIR where the record so
+    /// far, or the last, is no directory; ENOENT where it has no such entry.
     fn attach_path(&mut self, path: &[u8]) -> Result<u64, HostError>
-        requires absolute { slice_get path.now 0 ≡ Some 47 }
-        requires named { All (λ name. name_fault name ≡ None) (path_names path.now) }
+        requires rooted { is_rooted_path path.now ≡ true }
         requires room { (i : ℕ) → hold_count (holds self.old) i < 2 ^ 64 - 1 }
         ensures answer { Answers (root_of (tree self.old) (path_names path.now)) result }
         ensures tree { tree self.new ≡ tree self.old }

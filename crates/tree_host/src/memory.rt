@@ -4,17 +4,17 @@ ghost use Rattle.tree_model.specs.GoodLaws.{IsGoodTree-prop};
 ghost use Rattle.tree_host.specs.Host.{IsHeldIn};
 ghost use Rattle.tree_host.specs.Kept.{tree_from};
 
-mod adding;
+mod additions;
 #[cfg(test)]
 mod call_tests;
-mod changing;
-mod creating;
+mod changes;
+mod creations;
+mod moves;
 mod readers;
-mod renaming;
+mod removals;
 #[cfg(test)]
 mod tests;
-mod unlinking;
-mod writing;
+mod writes;
 
 use crate::Entry;
 use crate::change::Change;
@@ -75,7 +75,8 @@ pub struct TreeHost {
 }
 
 impl TreeHost {
-    ghost use Rattle.std.specs.Prelude.{◌≡◌, ◌≢◌, ◌<◌, ◌++◌, [], IfOk, OnOk, OnErr, IsSome, true, None, Err};
+    ghost use Rattle.std.specs.Prelude.{◌≡◌, ◌≢◌, ◌<◌, ◌++◌, [], IfOk, OnOk, OnErr, IsSome, true};
+    ghost use Rattle.std.specs.Prelude.{None, Err};
     ghost use Rattle.port_base.specs.Failing.{first_calls};
     ghost use Rattle.port_base.specs.Names.{name_fault};
     ghost use Rattle.std.specs.FinMap as map;
@@ -83,7 +84,8 @@ impl TreeHost {
     ghost use Rattle.tree_model.specs.Making.{new_tree};
     ghost use Rattle.tree_host.specs.Calls.{scripted};
     ghost use Rattle.tree_host.specs.Host.{Leaves};
-    ghost use Rattle.tree_host.specs.TreeHosts.{tree, holds, birth, calls, script, faults, IsGoodItem, IsStoredItem, add_of};
+    ghost use Rattle.tree_host.specs.TreeHosts.{tree, holds, birth, calls, script, faults};
+    ghost use Rattle.tree_host.specs.TreeHosts.{IsGoodItem, IsStoredItem, add_of};
 
     /// A tree of the top directory alone, inode 1, whose times are `born`. What is added is born
     /// then too, and what changes is stamped with `moment`.

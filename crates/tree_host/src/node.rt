@@ -1,5 +1,7 @@
 //! Records as they are kept in memory.
-ghost use Rattle.std.specs.Prelude.{◌≡◌, ◌+◌, ◌-◌, ◌^◌, ◌<◌, ◌++◌, ◌∷◌, [], not, ◌==◌, Some, IfOk, OnOk, OnErr, option_copied, option_and_then, bytes_eq, false, length, take, drop};
+ghost use Rattle.std.specs.Prelude.{◌≡◌, ◌+◌, ◌-◌, ◌^◌, ◌<◌, ◌++◌, ◌∷◌, [], not, ◌==◌, Some, IfOk};
+ghost use Rattle.std.specs.Prelude.{OnOk, OnErr, option_copied, option_and_then, bytes_eq, false};
+ghost use Rattle.std.specs.Prelude.{length, take, drop};
 ghost use Rattle.tree_model.specs.Tree.{is_directory};
 ghost use Rattle.tree_model.specs.Finding.{entry_named, entries_of, ino_among};
 ghost use Rattle.tree_model.specs.Attributes.{attr_of};
@@ -8,13 +10,13 @@ ghost use Rattle.tree_model.specs.Making.{joined_by, next_cookie, new_name_refus
 ghost use Rattle.tree_host.specs.Host.{as_errno};
 ghost use Rattle.tree_host.specs.Stored.{body_of};
 
-mod changing;
-mod making;
-mod opening;
-mod stamping;
-mod unlinking;
+mod changes;
+mod reads;
+mod records;
+mod removals;
+mod stamps;
 
-pub use changing::fitting;
+pub use changes::fitting;
 use port_base::errno::{EEXIST, ENOENT, ENOSPC, ENOTDIR};
 use std::alloc::{AllocError, Global};
 use std::marker::Model;

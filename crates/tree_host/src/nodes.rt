@@ -1,5 +1,7 @@
 //! Records in a table, by inode number.
-ghost use Rattle.std.specs.Prelude.{◌≡◌, ◌≢◌, ◌==◌, not, Result, Ok, None, ℕ, ◌+◌, ◌-◌, ◌^◌, ◌<◌, OnOk, OnErr, IfOk, IfErr, Err, IsSome, IsTrue, option_map, unwrap_or, false};
+ghost use Rattle.std.specs.Prelude.{◌≡◌, ◌≢◌, ◌==◌, not, Result, Ok, None, ℕ, ◌+◌, ◌-◌, ◌^◌, ◌<◌};
+ghost use Rattle.std.specs.Prelude.{OnOk, OnErr, IfOk, IfErr, Err, IsSome, IsTrue, option_map};
+ghost use Rattle.std.specs.Prelude.{unwrap_or, false};
 ghost use Rattle.std.specs.List.{slice_split};
 ghost use Rattle.std.specs.FinMap as map;
 ghost use Rattle.std.specs.Result.{result_map_both};
@@ -11,7 +13,8 @@ ghost use Rattle.tree_host.specs.Holds.{is_held};
 ghost use Rattle.tree_host.specs.Host.{as_errno, Answers};
 ghost use Rattle.tree_model.specs.Reading.{shown_entry, entry_after_among};
 ghost use Rattle.tree_host.specs.Walking.{part_step, part_end, walk_parts};
-ghost use Rattle.tree_model.specs.Opening.{body_answer, unless, open_refused, readlink_body, found_at};
+ghost use Rattle.tree_model.specs.Opening.{body_answer, unless, open_refused, readlink_body};
+ghost use Rattle.tree_model.specs.Opening.{found_at};
 ghost use Rattle.tree_model.specs.Attributes.{kind_of};
 ghost use Rattle.tree_model.specs.Placing.{link_refused, one_link_more};
 ghost use Rattle.tree_host.specs.Stored.{links};
@@ -21,22 +24,22 @@ ghost use Rattle.tree_model.specs.Attributing.{refused_at, write_refused, overwr
 ghost use Rattle.tree_model.specs.declared.attributes.Limits.{Limits};
 ghost use Rattle.tree_model.specs.declared.attributes.Stamp.{Stamp};
 
-mod creating;
-mod renaming;
-mod unlinking;
+mod creations;
+mod moves;
+mod removals;
 
 use crate::change::Change;
 use crate::entry::Entry;
 use crate::holds::is_held;
 use crate::node::{DirEntry, Node};
-pub use creating::{create_node, link_node, make_node};
+pub use creations::{create_node, link_node, make_node};
+pub use moves::{found, move_entry, move_refusal, sweep_replaced};
 use port_base::errno::{ENOENT, ENOTDIR};
 use port_base::table::Table;
-pub use renaming::{found, move_entry, move_refusal, sweep_replaced};
+pub use removals::{find_empty, find_file, remove_entry};
 use std::alloc::{AllocError, Global};
 use tree_model::attributes::TOP;
 use tree_model::{HostError, Limits, Stamp};
-pub use unlinking::{find_empty, find_file, remove_entry};
 
 /// The inode that a name of a directory names.
 pub fn find_in(nodes: &Table<Node>, dir: u64, name: &[u8]) -> Result<u64, HostError>
@@ -213,7 +216,7 @@ fn push_into(
     }
 }
 
-/// Adds a record with an entry for it. What was added is taken away again where memory is wanted.
+/// Adds a record with an entry for it. When out of memory, what was added is taken away again.
 pub fn add_node(
     alloc: Global,
     nodes: &mut Table<Node>,
@@ -331,7 +334,8 @@ pub fn entry_after(
     dir: u64,
     cookie: u64,
 ) -> Result<Option<Entry>, HostError>
-    ensures answer { Answers (entry_after_among nodes.now cookie (entries_at nodes.now dir)) result }
+    ensures answer { Answers (entry_after_among nodes.now cookie (entries_at nodes.now dir))
+        result }
     ensures fault { result ≢ Err HostError.Fault }
 {
     let Some(node) = nodes.get(dir) else {

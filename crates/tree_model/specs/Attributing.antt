@@ -1,5 +1,7 @@
 -- Calls on the attributes and the bytes of one record.
-use Rattle.std.specs.Prelude.{ℕ, ◌+◌, ◌-◌, ◌%◌, Bool, true, not, ◌&&◌, ◌==◌, List, ◌++◌, length, take, drop, replicate, Option, Some, None, Result, if◌then◌else◌, nat_le, nat_lt, unwrap_or}
+use Rattle.std.specs.Prelude.{ℕ, ◌+◌, ◌-◌, ◌%◌, Bool, true, not, ◌&&◌, ◌==◌, List, ◌++◌, length}
+use Rattle.std.specs.Prelude.{take, drop, replicate, Option, Some, None, Result, if◌then◌else◌}
+use Rattle.std.specs.Prelude.{nat_le, nat_lt, unwrap_or}
 use Rattle.port_base.specs.declared.errno.TheConstants.{ENOENT, EISDIR, EINVAL, EFBIG, EOPNOTSUPP}
 use Rattle.tree_model.specs.declared.attributes.Stamp.{Stamp}
 use Rattle.tree_model.specs.declared.attributes.TimeSet.{TimeSet}

@@ -1,5 +1,7 @@
 -- Names and paths in a tree.
-use Rattle.std.specs.Prelude.{ℕ, ◌+◌, Bool, false, ◌&&◌, not, List, [], ◌∷◌, length, filter, find as first_where, Option, Some, None, Result, Ok, Err, option_and_then, if◌then◌else◌, ◌==◌, nat_le, bytes_eq, map, is_some}
+use Rattle.std.specs.Prelude.{ℕ, ◌+◌, Bool, false, ◌&&◌, not, List, [], ◌∷◌, length, filter}
+use Rattle.std.specs.Prelude.{find as first_where, Option, Some, None, Result, Ok, Err}
+use Rattle.std.specs.Prelude.{option_and_then, if◌then◌else◌, ◌==◌, nat_le, bytes_eq, map, is_some}
 use Rattle.std.specs.List.{slice_split}
 use Rattle.port_base.specs.declared.errno.TheConstants.{ENOENT, ENOTDIR}
 use Rattle.tree_model.specs.Tree.{Tree, Records, Body, DirEntry, TOP, body_at, is_directory_at}

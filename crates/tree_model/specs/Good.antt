@@ -1,12 +1,15 @@
 -- Trees as they are at every moment.
-use Rattle.std.specs.Prelude.{◌≡◌, ◌≢◌, ◌⊎◌, ℕ, zero, suc, ◌+◌, ◌<◌, ◌≤◌, Bool, false, not, List, [], ◌∷◌, length, All, AllPairs, Contains, Some, None, if◌then◌else◌, ◌==◌, IsTrue, IsSome, IfSome}
+use Rattle.std.specs.Prelude.{◌≡◌, ◌≢◌, ◌⊎◌, ℕ, zero, suc, ◌+◌, ◌<◌, ◌≤◌, Bool, false, not, List}
+use Rattle.std.specs.Prelude.{[], ◌∷◌, length, All, AllPairs, Contains, Some, None, if◌then◌else◌}
+use Rattle.std.specs.Prelude.{◌==◌, IsTrue, IsSome, IfSome}
 use Rattle.std.specs.List.{list_any}
 use Rattle.std.specs.Str.{is_utf8}
 use Rattle.std.specs.FinMap as map
 use Rattle.port_base.specs.Names.{name_fault}
 use Rattle.tree_model.specs.declared.attributes.Stamp.{Stamp}
 use Rattle.tree_model.specs.declared.attributes.Limits.{Limits}
-use Rattle.tree_model.specs.Tree.{Tree, Record, Records, Body, DirEntry, TOP, body_at, listed, is_directory, is_directory_at, names_in, name_count, is_linked}
+use Rattle.tree_model.specs.Tree.{Tree, Record, Records, Body, DirEntry, TOP, body_at, listed}
+use Rattle.tree_model.specs.Tree.{is_directory, is_directory_at, names_in, name_count, is_linked}
 use Rattle.tree_model.specs.Tree.Body.{File, Directory, Link}
 
 -- nanoseconds are below a second
@@ -68,7 +71,8 @@ pub record IsGoodTree (t : Tree) : Type 0 where
   pub numbers : (i : ℕ) (r : Record) → IsAt t.records i r → (1 ≤ i) × (i < t.next)
   pub records : (i : ℕ) (r : Record) → IsAt t.records i r → IsGoodRecord r
   -- entries name stored records, and none the top
-  pub entries : (i : ℕ) (r : Record) (e : DirEntry) → IsAt t.records i r → Contains (listed r.body) e
+  pub entries : (i : ℕ) (r : Record) (e : DirEntry) → IsAt t.records i r → Contains (listed r.body)
+      e
       → IsSome (map.get t.records e.ino) × (e.ino ≢ TOP)
   pub links : (i : ℕ) (r : Record) → IsAt t.records i r
       → r.links ≡ links_of r.body (name_count t.records i) (is_linked t.records i)

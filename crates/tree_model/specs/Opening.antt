@@ -1,15 +1,19 @@
 -- What is opened, and what is read of it.
-use Rattle.std.specs.Prelude.{ℕ, Bool, true, false, ◌&&◌, ◌||◌, List, [], ◌∷◌, Option, Some, None, Result, Ok, Err, if◌then◌else◌, ◌==◌, option_map, unwrap_or}
+use Rattle.std.specs.Prelude.{ℕ, Bool, true, false, ◌&&◌, ◌||◌, List, [], ◌∷◌, Option, Some, None}
+use Rattle.std.specs.Prelude.{Result, Ok, Err, if◌then◌else◌, ◌==◌, option_map, unwrap_or}
 use Rattle.std.specs.Result.{result_ok}
-use Rattle.port_base.specs.declared.errno.TheConstants.{ENOENT, EEXIST, ENOTDIR, EISDIR, EINVAL, ELOOP}
-use Rattle.port_base.specs.declared.oflag.TheConstants.{O_WRONLY, O_RDWR, O_ACCMODE, O_CREAT, O_EXCL, O_TRUNC, O_DIRECTORY}
+use Rattle.port_base.specs.declared.errno.TheConstants.{ENOENT, EEXIST, ENOTDIR, EISDIR, EINVAL}
+use Rattle.port_base.specs.declared.errno.TheConstants.{ELOOP}
+use Rattle.port_base.specs.declared.oflag.TheConstants.{O_WRONLY, O_RDWR, O_ACCMODE, O_CREAT}
+use Rattle.port_base.specs.declared.oflag.TheConstants.{O_EXCL, O_TRUNC, O_DIRECTORY}
 use Rattle.port_base.specs.OpenFlags.{access, has_flag}
 use Rattle.tree_model.specs.declared.attributes.Kind.{Kind}
 use Rattle.tree_model.specs.declared.attributes.Kind.TheVariants as kind
 use Rattle.tree_model.specs.Tree.{Tree, Body, body_at, TOP}
 use Rattle.tree_model.specs.Tree.Body.{File, Directory, Link}
 use Rattle.tree_model.specs.Attributes.{kind_of}
-use Rattle.tree_model.specs.Finding.{walk_step}
+use Rattle.port_base.specs.Paths.{is_rooted_path}
+use Rattle.tree_model.specs.Finding.{path_names, walk_step}
 use Rattle.tree_model.specs.Reading.{part}
 
 -- what the body at an inode answers; an inode that is held has one
@@ -94,3 +98,7 @@ walk_to t at (name ∷ names) = walk_to t (walk_step t name at) names
 -- the inode at the end of a path of names from the top, if there is one
 abbrev pub found_at : Tree → List (List ℕ) → Option ℕ
 found_at t names = result_ok (walk_to t (Ok TOP) names)
+
+-- the inode at the end of a rooted path; another path leads nowhere
+abbrev pub at_path : Tree → List ℕ → Option ℕ
+at_path t path = if is_rooted_path path then found_at t (path_names path) else None

@@ -1,10 +1,13 @@
 -- Records and entries that are added to a tree.
-use Rattle.std.specs.Prelude.{◌≡◌, ℕ, ◌+◌, ◌-◌, ◌^◌, Bool, true, not, ◌||◌, List, [], length, Option, Some, None, Result, if◌then◌else◌, ◌==◌, nat_le, is_some}
+use Rattle.std.specs.Prelude.{◌≡◌, ℕ, ◌+◌, ◌-◌, ◌^◌, Bool, true, not, ◌||◌, List, [], length}
+use Rattle.std.specs.Prelude.{Option, Some, None, Result, if◌then◌else◌, ◌==◌, nat_le, is_some}
 use Rattle.std.specs.FinMap as map
-use Rattle.port_base.specs.declared.errno.TheConstants.{EPERM, ENOENT, EEXIST, ENOTDIR, ENOSPC, EMLINK}
+use Rattle.port_base.specs.declared.errno.TheConstants.{EPERM, ENOENT, EEXIST, ENOTDIR, ENOSPC}
+use Rattle.port_base.specs.declared.errno.TheConstants.{EMLINK}
 use Rattle.tree_model.specs.declared.attributes.Stamp.{Stamp}
 use Rattle.tree_model.specs.declared.attributes.Limits.{Limits}
-use Rattle.tree_model.specs.Tree.{Tree, Record, Body, DirEntry, body_at, listed, is_directory, is_linked}
+use Rattle.tree_model.specs.Tree.{Tree, Record, Body, DirEntry, body_at, listed, is_directory}
+use Rattle.tree_model.specs.Tree.{is_linked}
 use Rattle.tree_model.specs.Tree.Body.{Directory, Link}
 use Rattle.tree_model.specs.Good.{IsGoodRecord, links_of}
 use Rattle.tree_model.specs.Finding.{entry_named}

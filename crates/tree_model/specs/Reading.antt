@@ -1,5 +1,6 @@
 -- What is read of a tree, in order.
-use Rattle.std.specs.Prelude.{ℕ, Bool, true, false, List, [], take, drop, find, nat_lt, Option, Some, None, Result, Ok, Err, option_map, option_and_then, unwrap_or}
+use Rattle.std.specs.Prelude.{ℕ, Bool, true, false, List, [], take, drop, find, nat_lt, Option}
+use Rattle.std.specs.Prelude.{Some, None, Result, Ok, Err, option_map, option_and_then, unwrap_or}
 use Rattle.std.specs.FinMap as map
 use Rattle.port_base.specs.Tables.{next_after}
 use Rattle.port_base.specs.declared.errno.TheConstants.{ENOTDIR}

@@ -1,9 +1,13 @@
 -- A name that moves.
-use Rattle.std.specs.Prelude.{ℕ, zero, suc, ◌^◌, ◌-◌, Bool, true, false, not, ◌&&◌, ◌||◌, List, length, Option, None, Some, Result, Ok, Err, if◌then◌else◌, ◌==◌, nat_le, option_map, unwrap_or, is_some}
+use Rattle.std.specs.Prelude.{ℕ, zero, suc, ◌^◌, ◌-◌, Bool, true, false, not, ◌&&◌, ◌||◌, List}
+use Rattle.std.specs.Prelude.{length, Option, None, Some, Result, Ok, Err, if◌then◌else◌, ◌==◌}
+use Rattle.std.specs.Prelude.{nat_le, option_map, unwrap_or, is_some}
 use Rattle.std.specs.Result.{result_ok}
-use Rattle.port_base.specs.declared.errno.TheConstants.{ENOENT, ENOTDIR, EISDIR, EINVAL, ENOSPC, ENOTEMPTY}
+use Rattle.port_base.specs.declared.errno.TheConstants.{ENOENT, ENOTDIR, EISDIR, EINVAL, ENOSPC}
+use Rattle.port_base.specs.declared.errno.TheConstants.{ENOTEMPTY}
 use Rattle.tree_model.specs.declared.attributes.Stamp.{Stamp}
-use Rattle.tree_model.specs.Tree.{Tree, Record, Records, Body, TOP, body_at, listed, is_directory_at, is_linked, keep}
+use Rattle.tree_model.specs.Tree.{Tree, Record, Records, Body, TOP, body_at, listed}
+use Rattle.tree_model.specs.Tree.{is_directory_at, is_linked, keep}
 use Rattle.tree_model.specs.Tree.Body.{File, Directory, Link}
 use Rattle.tree_model.specs.Finding.{lookup_of}
 use Rattle.tree_model.specs.Making.{joined_by, next_cookie, unless_refused}

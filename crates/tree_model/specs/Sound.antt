@@ -1,5 +1,6 @@
 -- What is stored: what is linked or held, and nothing else.
-use Rattle.std.specs.Prelude.{◌≡◌, ◌≢◌, ◌||◌, ◌&&◌, not, ℕ, ◌<◌, Bool, true, false, [], ◌==◌, if◌then◌else◌, Option, Some, None, IsSome, IsTrue}
+use Rattle.std.specs.Prelude.{◌≡◌, ◌≢◌, ◌||◌, ◌&&◌, not, ℕ, ◌<◌, Bool, true, false, [], ◌==◌}
+use Rattle.std.specs.Prelude.{if◌then◌else◌, Option, Some, None, IsSome, IsTrue}
 use Rattle.std.specs.FinMap as map
 use Rattle.tree_model.specs.Tree.{Record, Records, listed, is_directory, name_count, is_linked, TOP}
 use Rattle.tree_model.specs.Good.{IsAt, links_of}

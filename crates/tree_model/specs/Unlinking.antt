@@ -1,8 +1,10 @@
 -- Entries that go.
-use Rattle.std.specs.Prelude.{ℕ, ◌-◌, Bool, true, not, List, [], ◌∷◌, length, Option, None, Some, Result, Ok, Err, if◌then◌else◌, ◌==◌, bytes_eq}
+use Rattle.std.specs.Prelude.{ℕ, ◌-◌, Bool, true, not, List, [], ◌∷◌, length, Option, None, Some}
+use Rattle.std.specs.Prelude.{Result, Ok, Err, if◌then◌else◌, ◌==◌, bytes_eq}
 use Rattle.port_base.specs.declared.errno.TheConstants.{ENOTDIR, EISDIR, ENOTEMPTY}
 use Rattle.tree_model.specs.declared.attributes.Stamp.{Stamp}
-use Rattle.tree_model.specs.Tree.{Tree, Record, Records, Body, DirEntry, body_at, listed, is_directory, is_directory_at, keep}
+use Rattle.tree_model.specs.Tree.{Tree, Record, Records, Body, DirEntry, body_at, listed}
+use Rattle.tree_model.specs.Tree.{is_directory, is_directory_at, keep}
 use Rattle.tree_model.specs.Making.{change, with_entries, next_cookie}
 use Rattle.tree_model.specs.Finding.{lookup_of}
 

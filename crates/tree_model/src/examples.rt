@@ -2,7 +2,9 @@
 //! bytes.
 ghost use Rattle.std.specs.Prelude.{◌≡◌, ℕ, Bool, true, false, Ok, Err, Some, None, [], ◌∷◌, codes};
 ghost use Rattle.std.specs.FinMap.{insert, empty};
-ghost use Rattle.port_base.specs.declared.errno.TheConstants.{EPERM, ENOENT, EEXIST, ENOTDIR, EISDIR, EINVAL, EFBIG, ENOTEMPTY, ELOOP, EOPNOTSUPP};
+ghost use Rattle.port_base.specs.declared.errno.TheConstants.{EPERM, ENOENT, EEXIST, ENOTDIR};
+ghost use Rattle.port_base.specs.declared.errno.TheConstants.{EISDIR, EINVAL, EFBIG, ENOTEMPTY};
+ghost use Rattle.port_base.specs.declared.errno.TheConstants.{ELOOP, EOPNOTSUPP};
 ghost use Rattle.tree_model.specs.declared.attributes.Kind.TheVariants as kind;
 ghost use Rattle.tree_model.specs.Samples.{born, alone, sample, hello};
 ghost use Rattle.tree_model.specs.Tree.{keep};
@@ -11,13 +13,21 @@ ghost use Rattle.tree_model.specs.Making.{top_record, joined_by};
 ghost use Rattle.tree_model.specs.Finding.{find, lookup_of, root_of};
 ghost use Rattle.tree_model.specs.Reading.{above_of, entry_after_of, next_cookie_of};
 ghost use Rattle.tree_model.specs.Settings.{mapped};
-ghost use Rattle.tree_model.specs.Placing.{add_directory_of, add_link_of, add_hard_of, with_record, with_link, directory_record, link_record};
-ghost use Rattle.tree_model.specs.Attributing.{resized, written, fitting, set_len_of, write_of, set_times_of, refused_for_link, with_changed, retimed, rewritten_at, set_mode_of, remoded, set_owner_of, owned_by, touch_ctime_of, restamped};
-ghost use Rattle.tree_model.specs.Opening.{open_check_of, open_refused, read_of, readlink_of, readlink_body, found_at};
+ghost use Rattle.tree_model.specs.Placing.{add_directory_of, add_link_of, add_hard_of};
+ghost use Rattle.tree_model.specs.Placing.{with_record, with_link, directory_record, link_record};
+ghost use Rattle.tree_model.specs.Attributing.{resized, written, fitting, set_len_of, write_of};
+ghost use Rattle.tree_model.specs.Attributing.{set_times_of, refused_for_link, with_changed};
+ghost use Rattle.tree_model.specs.Attributing.{retimed, rewritten_at, set_mode_of, remoded};
+ghost use Rattle.tree_model.specs.Attributing.{set_owner_of, owned_by, touch_ctime_of, restamped};
+ghost use Rattle.tree_model.specs.Opening.{open_check_of, open_refused, read_of, readlink_of};
+ghost use Rattle.tree_model.specs.Opening.{readlink_body, found_at};
 ghost use Rattle.tree_model.specs.Attributes.{statfs_of, stat_of, qid_of};
-ghost use Rattle.tree_model.specs.Creating.{stamped, with_new, with_name, empty_file, empty_directory, create_of, mkdir_of, link_of};
-ghost use Rattle.tree_model.specs.Unlinking.{without, parted_by, links_left, without_entry, unless_directory, if_empty, unlink_of, rmdir_of};
-ghost use Rattle.tree_model.specs.Renaming.{climbs_past, is_at_or_below, place_refused, has_no_room, placed_below, with_moved, rename_of};
+ghost use Rattle.tree_model.specs.Creating.{stamped, with_new, with_name, empty_file};
+ghost use Rattle.tree_model.specs.Creating.{empty_directory, create_of, mkdir_of, link_of};
+ghost use Rattle.tree_model.specs.Unlinking.{without, parted_by, links_left, without_entry};
+ghost use Rattle.tree_model.specs.Unlinking.{unless_directory, if_empty, unlink_of, rmdir_of};
+ghost use Rattle.tree_model.specs.Renaming.{climbs_past, is_at_or_below, place_refused};
+ghost use Rattle.tree_model.specs.Renaming.{has_no_room, placed_below, with_moved, rename_of};
 ghost use Rattle.tree_model.specs.declared.attributes.TimeSet.TheVariants.{Keep, Now, At};
 
 /// Opens of the file and of the directory, and the kinds that flags refuse.
@@ -246,9 +256,11 @@ pub fn renaming()
     ensures file_is_nowhere { is_at_or_below sample 2 1 ≡ false }
     ensures climb { climbs_past sample.records 2 1 1 ≡ true }
     ensures onto_file { place_refused (Some (Directory [] 1 1)) (Some (File [])) ≡ Some ENOTDIR }
-    ensures onto_directory { place_refused (Some (File [])) (Some (Directory [] 1 1)) ≡ Some EISDIR }
+    ensures onto_directory { place_refused (Some (File [])) (Some (Directory [] 1 1))
+        ≡ Some EISDIR }
     ensures onto_filled { place_refused (Some (Directory [] 1 1))
-        (Some (Directory (record { cookie = 1; name = hello; ino = 2 } ∷ []) 2 1)) ≡ Some ENOTEMPTY }
+        (Some (Directory (record { cookie = 1; name = hello; ino = 2 } ∷ []) 2 1))
+        ≡ Some ENOTEMPTY }
     ensures onto_empty { place_refused (Some (Directory [] 1 1)) (Some (Directory [] 1 1)) ≡ None }
     ensures full { has_no_room 0 true (Directory [] 1 1) ≡ true }
     ensures as_many { has_no_room 0 false (Directory [] 1 1) ≡ false }

@@ -1,16 +1,19 @@
 //! Laws over trees. Each function makes no call: its contract is the law.
-ghost use Rattle.std.specs.Prelude.{◌≡◌, ◌↔◌, ℕ, ◌+◌, ◌<◌, List, Bool, true, Option, Ok, Some, None};
+ghost use Rattle.std.specs.Prelude.{◌≡◌, ◌↔◌, ℕ, ◌+◌, ◌<◌, List, Bool, true, Option, Ok, Some};
+ghost use Rattle.std.specs.Prelude.{None};
 ghost use Rattle.std.specs.FinMap as map;
 ghost use Rattle.port_base.specs.Names.{name_fault};
 ghost use Rattle.tree_model.specs.declared.attributes.TheConstants.{TOP};
 ghost use Rattle.tree_model.specs.Chains.{Leads};
-ghost use Rattle.tree_model.specs.Tree.{Tree, Records, Record, body_at, is_directory_at, is_linked, name_count, names_in, weight, linked, keep};
+ghost use Rattle.tree_model.specs.Tree.{Tree, Records, Record, body_at, is_directory_at};
+ghost use Rattle.tree_model.specs.Tree.{is_linked, name_count, names_in, weight, linked, keep};
 ghost use Rattle.tree_model.specs.Good.{IsGoodTree, IsGoodLimits, IsGoodStamp, IsGoodTarget};
 ghost use Rattle.tree_model.specs.Sound.{IsCounted, AreStored};
 ghost use Rattle.tree_model.specs.Making.{new_tree, NewFile, add_file_of};
 ghost use Rattle.tree_model.specs.Placing.{add_directory_of, add_link_of, add_hard_of};
 ghost use Rattle.tree_model.specs.Attributes.{stat_of};
-ghost use Rattle.tree_model.specs.Attributing.{set_mode_of, set_owner_of, touch_ctime_of, set_times_of, set_len_of, write_of};
+ghost use Rattle.tree_model.specs.Attributing.{set_mode_of, set_owner_of, touch_ctime_of};
+ghost use Rattle.tree_model.specs.Attributing.{set_times_of, set_len_of, write_of};
 ghost use Rattle.tree_model.specs.Unlinking.{unlink_of, rmdir_of};
 ghost use Rattle.tree_model.specs.Renaming.{climbs_past, is_at_or_below, rename_of};
 ghost use Rattle.tree_model.specs.Creating.{create_of, mkdir_of, link_of};

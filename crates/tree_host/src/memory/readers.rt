@@ -7,6 +7,7 @@ ghost use Rattle.tree_host.specs.Kept.{entry_from};
 use super::TreeHost;
 use crate::node::Node;
 use crate::nodes::find;
+use port_base::paths::is_rooted_path;
 use tree_model::Attr;
 
 fn peek(node: &Node, cookie: u64) -> Option<(u64, u64, &[u8])>
@@ -22,9 +23,9 @@ fn peek(node: &Node, cookie: u64) -> Option<(u64, u64, &[u8])>
 impl TreeHost {
     ghost use Rattle.std.specs.Prelude.{◌≡◌, ◌++◌, length, drop, option_map, IsTrue};
     ghost use Rattle.tree_model.specs.Tree.{body_at, is_directory_at};
-    ghost use Rattle.tree_model.specs.Reading.{record_after_of, above_of, next_cookie_of, peek_entry_of, is_file_at, bytes_at, part};
-    ghost use Rattle.tree_model.specs.Finding.{path_names};
-    ghost use Rattle.tree_model.specs.Opening.{is_link_at, target_at, found_at};
+    ghost use Rattle.tree_model.specs.Reading.{record_after_of, above_of, next_cookie_of};
+    ghost use Rattle.tree_model.specs.Reading.{peek_entry_of, is_file_at, bytes_at, part};
+    ghost use Rattle.tree_model.specs.Opening.{at_path, is_link_at, target_at};
     ghost use Rattle.tree_host.specs.TreeHosts.{tree};
 
     /// What is told of the record with the least number above `ino`.
@@ -104,11 +105,14 @@ impl TreeHost {
         }
     }
 
-    /// The inode at the end of a path from the top by exact names, whatever its kind; empty parts
-    /// between slashes lead nowhere else.
+    /// The inode at the end of a rooted path by exact names, whatever its kind. A path that isn't
+    /// rooted leads nowhere.
     pub fn find(&self, path: &[u8]) -> Option<u64>
-        ensures { result ≡ found_at (tree self.now) (path_names path.now) }
+        ensures { result ≡ at_path (tree self.now) path.now }
     {
+        if !is_rooted_path(path) {
+            return None;
+        }
         find(&self.nodes, path)
     }
 }

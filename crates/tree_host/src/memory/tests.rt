@@ -157,9 +157,11 @@ fn paths_are_found(rt: HostRuntime) -> Result<(), Fail> {
     let mut host = TreeHost::new(rt.alloc(), LIMITS, MOMENT, BORN, 0o755, 1, 2)?;
     assert_eq!(rt; put_directory(&rt, &mut host, 1, b"d"), Ok(2));
     assert_eq!(rt; put_link(&rt, &mut host, 2, b"l"), Ok(3));
-    let paths: [(&[u8], Option<u64>); 5] = [
+    let paths: [(&[u8], Option<u64>); 7] = [
         (b"/", Some(1)),
-        (b"//d", Some(2)),
+        (b"/d", Some(2)),
+        (b"//d", None),
+        (b"/d/", None),
         (b"/d/l", Some(3)),
         (b"/d/l/x", None),
         (b"/D", None),
