@@ -4,3 +4,6 @@ pub mod Replies
 pub mod Sampling
 pub mod Moments
 pub mod Parts
+pub mod SessionSampling
+pub mod Entries
+pub mod FileSampling

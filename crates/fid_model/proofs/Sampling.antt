@@ -20,7 +20,7 @@ use Rattle.p9_rmsg.specs.Replies.{Reply}
 use Rattle.p9_rmsg.specs.Replies.Reply.{attach as r_attach, clunk as r_clunk, lerror as r_lerror, lopen as r_lopen, read as r_read, walk as r_walk}
 use Rattle.fid_model.specs.Fids.{Fid, ServerState, closed}
 use Rattle.fid_model.specs.Fids.OpenState.{Opened}
-use Rattle.fid_model.specs.Answers.{core, qid_at, qid_told, attached, Walked, walked_on, walk_names, walk_answer, walk_from, find_unless, lopen_answer, lopen_by, read_by, read_reply, clunk_by, getattr_by}
+use Rattle.fid_model.specs.Answers.{core, qid_at, qid_told, attached, Walked, walked_on, walk_names, walk_answer, walk_from, find_unless, emptied_where, lopen_answer, lopen_by, read_by, read_reply, clunk_by, getattr_by}
 use Rattle.fid_model.specs.Setattr.{IsAfterFront, changes, resize_step, steps_at}
 use Rattle.fid_model.specs.Parts.{IsPartDone}
 use Rattle.fid_model.specs.Samples.{server, with_open, top_qid, file_qid}
@@ -58,6 +58,9 @@ opened_file = record { ino = 2; open_state = Opened 0 false }
 
 pub eight_open : get with_open.fids 8 ≡ Some opened_file
 eight_open = inserted server.fids 8 opened_file
+
+pub seven_with_open : get with_open.fids 7 ≡ Some (closed 1)
+seven_with_open = insert_keeps server.fids 8 opened_file 7 (λ h. absurd (omega (arith, h))) ∙ seven
 
 pub nine_with_open : get with_open.fids 9 ≡ None
 nine_with_open = insert_keeps server.fids 8 opened_file 9 (λ h. absurd (omega (arith, h))) ∙ nine
@@ -141,13 +144,19 @@ walk_unknown = ap (λ o. walk_by 9 [] o (get server.fids 9)) eight ∙ ap (walk_
 
 -- ---- open, read, clunk
 
+abbrev opened_top : ℕ → Result (Unit {0}) ℕ → Answer
+opened_top flags told = lopen_answer server 7 flags (closed 1) (emptied_where told sample 1 flags)
+
 pub open_read : core server (t_lopen 7 0) ≡ (r_lopen top_qid 0, record server { fids = insert server.fids 7 (record { ino = 1; open_state = Opened 0 false }) })
 open_read =
-    ap (lopen_by server 7 0) seven ∙ ap (lopen_answer server 7 0 (closed 1)) (open_top 0)
+    ap (lopen_by server 7 0) seven ∙ ap (opened_top 0) (open_top 0)
     ∙ ap (λ q. (r_lopen q 0, record server { fids = insert server.fids 7 (record { ino = 1; open_state = Opened 0 false }) })) qid_of_top
 
 pub open_written : core server (t_lopen 7 1) ≡ (r_lerror EISDIR, server)
-open_written = ap (lopen_by server 7 1) seven ∙ ap (lopen_answer server 7 1 (closed 1)) (open_top 1)
+open_written = ap (lopen_by server 7 1) seven ∙ ap (opened_top 1) (open_top 1)
+
+pub open_emptied : core server (t_lopen 7 512) ≡ (r_lerror EISDIR, server)
+open_emptied = ap (lopen_by server 7 512) seven ∙ ap (opened_top 512) (open_top 512)
 
 pub open_unknown : core server (t_lopen 9 0) ≡ (r_lerror EBADF, server)
 open_unknown = ap (lopen_by server 9 0) nine

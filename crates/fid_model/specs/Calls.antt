@@ -11,7 +11,8 @@ use Rattle.fid_model.specs.Answers.{qid_at}
 
 -- a new fid names what was found
 abbrev pub named : ServerState → ℕ → Result ℕ ℕ → Result Qid ℕ × ServerState
-named s newfid (Ok i) = (Ok (qid_at s.tree i), record s { fids = map.insert s.fids newfid (closed i) })
+named s newfid (Ok i) =
+    (Ok (qid_at s.tree i), record s { fids = map.insert s.fids newfid (closed i) })
 named s newfid (Err e) = (Err e, s)
 
 -- a walk by one name that has no fault, from an inode to a new fid
@@ -20,7 +21,8 @@ walk_one_told s dir newfid name = named s newfid (find s.settings.casefold s.tre
 
 -- an attach to a server without fids
 abbrev pub attach_told : ServerState → ℕ → Result Qid ℕ × ServerState
-attach_told s fid = if nat_le s.settings.limit 0 then (Err ENFILE, s) else named s fid (root_of s.tree s.settings.root)
+attach_told s fid = if nat_le s.settings.limit 0 then (Err ENFILE, s)
+    else named s fid (root_of s.tree s.settings.root)
 
 -- what is shown of an inode
 abbrev pub getattr_told : ServerState → ℕ → Result Attr ℕ × ServerState

@@ -1,9 +1,9 @@
 -- The state of a 9P server: a tree, and fids that name its inodes.
-use Rattle.std.specs.Prelude.{◌≡◌, ℕ, ◌<◌, ◌≤◌, ◌^◌, Bool, false, cond, not, ◌==◌, nat_lt}
+use Rattle.std.specs.Prelude.{◌≡◌, ℕ, ◌<◌, ◌≤◌, ◌^◌, Bool, true, false, cond, not, ◌==◌, nat_lt}
 use Rattle.std.specs.Ordering.{nat_cmp}
 use Rattle.std.specs.FinMap as map
 use Rattle.std.specs.FinMap.{FinMap}
-use Rattle.port_base.specs.declared.oflag.TheConstants.{O_WRONLY}
+use Rattle.port_base.specs.declared.oflag.TheConstants.{O_RDONLY, O_WRONLY}
 use Rattle.tree_model.specs.Tree.{Tree, weigh, keep}
 use Rattle.tree_model.specs.Good.{IsGoodTree}
 use Rattle.tree_model.specs.Sound.{IsKept, AreStored}
@@ -14,10 +14,25 @@ pub data OpenState : Type 0 where
   Closed : OpenState
   Opened : (access : ℕ) (append : Bool) → OpenState
 
+-- open, in whatever way
+abbrev pub is_open : OpenState → Bool
+is_open Closed = false
+is_open (Opened access append) = true
+
 -- open, and not for writing alone
 abbrev pub is_readable : OpenState → Bool
 is_readable Closed = false
 is_readable (Opened access append) = not (access == O_WRONLY)
+
+-- open, and not for reading alone
+abbrev pub is_writable : OpenState → Bool
+is_writable Closed = false
+is_writable (Opened access append) = not (access == O_RDONLY)
+
+-- what is written goes to the file's end
+abbrev pub appends : OpenState → Bool
+appends Closed = false
+appends (Opened access append) = append
 
 -- what a fid names: an inode, whatever becomes of its names
 pub record Fid : Type 0 where
@@ -60,7 +75,8 @@ kept_state s = record s { tree = keep (is_held s.fids) s.tree }
 abbrev pub cleared : ServerState → ServerState
 cleared s = kept_state (record s { fids = map.empty })
 
--- what each server keeps: its tree is good, a record is stored exactly where it is linked or a fid names it, and every reply has room
+-- what each server keeps: its tree is good, a record is stored exactly where it is linked or a fid
+-- names it, and every reply has room
 pub record IsGoodServer (s : ServerState) : Type 0 where
   pub tree : IsGoodTree s.tree
   pub kept : IsKept s.tree.records (is_held s.fids)

@@ -1,4 +1,9 @@
 pub mod Fids
+pub mod FidCalls
+pub mod TreeCalls
+pub mod Directories
+pub mod Sessions
+pub mod Files
 pub mod Answers
 pub mod Setattr
 pub mod Parts

@@ -3,7 +3,8 @@ use Rattle.std.specs.Prelude.{◌≡◌, ◌⊎◌, Bool, true, false}
 use Rattle.std.specs.FinMap as map
 use Rattle.tree_model.specs.Tree.{Tree}
 use Rattle.p9_tmsg.specs.Messages.{Message}
-use Rattle.p9_tmsg.specs.Messages.Message.{lcreate, link, lopen, mkdir, renameat, setattr, unlinkat, write}
+use Rattle.p9_tmsg.specs.Messages.Message.{lcreate, link, lopen, mkdir, renameat, setattr}
+use Rattle.p9_tmsg.specs.Messages.Message.{unlinkat, write}
 use Rattle.fid_model.specs.Fids.{ServerState}
 use Rattle.fid_model.specs.Answers.{answer}
 use Rattle.fid_model.specs.Setattr.{IsAfterFront, changes, steps_at}
@@ -23,7 +24,9 @@ changes_tree _ = false
 -- the tree as it was, and of a Tsetattr also that after a front part of its steps
 abbrev pub IsFrontDone : ServerState → Message → Tree → Type 0
 IsFrontDone s (setattr fid valid mode uid gid size atime_sec atime_nsec mtime_sec mtime_nsec) t =
-    IsAfterFront (steps_at (changes valid mode uid gid size atime_sec atime_nsec mtime_sec mtime_nsec) (map.get s.fids fid)) s.tree t
+    IsAfterFront
+    (steps_at (changes valid mode uid gid size atime_sec atime_nsec mtime_sec mtime_nsec)
+    (map.get s.fids fid)) s.tree t
 IsFrontDone s _ t = t ≡ s.tree
 
 -- the tree before a message or after it
@@ -33,10 +36,12 @@ IsBeforeOrAfter s m t = (t ≡ s.tree) ⊎ (t ≡ (answer s m).1.tree)
 -- the same, and of another message that changes the tree also that after it
 abbrev pub IsPartDone : ServerState → Message → Tree → Type 0
 IsPartDone s (lopen fid flags) t = IsBeforeOrAfter s (lopen fid flags) t
-IsPartDone s (lcreate fid name flags mode gid) t = IsBeforeOrAfter s (lcreate fid name flags mode gid) t
+IsPartDone s (lcreate fid name flags mode gid) t =
+    IsBeforeOrAfter s (lcreate fid name flags mode gid) t
 IsPartDone s (link dfid fid name) t = IsBeforeOrAfter s (link dfid fid name) t
 IsPartDone s (mkdir dfid name mode gid) t = IsBeforeOrAfter s (mkdir dfid name mode gid) t
-IsPartDone s (renameat olddirfid oldname newdirfid newname) t = IsBeforeOrAfter s (renameat olddirfid oldname newdirfid newname) t
+IsPartDone s (renameat olddirfid oldname newdirfid newname) t =
+    IsBeforeOrAfter s (renameat olddirfid oldname newdirfid newname) t
 IsPartDone s (unlinkat dirfd name flags) t = IsBeforeOrAfter s (unlinkat dirfd name flags) t
 IsPartDone s (write fid offset payload) t = IsBeforeOrAfter s (write fid offset payload) t
 IsPartDone s m t = IsFrontDone s m t

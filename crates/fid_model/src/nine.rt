@@ -11,13 +11,15 @@ use port_base::source::Source;
 
 /// A server of a tree of files, which answers as the fid machine does.
 pub trait Nine {
-    /// The tree, the fids, the greatest size of a frame, and the settings; how often what it stands on has
-    /// failed, and how many messages it was handed, both up to 2^64 - 1; whether no call meets a fault.
+    /// The tree, the fids, the greatest size of a frame, and the settings; how often what it
+    /// stands on has failed, and how many messages it was handed, both up to 2^64 - 1; whether no
+    /// call meets a fault.
     ghost at: { Self → Moment };
 
-    /// Reads one frame and writes one reply. `InvalidData`: a size below 7 or above `msize`, after four bytes.
-    /// `UnexpectedEof`: the reader ended before a whole frame; all that was left is taken. `Read`, `Write`: that
-    /// object failed. `NoMemory`: no reply was written, and nothing changed but steps of a Tsetattr.
+    /// Reads one frame and writes one reply. `InvalidData`: a size below 7 or above `msize`, after
+    /// four bytes. `UnexpectedEof`: the reader ended before a whole frame; all that was left is
+    /// taken. `Read`, `Write`: that object failed. `NoMemory`: no reply was written, and nothing
+    /// changed but steps of a Tsetattr.
     fn handle_message<S: Source, K: Sink>(
         &mut self,
         reader: &mut S,
@@ -25,7 +27,8 @@ pub trait Nine {
     ) -> Result<(), WireError>
         ensures handled { Handled (at self.old) (at self.new)
             (S.left reader.old) (S.left reader.new) (K.sent writer.old) (K.sent writer.new)
-            (S.faults reader.old) (S.faults reader.new) (K.faults writer.old) (K.faults writer.new) result }
+            (S.faults reader.old) (S.faults reader.new) (K.faults writer.old) (K.faults writer.new)
+            result }
         ensures asked { AskedOne (at self.old) (at self.new) }
         ensures stays { Stays (at self.old) (at self.new) }
         ensures reader { S.kept reader.new ≡ S.kept reader.old }

@@ -1,4 +1,5 @@
-//! Tests alone: the client's calls over a server of a tree in memory, and the examples of README.md.
+//! Tests alone: the client's calls over a server of a tree in memory, and the examples of
+//! README.md.
 #![tactic(auto)]
 
 #[cfg(test)]

@@ -63,7 +63,8 @@ fn copied<N: Nine>(alloc: Global, nine: &mut N) -> Result<(), Fail>
 fn opened<N: Nine>(alloc: Global, nine: &mut N) -> Result<(), Fail>
     requires roomy { IsRoomy (N.at nine.old).state }
     requires fids { HasFids 3 (N.at nine.old).state.fids }
-    ensures readable { IfOk result (λ _. is_readable_at (map.get (N.at nine.new).state.fids 3) ≡ true) }
+    ensures readable { IfOk result (λ _. is_readable_at (map.get (N.at nine.new).state.fids 3)
+        ≡ true) }
     ensures kept { Keeps (N.at nine.old) (N.at nine.new) }
 {
     match open(alloc, nine, 3, 0)? {

@@ -33,35 +33,42 @@ pub record Kept (old new : Moment) : Type 0 where
 stays_by : (old new : Moment) → Kept old new → old.faults ≤ new.faults → Steadily old.steady old.faults new.faults → Stays old new
 stays_by old new kept rises steadily = record { fixed = kept.settings; sized = (let same = kept.msize in omega arith); rises = rises; steady = kept.steady; steadily = steadily }
 
-module _ {A : Type 0} (m : Message) (reply : A → Reply) (old new : Moment) (kept : Kept old new) where
-  replied : (told : Reply) (r : Rmessage) → Outcome old.state m told new.state old.faults new.faults → ◌≡◌ {A = Result Reply WireError} (Ok (reply_of r)) (Ok told) → IsSized old.state new.state (reply_of r) → Stays old new → Answered (Ok m) old new (Ok r)
-  replied told r outcome is sized stays = record { answer = (subst (λ (x : Reply). Outcome old.state m x new.state old.faults new.faults) (sym (same_reply r told is)) outcome, sized); stays = stays }
+module _ {A : Type 0} (m : Message) (reply : A → Reply) (old new : Moment) where
+  module _ (stays : Stays old new) where
+    replied : (told : Reply) (r : Rmessage) → Outcome old.state m told new.state old.faults new.faults → ◌≡◌ {A = Result Reply WireError} (Ok (reply_of r)) (Ok told) → IsSized old.state new.state (reply_of r) → Answered (Ok m) old new (Ok r)
+    replied told r outcome is sized = record { answer = (subst (λ (x : Reply). Outcome old.state m x new.state old.faults new.faults) (sym (same_reply r told is)) outcome, sized); stays = stays }
 
-  pub answered_sized : (step : Result A HostError) (result : Result Rmessage WireError) → Steps m reply old new step → result_view reply_of result ≡ reply_told reply step → IfOk result (λ r. IsSized old.state new.state (reply_of r)) → Answered (Ok m) old new result
-  answered_sized (Ok a) (Ok r) s is sized = replied (reply a) r s.answer is sized (stays_by old new kept s.rises s.steadily)
-  answered_sized (Ok a) (Err e) s is sized = absurd (cc)
-  answered_sized (Err (host.Errno n)) (Ok r) s is sized = replied (lerror n) r s.answer is sized (stays_by old new kept s.rises s.steadily)
-  answered_sized (Err (host.Errno n)) (Err e) s is sized = absurd (cc)
-  answered_sized (Err host.Fault) (Ok r) s is sized = replied (lerror 5) r s.answer is sized (stays_by old new kept s.rises s.steadily)
-  answered_sized (Err host.Fault) (Err e) s is sized = absurd (cc)
-  answered_sized (Err host.NoMemory) (Ok r) s is sized = absurd (cc)
-  answered_sized (Err host.NoMemory) (Err e) s is sized = record { answer = (let same : e ≡ NoMemory = cc in same, s.answer); stays = stays_by old new kept s.rises s.steadily }
+    stays_sized : (step : Result A HostError) (result : Result Rmessage WireError) → Steps m reply old new step → result_view reply_of result ≡ reply_told reply step → IfOk result (λ r. IsSized old.state new.state (reply_of r)) → Answered (Ok m) old new result
+    stays_sized (Ok a) (Ok r) s is sized = replied (reply a) r s.answer is sized
+    stays_sized (Ok a) (Err e) s is sized = absurd (cc)
+    stays_sized (Err (host.Errno n)) (Ok r) s is sized = replied (lerror n) r s.answer is sized
+    stays_sized (Err (host.Errno n)) (Err e) s is sized = absurd (cc)
+    stays_sized (Err host.Fault) (Ok r) s is sized = replied (lerror 5) r s.answer is sized
+    stays_sized (Err host.Fault) (Err e) s is sized = absurd (cc)
+    stays_sized (Err host.NoMemory) (Ok r) s is sized = absurd (cc)
+    stays_sized (Err host.NoMemory) (Err e) s is sized = record { answer = (let same : e ≡ NoMemory = cc in same, s.answer); stays = stays }
 
   if_short : (result : Result Rmessage WireError) → 256 ≤ old.state.msize → IfOk result (λ r. IsShort (reply_of r)) → IfOk result (λ r. IsSized old.state new.state (reply_of r))
   if_short (Ok r) roomy short = short_sized old.state new.state (reply_of r) roomy short
   if_short (Err e) roomy short = tt
 
-  -- a short reply
-  pub answered : (step : Result A HostError) (result : Result Rmessage WireError) → 256 ≤ old.state.msize → Steps m reply old new step → result_view reply_of result ≡ reply_told reply step → IfOk result (λ r. IsShort (reply_of r)) → Answered (Ok m) old new result
-  answered step result roomy s is short = answered_sized step result s is (if_short result roomy short)
-
   if_fits : (result : Result Rmessage WireError) → new.state ≡ old.state → IfOk result (λ r. Fits old.state.msize (reply_of r)) → IfOk result (λ r. IsSized old.state new.state (reply_of r))
   if_fits (Ok r) same fits = record { fits = fits; room = inr same }
   if_fits (Err e) same fits = tt
 
-  -- a reply of any length, which leaves the state
-  pub answered_long : (step : Result A HostError) (result : Result Rmessage WireError) → new.state ≡ old.state → Steps m reply old new step → result_view reply_of result ≡ reply_told reply step → IfOk result (λ r. Fits old.state.msize (reply_of r)) → Answered (Ok m) old new result
-  answered_long step result same s is fits = answered_sized step result s is (if_fits result same fits)
+  -- a short reply, where frames may become smaller
+  pub answered_smaller : (step : Result A HostError) (result : Result Rmessage WireError) → 256 ≤ old.state.msize → new.state.settings ≡ old.state.settings → new.state.msize ≤ old.state.msize → new.steady ≡ old.steady
+      → Steps m reply old new step → result_view reply_of result ≡ reply_told reply step → IfOk result (λ r. IsShort (reply_of r)) → Answered (Ok m) old new result
+  answered_smaller step result roomy fixed sized steady s is short = stays_sized (record { fixed = fixed; sized = sized; rises = s.rises; steady = steady; steadily = s.steadily }) step result s is (if_short result roomy short)
+
+  module _ (kept : Kept old new) where
+    -- a short reply
+    pub answered : (step : Result A HostError) (result : Result Rmessage WireError) → 256 ≤ old.state.msize → Steps m reply old new step → result_view reply_of result ≡ reply_told reply step → IfOk result (λ r. IsShort (reply_of r)) → Answered (Ok m) old new result
+    answered step result roomy s is short = stays_sized (stays_by old new kept s.rises s.steadily) step result s is (if_short result roomy short)
+
+    -- a reply of any length, which leaves the state
+    pub answered_long : (step : Result A HostError) (result : Result Rmessage WireError) → new.state ≡ old.state → Steps m reply old new step → result_view reply_of result ≡ reply_told reply step → IfOk result (λ r. Fits old.state.msize (reply_of r)) → Answered (Ok m) old new result
+    answered_long step result same s is fits = stays_sized (stays_by old new kept s.rises s.steadily) step result s is (if_fits result same fits)
 
 pub stays_refl : (old : Moment) → Stays old old
 stays_refl old = record { fixed = refl; sized = omega arith; rises = omega arith; steady = refl; steadily = λ on. refl }

@@ -1,5 +1,9 @@
 pub mod HoldCounts
 pub mod Stepping
+pub mod Asking
+pub mod Sessions
+pub mod Targets
+pub mod Locks
 pub mod Clunking
 pub mod Showing
 pub mod Taking
@@ -12,9 +16,13 @@ pub mod QidLists
 pub mod Sending
 pub mod Releasing
 pub mod Replying
-pub mod RootLaws
 pub mod Emptying
 pub mod Unserved
+pub mod TreeSteps
 pub mod Opening
+pub mod Writes
+pub mod Created
+pub mod Creations
+pub mod Settings
 pub mod Reading
 pub mod Sampling

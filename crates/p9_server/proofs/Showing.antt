@@ -1,5 +1,5 @@
 -- What is shown of an inode that a fid names.
-use Rattle.std.proofs.Common.{◌≡◌, ℕ, ◌<◌, Bool, refl, sym, ap, ◌∙◌, subst, Option, Some, None, Result, Ok, Err, arith}
+use Rattle.std.proofs.Common.{◌≡◌, ℕ, ◌<◌, Bool, refl, sym, ap, ◌∙◌, subst, Option, Some, None, Result, Ok, Err, IsSome, arith}
 use Rattle.std.specs.Result.{IsErrAnd}
 use Rattle.std.proofs.lemmas.Result.{err_from_is_err_and}
 use Rattle.std.specs.FinMap.{get}
@@ -46,6 +46,10 @@ named fids n ino e = named_by (get fids n) ino e
 
 pub unnamed : (fids : Fids) (n : ℕ) (e : HostError) → Err e ≡ ino_told (get fids n) → (get fids n ≡ None) × (e ≡ Errno EBADF)
 unnamed fids n e is = refused_by (get fids n) e is
+
+-- such a fid is there
+pub named_there : (fids : Fids) (n ino : ℕ) → Ok ino ≡ ino_told (get fids n) → IsSome (get fids n)
+named_there fids n ino e = let f = named fids n ino e in subst (λ (o : Option Fid). IsSome o) (sym f.1) refl
 
 -- what a fid names is held
 pub named_held : (h : Holds) (fids : Fids) → AreFids h fids → (n ino : ℕ) → Ok ino ≡ ino_told (get fids n) → 0 < hold_count h ino

@@ -31,6 +31,10 @@ only_fault t h ino stored held (Errno e) a other = absurd (attr_there ino e (get
 only_fault t h ino stored held Fault a other = refl
 only_fault t h ino stored held NoMemory a other = absurd (other refl)
 
+-- a fault answers whatever is asked
+pub fault_answers : {B : Type 0} (told : Result B ℕ) (e : HostError) → ◌≡◌ {A = Result Attr HostError} (Err e) (Err Fault) → Answers told (Err e)
+fault_answers told e is = let same : e ≡ Fault = cc in subst (λ (e : HostError). Answers told (Err e)) (sym same) (record { exactly = tt })
+
 ino_by : (i : ℕ) (o : Option Record) (a : Attr) → attr_or_missing i o ≡ Ok a → a.ino ≡ i
 ino_by i None a is = absurd (cc)
 ino_by i (Some r) a is = let same : attr_of i r ≡ a = cc in sym (ap (λ (b : Attr). b.ino) same)

@@ -8,7 +8,9 @@ use Rattle.port_base.specs.declared.errno.TheConstants.{EIO}
 use Rattle.tree_model.specs.declared.attributes.HostError.{HostError}
 use Rattle.tree_model.specs.declared.attributes.HostError.TheVariants as host
 use Rattle.p9_wire.specs.declared.error.WireError.{WireError}
-use Rattle.p9_wire.specs.declared.error.WireError.TheVariants.{InvalidInput, InvalidData, UnexpectedEof, Read, Write, NoMemory}
+use Rattle.p9_wire.specs.declared.error.WireError.TheVariants.{InvalidInput, InvalidData}
+use Rattle.p9_wire.specs.declared.error.WireError.TheVariants.{UnexpectedEof, Read, Write}
+use Rattle.p9_wire.specs.declared.error.WireError.TheVariants.{NoMemory}
 use Rattle.p9_tmsg.specs.Messages.{Message}
 use Rattle.p9_rmsg.specs.Replies.{Reply, ReplySpells, reply_spelling, reply_of}
 use Rattle.p9_rmsg.specs.Replies.Reply.{lerror}
@@ -50,16 +52,20 @@ abbrev pub LeavesBody : Result Message WireError → ServerState → ServerState
 LeavesBody (Ok m) s0 s1 = IsLeft s0 m s1
 LeavesBody (Err fault) s0 s1 = s1 ≡ s0
 
-abbrev pub AnsweredBy : Result Message WireError → Moment → Moment → Result Rmessage WireError → Type 0
-AnsweredBy body old new (Ok m) = BodyOutcome old.state body (reply_of m) new.state old.faults new.faults × IsSized old.state new.state (reply_of m)
+abbrev pub AnsweredBy : Result Message WireError → Moment → Moment → Result Rmessage WireError
+    → Type 0
+AnsweredBy body old new (Ok m) = BodyOutcome old.state body (reply_of m) new.state old.faults
+    new.faults × IsSized old.state new.state (reply_of m)
 AnsweredBy body old new (Err e) = (e ≡ NoMemory) × LeavesBody body old.state new.state
 
 -- what a body says is answered, or there was no memory
-pub record Answered (body : Result Message WireError) (old new : Moment) (result : Result Rmessage WireError) : Type 0 where
+pub record Answered (body : Result Message WireError) (old new : Moment)
+    (result : Result Rmessage WireError) : Type 0 where
   pub answer : AnsweredBy body old new result
   pub stays : Stays old new
 
-abbrev pub SentBy : {T : Type 0} → List ℕ → Option (List ℕ) → Option (List ℕ) → ℕ → ℕ → Result T WireError → Type 0
+abbrev pub SentBy : {T : Type 0} → List ℕ → Option (List ℕ) → Option (List ℕ) → ℕ → ℕ
+    → Result T WireError → Type 0
 SentBy bytes s0 s1 f0 f1 (Ok x) = Appends s0 s1 bytes × (f1 ≡ f0)
 SentBy bytes s0 s1 f0 f1 (Err Write) = SentFront s0 s1 bytes × Faulted f0 f1
 SentBy bytes s0 s1 f0 f1 (Err InvalidInput) = ⊥
@@ -69,5 +75,6 @@ SentBy bytes s0 s1 f0 f1 (Err Read) = ⊥
 SentBy bytes s0 s1 f0 f1 (Err NoMemory) = ⊥
 
 -- bytes that there is room for are sent, or a front of them where the sink failed
-pub record IsSent {T : Type 0} (bytes : List ℕ) (s0 s1 : Option (List ℕ)) (f0 f1 : ℕ) (result : Result T WireError) : Type 0 where
+pub record IsSent {T : Type 0} (bytes : List ℕ) (s0 s1 : Option (List ℕ)) (f0 f1 : ℕ)
+    (result : Result T WireError) : Type 0 where
   pub sent : SentBy bytes s0 s1 f0 f1 result

@@ -16,4 +16,11 @@ config_refused msize root =
 
 -- how a tree is shared by a configuration
 abbrev pub settings_of : Config → Settings
-settings_of c = record { root = path_names c.root.items; uid_map = map.from_entries c.uid_map.entries; gid_map = map.from_entries c.gid_map.entries; casefold = false; limit = c.fid_limit }
+settings_of c =
+    record {
+      root = path_names c.root.items;
+      uid_map = map.from_entries c.uid_map.entries;
+      gid_map = map.from_entries c.gid_map.entries;
+      casefold = false;
+      limit = c.fid_limit;
+    }

@@ -7,3 +7,5 @@ pub mod GoodServer
 pub mod Handling
 pub mod Configs
 pub mod Opening
+pub mod Creating
+pub mod Setting

@@ -18,7 +18,8 @@ pub const STANDARD_MSIZE: u32 = 65560;
 /// How a server is set up.
 #[derive(Drop)]
 pub struct Config {
-    /// The path of the directory that is shared: `/`, or `/` and names without fault joined by single slashes.
+    /// The path of the directory that is shared: `/`, or `/` and names without fault joined by
+    /// single slashes.
     pub root: Vec<u8>,
     /// The greatest size of a frame, in bytes: at least 256.
     pub msize: u32,
@@ -62,7 +63,8 @@ pub struct Refused<H> {
 }
 
 impl Config {
-    /// The root `/`, frames of up to 65560 bytes, owners as they are, and as many fids as there are numbers.
+    /// The root `/`, frames of up to 65560 bytes, owners as they are, and as many fids as there
+    /// are numbers.
     pub fn standard(alloc: Global) -> Result<Config, NoMemory>
         ensures root { IfOk result (λ c. c.root.items ≡ 47 ∷ []) }
         ensures msize { IfOk result (λ c. c.msize ≡ 65560) }

@@ -1,5 +1,6 @@
-//! What a server refuses, computed: roots and message sizes, new fids, walks and fids that aren't open. On the small
-//! server fid 7 names the top directory; with the open file, fid 8 names `hello`, and there is room for no third.
+//! What a server refuses, computed: roots and message sizes, new fids, walks and fids that aren't
+//! open. On the small server fid 7 names the top directory; with the open file, fid 8 names
+//! `hello`, and there is room for no third.
 ghost use Rattle.std.specs.Prelude.{◌≡◌, true, false, Ok, Err, Some, None, codes};
 ghost use Rattle.port_base.specs.declared.errno.TheConstants.{EBADF, EINVAL, EIO, ENFILE, ENOENT};
 ghost use Rattle.tree_model.specs.declared.attributes.HostError.TheVariants as host;
@@ -32,7 +33,8 @@ pub fn taking_fids()
     ensures full { attach_refused with_open.fids 2 9 ≡ Some ENFILE }
 {}
 
-/// Where walks begin: at the inode of a fid, to a free fid or to the same; or why they don't, in this order.
+/// Where walks begin: at the inode of a fid, to a free fid or to the same; or why they don't, in
+/// this order.
 #[tactic(auto, using(crate::proofs::Sampling::walk_begins, crate::proofs::Sampling::walk_stays, crate::proofs::Sampling::walk_onto_used, crate::proofs::Sampling::walk_from_none, crate::proofs::Sampling::walk_without_room, crate::proofs::Sampling::walk_of_many))]
 pub fn beginning_walks()
     ensures begins { walk_start server.fids 2 7 8 1 ≡ Ok 1 }
@@ -48,8 +50,10 @@ pub fn answering()
     ensures unknown { ino_told None ≡ Err (host.Errno EBADF) }
     ensures known { ino_told (Some (closed 2)) ≡ Ok 2 }
     ensures shut { readable_told (Some (closed 2)) ≡ Err (host.Errno EBADF) }
-    ensures to_read { readable_told (Some (record { ino = 2; open_state = Opened 0 false })) ≡ Ok 2 }
-    ensures to_write { readable_told (Some (record { ino = 2; open_state = Opened 1 false })) ≡ Err (host.Errno EBADF) }
+    ensures to_read { readable_told (Some (record { ino = 2; open_state = Opened 0 false }))
+        ≡ Ok 2 }
+    ensures to_write { readable_told (Some (record { ino = 2; open_state = Opened 1 false }))
+        ≡ Err (host.Errno EBADF) }
     ensures told { reply_told lerror (Ok 5) ≡ Ok (lerror 5) }
     ensures refused { reply_told lerror (Err (host.Errno ENOENT)) ≡ Ok (lerror ENOENT) }
     ensures fault { reply_told lerror (Err host.Fault) ≡ Ok (lerror EIO) }

@@ -1,9 +1,10 @@
 //! What a fid names.
 ghost use Rattle.std.specs.Prelude.{◌≡◌};
-ghost use Rattle.fid_model.specs.Fids.{closed, is_readable};
+ghost use Rattle.fid_model.specs.Fids.{appends, closed, is_open, is_readable, is_writable};
 ghost use Rattle.fid_model.specs.Answers.{opened};
+ghost use Rattle.fid_model.specs.Setattr.{is_open_to_read_alone};
 
-use port_base::oflag::{O_APPEND, O_WRONLY, access_mode, has_flag};
+use port_base::oflag::{O_APPEND, O_RDONLY, O_WRONLY, access_mode, has_flag};
 use std::marker::Model;
 
 /// Whether a fid is open, and how.
@@ -53,6 +54,16 @@ impl FidState {
         }
     }
 
+    /// Whether it is open, in whatever way.
+    pub fn is_open(&self) -> bool
+        ensures { result ≡ is_open self.now.open_state }
+    {
+        match &self.mode {
+            OpenMode::Closed => false,
+            OpenMode::Opened { .. } => true,
+        }
+    }
+
     /// Whether it is open, and not for writing alone.
     pub fn is_readable(&self) -> bool
         ensures { result ≡ is_readable self.now.open_state }
@@ -60,6 +71,36 @@ impl FidState {
         match &self.mode {
             OpenMode::Closed => false,
             OpenMode::Opened { access, .. } => *access != O_WRONLY,
+        }
+    }
+
+    /// Whether it is open, and not for reading alone.
+    pub fn is_writable(&self) -> bool
+        ensures { result ≡ is_writable self.now.open_state }
+    {
+        match &self.mode {
+            OpenMode::Closed => false,
+            OpenMode::Opened { access, .. } => *access != O_RDONLY,
+        }
+    }
+
+    /// Whether it is open for reading alone.
+    pub fn is_open_to_read_alone(&self) -> bool
+        ensures { result ≡ is_open_to_read_alone self.now.open_state }
+    {
+        match &self.mode {
+            OpenMode::Closed => false,
+            OpenMode::Opened { access, .. } => *access == O_RDONLY,
+        }
+    }
+
+    /// Whether what is written goes to the file's end.
+    pub fn appends(&self) -> bool
+        ensures { result ≡ appends self.now.open_state }
+    {
+        match &self.mode {
+            OpenMode::Closed => false,
+            OpenMode::Opened { append, .. } => *append,
         }
     }
 

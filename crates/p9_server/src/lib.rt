@@ -4,12 +4,12 @@
 mod config;
 mod examples;
 mod fid_state;
-mod naming;
+mod fids;
+mod paths;
 mod qids;
 mod replies;
 mod server;
 mod share;
-mod walking;
 
 pub use config::{Config, ConfigError, Refused};
 pub use fid_model::Nine;

@@ -13,7 +13,14 @@ ghost use Rattle.p9_rmsg.specs.Replies.Reply.{attach, clunk, getattr, lerror, lo
 ghost use Rattle.p9_rmsg.specs.Frames.{reply_frame};
 ghost use Rattle.p9_server.specs.Answering.{reply_told, refusal_told, IsShort, Fits, IsSent};
 
+pub mod directories;
+mod files;
+mod session;
+
 use crate::qids::qid_of;
+pub use files::{
+    create_reply, fsync_reply, readlink_reply, setattr_reply, sizes_reply, write_reply,
+};
 use p9_rmsg::{Rattach, Rgetattr, Rlerror, Rlopen, Rmessage, Rread, Rwalk};
 use p9_wire::data::Data;
 use p9_wire::error::WireError;
@@ -22,6 +29,7 @@ use p9_wire::protocol::P9_GETATTR_BASIC;
 use p9_wire::qid::Qid;
 use port_base::errno::EIO;
 use port_base::sink::{Sink, SinkFault};
+pub use session::{flush_reply, getlock_reply, lock_reply, version_reply};
 use tree_model::attributes::BLOCK_SIZE;
 use tree_model::{Attr, HostError};
 
@@ -121,7 +129,8 @@ pub fn attach_reply(step: Result<Qid, HostError>) -> Result<Rmessage, WireError>
 pub fn walk_reply(step: Result<Vec<Qid>, HostError>) -> Result<Rmessage, WireError>
     requires few { IfOk step (λ qids. length qids.items ≤ 16) }
     requires spells { IfOk step (λ qids. AllByRecursion QidSpells (map qid_of qids.items)) }
-    ensures reply { result_view reply_of result ≡ reply_told (λ qids. walk (map qid_of qids.items)) step }
+    ensures reply { result_view reply_of result ≡ reply_told (λ qids. walk (map qid_of qids.items))
+        step }
     ensures short { IfOk result (λ m. IsShort (reply_of m)) }
 {
     match step {
@@ -205,7 +214,8 @@ pub fn reserve_long<K: Sink>(reply: &Rmessage, writer: &mut K) -> Result<(), Wir
     requires spells { ReplySpells (reply_of reply.now) }
     requires short { 7 + length (reply_spelling (reply_of reply.now)) < 2 ^ 32 }
     requires room { REPLY_ROOM ≤ K.room writer.old }
-    ensures room { OnOk result (7 + length (reply_spelling (reply_of reply.now)) ≤ K.room writer.new) }
+    ensures room { OnOk result (7 + length (reply_spelling (reply_of reply.now))
+        ≤ K.room writer.new) }
     ensures memory { IfErr result (λ e. (e ≡ WireError.NoMemory) × ¬ IsShort (reply_of reply.now)) }
     ensures sent { Keeps (K.sent writer.old) (K.sent writer.new) }
     ensures faults { K.faults writer.new ≡ K.faults writer.old }
@@ -223,7 +233,8 @@ pub fn send_reply<K: Sink>(reply: &Rmessage, tag: u16, writer: &mut K) -> Result
     requires spells { ReplySpells (reply_of reply.now) }
     requires short { 7 + length (reply_spelling (reply_of reply.now)) < 2 ^ 32 }
     requires room { 7 + length (reply_spelling (reply_of reply.now)) ≤ K.room writer.old }
-    ensures sent { IsSent (reply_frame tag (reply_of reply.now)) (K.sent writer.old) (K.sent writer.new) (K.faults writer.old) (K.faults writer.new) result }
+    ensures sent { IsSent (reply_frame tag (reply_of reply.now)) (K.sent writer.old)
+        (K.sent writer.new) (K.faults writer.old) (K.faults writer.new) result }
     ensures kept { K.kept writer.new ≡ K.kept writer.old }
 {
     match reply.send_frame(tag, writer) {

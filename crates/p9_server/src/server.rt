@@ -5,10 +5,16 @@ ghost use Rattle.p9_server.specs.Holding.{IsSound};
 
 mod answer;
 mod attach;
+mod attributes;
+mod create;
+mod directories;
+mod files;
 mod nine;
 mod open;
+mod session;
 mod setup;
 mod walk;
+mod write;
 
 use crate::fid_state::FidState;
 use crate::share::Share;

@@ -1,6 +1,5 @@
 //! How a tree is shared.
-ghost use Rattle.std.specs.Prelude.{◌≡◌, ◌+◌, ◌<◌, ◌^◌, All, None, Some, slice_get, true, false};
-ghost use Rattle.port_base.specs.Names.{name_fault};
+ghost use Rattle.std.specs.Prelude.{◌≡◌, ◌+◌, ◌<◌, ◌^◌, true, false};
 ghost use Rattle.tree_model.specs.Finding.{path_names};
 ghost use Rattle.tree_model.specs.Settings.{mapped, shown_of};
 ghost use Rattle.tree_model.specs.Attributes.{type_bits};
@@ -77,7 +76,15 @@ fn mapped(ids: &ServerIdMap<u32>, id: u32) -> u32
 impl Share {
     pub fn new(root: Vec<u8>, uid_map: ServerUidMap, gid_map: ServerGidMap, fid_limit: u32) -> Self
         requires { is_rooted_path root.items ≡ true }
-        ensures { result ≡ record { root = path_names root.items; uid_map = map.from_entries uid_map.entries; gid_map = map.from_entries gid_map.entries; casefold = false; limit = fid_limit } }
+        ensures { result ≡ record {
+          root = path_names root.items;
+          uid_map =
+              map.from_entries uid_map.entries;
+          gid_map =
+              map.from_entries gid_map.entries;
+          casefold = false;
+          limit = fid_limit;
+        } }
     {
         Share {
             root,
@@ -90,8 +97,7 @@ impl Share {
     /// The path of the root.
     pub fn root(&self) -> &[u8]
         ensures root { path_names result.now ≡ self.now.root }
-        ensures absolute { slice_get result.now 0 ≡ Some 47 }
-        ensures named { All (λ name. name_fault name ≡ None) (path_names result.now) }
+        ensures rooted { is_rooted_path result.now ≡ true }
     {
         &self.root
     }

@@ -3,6 +3,9 @@ ghost use Rattle.std.specs.Prelude.{◌≡◌, IfOk};
 ghost use Rattle.std.specs.FinMap as map;
 ghost use Rattle.tree_host.specs.TreeHosts.{holds};
 
+mod directories;
+mod files;
+
 use crate::{Config, ConfigError, Nine, Refused, Server};
 use port_base::memory::{MemSink, SliceSource};
 use port_base::names::name_fault;
@@ -69,7 +72,7 @@ const FRAMES: [(&[u8], &[u8]); 7] = [
 ];
 
 // Opens and reads of a file.
-const OPENS: [(&[u8], &[u8]); 11] = [
+const OPENS: [(&[u8], &[u8]); 10] = [
     // an attach of fid 1
     (
         b"\x17\0\0\0\x68\0\0\x01\0\0\0\xff\xff\xff\xff\0\0\0\0\0\0\0\0",
@@ -94,10 +97,10 @@ const OPENS: [(&[u8], &[u8]); 11] = [
         b"\x17\0\0\0\x74\x03\0\x02\0\0\0\0\0\0\0\0\0\0\0\x05\0\0\0",
         b"\x0b\0\0\0\x07\x03\0\x09\0\0\0",
     ),
-    // an open that empties the file, an open to read, an open of a directory to write
+    // an open that would empty a directory, an open to read, an open of a directory to write
     (
-        b"\x0f\0\0\0\x0c\x04\0\x02\0\0\0\0\x02\0\0",
-        b"\x0b\0\0\0\x07\x04\0\x5f\0\0\0",
+        b"\x0f\0\0\0\x0c\x04\0\x01\0\0\0\0\x02\0\0",
+        b"\x0b\0\0\0\x07\x04\0\x15\0\0\0",
     ),
     (
         b"\x0f\0\0\0\x0c\x05\0\x02\0\0\0\0\0\0\0",
@@ -116,10 +119,70 @@ const OPENS: [(&[u8], &[u8]); 11] = [
         b"\x17\0\0\0\x74\x08\0\x02\0\0\0\x05\0\0\0\0\0\0\0\xff\xff\xff\xff",
         b"\x0b\0\0\0\x75\x08\0\0\0\0\0",
     ),
-    // a message that isn't served yet
+];
+
+// A session: what is agreed, locks, sizes, and what is answered at once.
+const SESSION: [(&[u8], &[u8]); 14] = [
+    // frames of at most 8192 bytes
     (
-        b"\x0b\0\0\0\x08\x09\0\x01\0\0\0",
+        b"\x15\0\0\0\x64\xff\xff\0\x20\0\0\x08\x009P2000.L",
+        b"\x15\0\0\0\x65\xff\xff\0\x20\0\0\x08\x009P2000.L",
+    ),
+    // an attach of fid 1, which is opened
+    (
+        b"\x17\0\0\0\x68\0\0\x01\0\0\0\xff\xff\xff\xff\0\0\0\0\0\0\0\0",
+        b"\x14\0\0\0\x69\0\0\x80\0\x10\x5e\x5f\x01\0\0\0\0\0\0\0",
+    ),
+    // no lock of a fid that isn't open
+    (
+        b"\x28\0\0\0\x34\x01\0\x01\0\0\0\x01\0\0\0\0\x03\0\0\0\0\0\0\0\x09\0\0\0\0\0\0\0\x4d\0\0\0\x02\0me",
+        b"\x0b\0\0\0\x07\x01\0\x09\0\0\0",
+    ),
+    (
+        b"\x0f\0\0\0\x0c\x02\0\x01\0\0\0\0\0\0\0",
+        b"\x18\0\0\0\x0d\x02\0\x80\0\x10\x5e\x5f\x01\0\0\0\0\0\0\0\0\0\0\0",
+    ),
+    // a lock, and whether one stands in its way
+    (
+        b"\x28\0\0\0\x34\x03\0\x01\0\0\0\x01\0\0\0\0\x03\0\0\0\0\0\0\0\x09\0\0\0\0\0\0\0\x4d\0\0\0\x02\0me",
+        b"\x08\0\0\0\x35\x03\0\0",
+    ),
+    (
+        b"\x24\0\0\0\x36\x04\0\x01\0\0\0\x01\x03\0\0\0\0\0\0\0\x09\0\0\0\0\0\0\0\x4d\0\0\0\x02\0me",
+        b"\x20\0\0\0\x37\x04\0\x02\x03\0\0\0\0\0\0\0\x09\0\0\0\0\0\0\0\x4d\0\0\0\x02\0me",
+    ),
+    // 256 blocks, 65536 files
+    (
+        b"\x0b\0\0\0\x08\x05\0\x01\0\0\0",
+        b"\x43\0\0\0\x09\x05\0\0\0\0\0\0\x10\0\0\0\x01\0\0\0\0\0\0\0\x01\0\0\0\0\0\0\0\x01\0\0\0\0\0\0\0\0\x01\0\0\0\0\0\0\0\x01\0\0\0\0\0\0\0\0\0\0\0\0\0\xff\0\0\0",
+    ),
+    (
+        b"\x0f\0\0\0\x32\x06\0\x01\0\0\0\0\0\0\0",
+        b"\x07\0\0\0\x33\x06\0",
+    ),
+    // a directory has no target
+    (
+        b"\x0b\0\0\0\x16\x07\0\x01\0\0\0",
+        b"\x0b\0\0\0\x07\x07\0\x16\0\0\0",
+    ),
+    // a flush, and a message that is never served
+    (b"\x09\0\0\0\x6c\x08\0\x07\0", b"\x07\0\0\0\x6d\x08\0"),
+    (
+        b"\x0b\0\0\0\x7a\x09\0\x01\0\0\0",
         b"\x0b\0\0\0\x07\x09\0\x5f\0\0\0",
+    ),
+    // frames that are too small, and another protocol, after which there is no fid
+    (
+        b"\x15\0\0\0\x64\xff\xff\xff\0\0\0\x08\x009P2000.L",
+        b"\x0b\0\0\0\x07\xff\xff\x16\0\0\0",
+    ),
+    (
+        b"\x15\0\0\0\x64\xff\xff\x18\0\x01\0\x08\x009P2000.u",
+        b"\x14\0\0\0\x65\xff\xff\0\x20\0\0\x07\0unknown",
+    ),
+    (
+        b"\x0b\0\0\0\x78\x02\0\x01\0\0\0",
+        b"\x0b\0\0\0\x07\x02\0\x09\0\0\0",
     ),
 ];
 
@@ -210,7 +273,8 @@ const BEFORE_READS: [(&[u8], &[u8]); 3] = [
     ),
 ];
 
-// What a file of 300 bytes tells in frames of 256 bytes: as many bytes as fit behind 11, and from there on the rest.
+// What a file of 300 bytes tells in frames of 256 bytes: as many bytes as fit behind 11, and from
+// there on the rest.
 const READS: [(&[u8], &[u8], usize); 2] = [
     (
         b"\x17\0\0\0\x74\x03\0\x02\0\0\0\0\0\0\0\0\0\0\0\x2c\x01\0\0",
@@ -258,7 +322,8 @@ fn check(
     Ok(())
 }
 
-// A server of a host with the one file `f`, with these bytes, which is inode 2; frames have at most `msize` bytes.
+// A server of a host with the one file `f`, with these bytes, which is inode 2; frames have at
+// most `msize` bytes.
 fn server_of_a_file(alloc: Global, bytes: &[u8], msize: u32) -> Result<Server<TreeHost>, Fail> {
     let mut host = small_host(alloc)?;
     if name_fault(b"f").is_some() {
@@ -271,6 +336,28 @@ fn server_of_a_file(alloc: Global, bytes: &[u8], msize: u32) -> Result<Server<Tr
         bytes,
     };
     host.add(1, b"f", item)?;
+    server_of(alloc, host, msize)
+}
+
+// A server of a host with the one link `f`, which is inode 2.
+fn server_of_a_link(alloc: Global) -> Result<Server<TreeHost>, Fail> {
+    let mut host = small_host(alloc)?;
+    if name_fault(b"f").is_some() {
+        return Err(Fail::from("no name"));
+    }
+    let item = NewItem::Link {
+        uid: 0,
+        gid: 0,
+        target: b"a/gh",
+    };
+    host.add(1, b"f", item)?;
+    server_of(alloc, host, 256)
+}
+
+// A server of a host of which nothing is held; frames have at most `msize` bytes.
+fn server_of(alloc: Global, host: TreeHost, msize: u32) -> Result<Server<TreeHost>, Fail>
+    requires { holds host ≡ map.empty }
+{
     let Ok(mut config) = Config::standard(alloc) else {
         return Err(Fail::from("out of memory"));
     };
@@ -300,6 +387,16 @@ fn a_file_is_opened_and_read(rt: HostRuntime) -> Result<(), Fail> {
         alloc,
         &mut server_of_a_file(alloc, b"hello", 65560)?,
         &OPENS,
+    )
+}
+
+#[test]
+fn a_session_begins_anew(rt: HostRuntime) -> Result<(), Fail> {
+    let alloc = rt.alloc();
+    check(
+        alloc,
+        &mut server_of_a_file(alloc, b"hello", 65560)?,
+        &SESSION,
     )
 }
 

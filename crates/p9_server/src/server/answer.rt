@@ -6,13 +6,16 @@ ghost use Rattle.p9_server.specs.Steps.{moment_of};
 ghost use Rattle.p9_server.specs.Answering.{Answered};
 
 use super::Server;
+use crate::replies::directories::{link_reply, mkdir_reply, rename_reply, unlink_reply};
 use crate::replies::{
-    attach_reply, clunk_reply, getattr_reply, open_reply, read_reply, refused, walk_reply,
+    attach_reply, clunk_reply, create_reply, flush_reply, fsync_reply, getattr_reply,
+    getlock_reply, lock_reply, open_reply, read_reply, readlink_reply, refused, setattr_reply,
+    sizes_reply, version_reply, walk_reply, write_reply,
 };
 use p9_rmsg::Rmessage;
 use p9_tmsg::Tmessage;
 use p9_wire::error::WireError;
-use port_base::errno::{EINVAL, EOPNOTSUPP};
+use port_base::errno::{EACCES, EINVAL, EOPNOTSUPP};
 use tree_host::Host;
 
 impl<H: Host> Server<H> {
@@ -33,27 +36,38 @@ impl<H: Host> Server<H> {
             Tmessage::Clunk(m) => clunk_reply(self.clunk(m.fid)),
             Tmessage::Lopen(m) => open_reply(self.open(m.fid, m.flags)),
             Tmessage::Read(m) => read_reply(self.read(m.fid, m.offset, m.count), self.msize),
-            Tmessage::Statfs(_) => Ok(refused(EOPNOTSUPP)),
-            Tmessage::Lcreate(_) => Ok(refused(EOPNOTSUPP)),
-            Tmessage::Symlink(_) => Ok(refused(EOPNOTSUPP)),
-            Tmessage::Mknod(_) => Ok(refused(EOPNOTSUPP)),
+            Tmessage::Statfs(m) => sizes_reply(self.statfs(m.fid)),
+            Tmessage::Lcreate(m) => {
+                create_reply(self.create(m.fid, m.name.as_bytes(), m.flags, m.mode))
+            }
+            Tmessage::Symlink(_) => Ok(refused(EACCES)),
+            Tmessage::Mknod(_) => Ok(refused(EACCES)),
             Tmessage::Rename(_) => Ok(refused(EOPNOTSUPP)),
-            Tmessage::Readlink(_) => Ok(refused(EOPNOTSUPP)),
-            Tmessage::SetAttr(_) => Ok(refused(EOPNOTSUPP)),
+            Tmessage::Readlink(m) => readlink_reply(self.read_link(m.fid), self.msize),
+            Tmessage::SetAttr(m) => setattr_reply(self.set_attr(&m)),
             Tmessage::XattrWalk(_) => Ok(refused(EOPNOTSUPP)),
             Tmessage::XattrCreate(_) => Ok(refused(EOPNOTSUPP)),
             Tmessage::Readdir(_) => Ok(refused(EOPNOTSUPP)),
-            Tmessage::Fsync(_) => Ok(refused(EOPNOTSUPP)),
-            Tmessage::Lock(_) => Ok(refused(EOPNOTSUPP)),
-            Tmessage::GetLock(_) => Ok(refused(EOPNOTSUPP)),
-            Tmessage::Link(_) => Ok(refused(EOPNOTSUPP)),
-            Tmessage::Mkdir(_) => Ok(refused(EOPNOTSUPP)),
-            Tmessage::RenameAt(_) => Ok(refused(EOPNOTSUPP)),
-            Tmessage::UnlinkAt(_) => Ok(refused(EOPNOTSUPP)),
-            Tmessage::Version(_) => Ok(refused(EOPNOTSUPP)),
+            Tmessage::Fsync(m) => fsync_reply(self.fsync(m)),
+            Tmessage::Lock(m) => lock_reply(self.lock(m)),
+            Tmessage::GetLock(m) => getlock_reply(self.get_lock(m), self.msize),
+            Tmessage::Link(m) => link_reply(self.link(m.dfid, m.fid, m.name.as_bytes())),
+            Tmessage::Mkdir(m) => {
+                mkdir_reply(self.make_directory(m.dfid, m.name.as_bytes(), m.mode))
+            }
+            Tmessage::RenameAt(m) => rename_reply(self.rename(
+                m.olddirfid,
+                m.oldname.as_bytes(),
+                m.newdirfid,
+                m.newname.as_bytes(),
+            )),
+            Tmessage::UnlinkAt(m) => {
+                unlink_reply(self.unlink(m.dirfd, m.name.as_bytes(), m.flags))
+            }
+            Tmessage::Version(m) => version_reply(self.version(m.msize, &m.version)),
             Tmessage::Auth(_) => Ok(refused(EOPNOTSUPP)),
-            Tmessage::Flush(_) => Ok(refused(EOPNOTSUPP)),
-            Tmessage::Write(_) => Ok(refused(EOPNOTSUPP)),
+            Tmessage::Flush(_) => Ok(flush_reply()),
+            Tmessage::Write(m) => write_reply(self.write(m.fid, m.offset, &m.payload.0)),
             Tmessage::Remove(_) => Ok(refused(EOPNOTSUPP)),
         }
     }

@@ -7,9 +7,9 @@ ghost use Rattle.p9_rmsg.specs.Replies.Reply.{attach as attached};
 ghost use Rattle.p9_server.specs.Steps.{moment_of, Steps, attach_refused};
 
 use super::Server;
-use crate::naming::name_by_fid;
+use crate::fids::name_by_fid;
+use crate::paths::attach_path;
 use crate::qids::qid_of;
-use crate::walking::attach_path;
 use p9_wire::qid::Qid;
 use port_base::errno::{EBADF, ENFILE};
 use tree_host::Host;

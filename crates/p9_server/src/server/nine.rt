@@ -4,7 +4,7 @@ ghost use Rattle.p9_server.specs.Steps.{server_state};
 ghost use Rattle.p9_server.specs.Handling.{ReadsFrame};
 
 use super::Server;
-use crate::naming::release_all;
+use crate::fids::release_all;
 use crate::replies::{REPLY_ROOM, make_room, reserve_long, send_reply};
 use fid_model::Nine;
 use p9_tmsg::Tframe;
@@ -16,7 +16,8 @@ use tree_host::Host;
 
 // Reads a frame of at most so many bytes.
 fn read_frame<S: Source>(alloc: Global, reader: &mut S, limit: u32) -> Result<Tframe, WireError>
-    ensures frame { ReadsFrame limit (S.left reader.old) (S.left reader.new) (S.faults reader.old) (S.faults reader.new) result }
+    ensures frame { ReadsFrame limit (S.left reader.old) (S.left reader.new) (S.faults reader.old)
+        (S.faults reader.new) result }
     ensures kept { S.kept reader.new ≡ S.kept reader.old }
     ensures lender { S.lender reader.new ≡ S.lender reader.old }
 {
@@ -76,5 +77,6 @@ impl<H: Host> Nine for Server<H> {
         release_all(&mut self.host, &mut self.fids);
     }
 
-    ghost good = { λ s. server_good (H.tree s.host) (H.holds s.host) s.fids s.msize s.share s.sound (H.good s.host) (H.stored s.host) };
+    ghost good = { λ s. server_good (H.tree s.host) (H.holds s.host) s.fids s.msize s.share s.sound
+        (H.good s.host) (H.stored s.host) };
 }

@@ -7,6 +7,8 @@ ghost use Rattle.p9_rmsg.specs.Replies.Reply.{lopen as opened, read as was_read}
 ghost use Rattle.tree_host.specs.Holds.{hold_count};
 ghost use Rattle.p9_server.specs.Walking.{Counts};
 ghost use Rattle.p9_server.specs.Steps.{moment_of, server_state, Steps, readable_told};
+ghost use Rattle.tree_host.specs.Host.{Leaves};
+ghost use Rattle.fid_model.specs.Answers.{emptied};
 ghost use Rattle.p9_server.specs.Opening.{Opens};
 
 use super::Server;
@@ -14,7 +16,7 @@ use crate::fid_state::FidState;
 use crate::qids::qid_of;
 use p9_wire::protocol::RREAD_HEADER_SIZE;
 use p9_wire::qid::Qid;
-use port_base::errno::{EBADF, EOPNOTSUPP};
+use port_base::errno::EBADF;
 use port_base::oflag::{O_TRUNC, has_flag};
 use tree_host::Host;
 use tree_model::{Attr, HostError};
@@ -36,8 +38,8 @@ impl<H: Host> Server<H> {
         }
     }
 
-    // Opens a fid by the flags of `open(2)`, also where it is open already. That a file is emptied isn't served
-    // yet.
+    // Opens a fid by the flags of `open(2)`, also where it is open already. With `O_TRUNC` its
+    // file is emptied.
     pub(super) fn open(&mut self, fid: u32, flags: u32) -> Result<Qid, HostError>
         ensures step { Steps (lopen fid flags) (λ q. opened (qid_of q) 0)
             (moment_of (H.tree self.old.host) (H.calls self.old.host)
@@ -48,9 +50,6 @@ impl<H: Host> Server<H> {
         ensures fixed { (self.new.msize ≡ self.old.msize) × (self.new.share ≡ self.old.share) }
         ensures asked { self.new.asked ≡ self.old.asked }
     {
-        if has_flag(flags, O_TRUNC) {
-            return Err(HostError::Errno(EOPNOTSUPP));
-        }
         let ino = match self.ino_of(fid) {
             Ok(ino) => ino,
             Err(e) => return Err(e),
@@ -59,13 +58,12 @@ impl<H: Host> Server<H> {
             Ok(attr) => attr,
             Err(e) => return Err(e),
         };
-        match self.fids.insert(fid as u64, FidState::opened(ino, flags)) {
-            Ok(()) => Ok(qid_of(&attr)),
-            Err(_) => Err(HostError::NoMemory),
-        }
+        self.fids.replace(fid as u64, FidState::opened(ino, flags));
+        Ok(qid_of(&attr))
     }
 
-    // Reads the bytes of a fid that is open to be read, as many as there are, are asked for, and fit a reply.
+    // Reads the bytes of a fid that is open to be read, as many as there are, are asked for, and
+    // fit a reply.
     pub(super) fn read(&mut self, fid: u32, offset: u64, count: u32) -> Result<Vec<u8>, HostError>
         ensures step { Steps (read fid offset count) (λ v. was_read v.items)
             (moment_of (H.tree self.old.host) (H.calls self.old.host)
@@ -98,16 +96,34 @@ impl<H: Host> Server<H> {
     }
 }
 
-// What is told of an inode that may be opened so.
+// Empties a file that is opened with `O_TRUNC`.
+fn empty_where<H: Host>(host: &mut H, ino: u64, flags: u32) -> Result<(), HostError>
+    requires { 0 < hold_count (H.holds host.old) ino }
+    ensures leaves { Leaves (emptied (H.tree host.old) ino flags) (H.tree host.old)
+        (H.tree host.new) result }
+    ensures holds { H.holds host.new ≡ H.holds host.old }
+    ensures cause { Counts (H.calls host.old) (H.calls host.new) result }
+    ensures steady { (H.calls host.new).steady ≡ (H.calls host.old).steady }
+{
+    if !has_flag(flags, O_TRUNC) {
+        return Ok(());
+    }
+    host.set_len(ino, 0)
+}
+
+// Opens an inode, if it may be opened so, and tells what it is then.
 fn open_inode<H: Host>(host: &mut H, ino: u64, flags: u32) -> Result<Attr, HostError>
     requires { 0 < hold_count (H.holds host.old) ino }
-    ensures answer { Opens (H.tree host.old) ino flags result }
-    ensures tree { H.tree host.new ≡ H.tree host.old }
+    ensures answer { Opens (H.tree host.old) (H.tree host.new) ino flags result }
     ensures holds { H.holds host.new ≡ H.holds host.old }
     ensures cause { Counts (H.calls host.old) (H.calls host.new) result }
     ensures steady { (H.calls host.new).steady ≡ (H.calls host.old).steady }
 {
     match host.open_check(ino, flags) {
+        Ok(()) => {}
+        Err(e) => return Err(e),
+    }
+    match empty_where(host, ino, flags) {
         Ok(()) => host.stat(ino),
         Err(e) => Err(e),
     }

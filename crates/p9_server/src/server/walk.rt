@@ -8,8 +8,8 @@ ghost use Rattle.p9_rmsg.specs.Replies.Reply.{walk as walked};
 ghost use Rattle.p9_server.specs.Steps.{moment_of, Steps, walk_start};
 
 use super::Server;
-use crate::naming::name_by_fid;
-use crate::walking::reach;
+use crate::fids::name_by_fid;
+use crate::paths::reach;
 use p9_wire::protocol::P9_MAXWELEM;
 use p9_wire::qid::Qid;
 use p9_wire::text::P9String;
@@ -19,7 +19,8 @@ use tree_model::HostError;
 
 // What a walk tells that didn't come to its end: the qids so far, or why it has none.
 fn told_so_far(qids: Vec<Qid>, e: HostError) -> Result<Vec<Qid>, HostError>
-    ensures told { IfOk result (λ q. (q ≡ qids) × (1 ≤ length qids.items) × (e ≢ HostError.NoMemory)) }
+    ensures told { IfOk result (λ q. (q ≡ qids) × (1 ≤ length qids.items)
+        × (e ≢ HostError.NoMemory)) }
     ensures error { IfErr result (λ d. (d ≡ e) × ((qids.items ≡ []) ⊎ (e ≡ HostError.NoMemory))) }
 {
     if e == HostError::NoMemory || qids.is_empty() {

@@ -3,23 +3,17 @@ use Rattle.std.proofs.Common.{◌∙◌, ap, refl}
 use Rattle.std.specs.FinMap.{insert}
 use Rattle.fid_model.specs.Fids.{Fid}
 use Rattle.p9_server.proofs.HoldCounts.{kept_named}
-use Rattle.p9_server.proofs.Showing.{named_held}
-use Rattle.p9_server.proofs.Opening.{emptied_step, unknown_step, failed_step, opened_step, inserted_sound}
+use Rattle.p9_server.proofs.TreeSteps.{kept_after}
+use Rattle.p9_server.proofs.Showing.{named_held, named_there}
+use Rattle.p9_server.proofs.Opening.{unknown_step, failed_step, opened_step, opened_sound}
 use Rattle.p9_server.proofs.server.Server.open.Goals as goal
-
-pub returns-then-has_flag-clause-step : goal.returns-then-has_flag-clause-step
-returns-then-has_flag-clause-step g c =
-    let s = c.args.self.now in
-    let tree = g.H.Host.tree s.host in
-    let kept = kept_named (g.H.Host.holds s.host) s.fids s.sound.held tree (g.met.H.Host.stored s.host).kept in
-    emptied_step tree s.fids s.msize s.share c.args.fid c.args.flags kept (g.H.Host.calls s.host).steady (g.H.Host.calls s.host).faults c.if-has_flag.ensures
 
 pub returns-in-Err-clause-step : goal.returns-in-Err-clause-step
 returns-in-Err-clause-step g c =
     let s = c.args.self.now in
     let tree = g.H.Host.tree s.host in
     let kept = kept_named (g.H.Host.holds s.host) s.fids s.sound.held tree (g.met.H.Host.stored s.host).kept in
-    unknown_step tree s.fids s.msize s.share c.args.fid c.args.flags kept (g.H.Host.calls s.host).steady c.if-has_flag.ensures (g.H.Host.calls s.host).faults c.in-Err.e c.in-Err.ensures
+    unknown_step tree s.fids s.msize s.share c.args.fid c.args.flags kept (g.H.Host.calls s.host).steady (g.H.Host.calls s.host).faults c.in-Err.e c.in-Err.ensures
 
 pub open_inode-requires : goal.open_inode-requires
 open_inode-requires g c = let s = c.args.self.now in named_held (g.H.Host.holds s.host) s.fids s.sound.held c.args.fid c.in-Ok.ino c.in-Ok.ensures
@@ -27,25 +21,32 @@ open_inode-requires g c = let s = c.args.self.now in named_held (g.H.Host.holds 
 pub returns-in-Err-open_inode-clause-step : goal.returns-in-Err-open_inode-clause-step
 returns-in-Err-open_inode-clause-step g c =
     let s = c.args.self.now in
+    let h = c.open_inode.new.host in
     let tree = g.H.Host.tree s.host in
     let kept = kept_named (g.H.Host.holds s.host) s.fids s.sound.held tree (g.met.H.Host.stored s.host).kept in
     let e = c.in-Err-open_inode.ensures in
-    failed_step tree s.fids s.msize s.share c.args.fid c.args.flags kept (g.H.Host.calls s.host).steady c.if-has_flag.ensures c.in-Ok.ino c.in-Ok.ensures (g.H.Host.tree c.open_inode.new.host) e.tree (g.H.Host.calls s.host).faults (g.H.Host.calls c.open_inode.new.host).faults
-    s.fids refl c.in-Err-open_inode.e e.answer e.cause
+    failed_step tree s.fids s.msize s.share c.args.fid c.args.flags kept (g.H.Host.calls s.host).steady c.in-Ok.ino c.in-Ok.ensures (g.H.Host.tree h)
+    (kept_after (g.H.Host.holds s.host) (g.H.Host.holds h) e.holds s.fids s.sound.held (g.H.Host.tree h) (g.met.H.Host.stored h).kept)
+    (g.H.Host.calls s.host).faults (g.H.Host.calls h).faults c.in-Err-open_inode.e e.answer e.cause
+
+pub replace-requires : goal.replace-requires
+replace-requires g c = let s = c.args.self.now in named_there s.fids c.args.fid c.in-Ok.ino c.in-Ok.ensures
 
 pub invariant_of-self-2 : goal.invariant_of-self-2
 invariant_of-self-2 g c =
     let s = c.args.self.now in
-    let e = c.insert.ensures in
     record {
-      sound = inserted_sound s.fids c.args.fid c.in-Ok.ino c.args.flags c.in-Ok.ensures (g.H.Host.holds s.host) (g.H.Host.holds c.open_inode.new.host) c.in-Ok-open_inode.ensures.holds s.msize s.share s.sound c.opened.result c.opened.ensures c.insert.new.self c.insert.result e.ok e.err;
+      sound = opened_sound s.fids c.args.fid c.in-Ok.ino c.args.flags c.in-Ok.ensures (g.H.Host.holds s.host) (g.H.Host.holds c.open_inode.new.host) c.in-Ok-open_inode.ensures.holds s.msize s.share s.sound c.replace.new.self (c.replace.ensures ∙ ap (λ (f : Fid). insert s.fids c.args.fid f) c.opened.ensures);
     }
 
-pub returns-in-Ok-insert-clause-step : goal.returns-in-Ok-insert-clause-step
-returns-in-Ok-insert-clause-step g c =
+pub returns-clause-step : goal.returns-clause-step
+returns-clause-step g c =
     let s = c.args.self.now in
+    let h = c.open_inode.new.host in
     let tree = g.H.Host.tree s.host in
     let kept = kept_named (g.H.Host.holds s.host) s.fids s.sound.held tree (g.met.H.Host.stored s.host).kept in
     let e = c.in-Ok-open_inode.ensures in
-    opened_step tree s.fids s.msize s.share c.args.fid c.args.flags kept (g.H.Host.calls s.host).steady c.if-has_flag.ensures c.in-Ok.ino c.in-Ok.ensures (g.H.Host.tree c.open_inode.new.host) e.tree (g.H.Host.calls s.host).faults (g.H.Host.calls c.open_inode.new.host).faults
-    c.insert.new.self (c.in-Ok-insert.ensures.ok ∙ ap (λ (f : Fid). insert s.fids c.args.fid f) c.opened.ensures) c.qid_of.result c.in-Ok-open_inode.attr e.answer c.qid_of.ensures e.cause.counted
+    opened_step tree s.fids s.msize s.share c.args.fid c.args.flags kept (g.H.Host.calls s.host).steady c.in-Ok.ino c.in-Ok.ensures (g.H.Host.tree h)
+    (kept_after (g.H.Host.holds s.host) (g.H.Host.holds h) e.holds s.fids s.sound.held (g.H.Host.tree h) (g.met.H.Host.stored h).kept)
+    (g.H.Host.calls s.host).faults (g.H.Host.calls h).faults c.qid_of.result c.in-Ok-open_inode.attr e.answer c.qid_of.ensures
+    c.replace.new.self (c.replace.ensures ∙ ap (λ (f : Fid). insert s.fids c.args.fid f) c.opened.ensures) e.cause.counted

@@ -1,0 +1,90 @@
+-- Messages about what a fid names: sizes, links, new files, and what is written.
+use Rattle.std.specs.Prelude.{ℕ, ◌+◌, ◌==◌, not, Bool, List, length, Option, Some, None, Result}
+use Rattle.std.specs.Prelude.{Ok, Err, if◌then◌else◌, nat_lt}
+use Rattle.std.specs.FinMap as map
+use Rattle.port_base.specs.declared.errno.TheConstants.{EINVAL, ENAMETOOLONG, ENOTDIR}
+use Rattle.port_base.specs.declared.oflag.TheConstants.{O_ACCMODE}
+use Rattle.port_base.specs.OpenFlags.{access}
+use Rattle.port_base.specs.Names.{name_fault}
+use Rattle.port_base.specs.declared.names.TheConstants.{NAME_LIMIT}
+use Rattle.tree_model.specs.Tree.{Tree, body_at, is_directory_at}
+use Rattle.tree_model.specs.Attributes.{stat_of, statfs_of}
+use Rattle.tree_model.specs.Attributing.{write_of}
+use Rattle.tree_model.specs.Creating.{create_of}
+use Rattle.tree_model.specs.Renaming.{first_of}
+use Rattle.tree_model.specs.declared.attributes.Attr.{Attr}
+use Rattle.tree_model.specs.Opening.{readlink_of}
+use Rattle.tree_model.specs.declared.attributes.Statfs.{Statfs}
+use Rattle.tree_model.specs.declared.attributes.TheConstants.{BLOCK_SIZE}
+use Rattle.p9_rmsg.specs.Replies.{Reply}
+use Rattle.p9_rmsg.specs.Replies.Reply.{statfs as r_statfs}
+use Rattle.fid_model.specs.Fids.{Fid, ServerState, appends, is_open, is_writable}
+use Rattle.fid_model.specs.FidCalls.{by_fid, by_open_fid}
+use Rattle.fid_model.specs.TreeCalls.{unless_some}
+
+-- ---- sizes
+
+-- every block and file is free
+abbrev pub statfs_reply : Statfs → Reply
+statfs_reply sizes = r_statfs 0 BLOCK_SIZE sizes.blocks sizes.blocks sizes.blocks sizes.files
+    sizes.files 0 NAME_LIMIT
+
+abbrev pub statfs_told : ServerState → ℕ → Result Statfs ℕ
+statfs_told s fid = by_fid (λ f. Ok (statfs_of s.tree)) (map.get s.fids fid)
+
+-- the bytes of what is stored at an inode, none where nothing is
+abbrev pub size_told : Result Attr ℕ → ℕ
+size_told (Ok a) = a.size
+size_told (Err e) = 0
+
+abbrev pub size_at : Tree → ℕ → ℕ
+size_at t ino = size_told (stat_of t ino)
+
+-- ---- what was written
+
+-- what a fid that is open has written is kept
+abbrev pub fsync_told : ServerState → ℕ → Result (Unit {0}) ℕ
+fsync_told s fid = by_open_fid is_open (λ f. Ok tt) (map.get s.fids fid)
+
+-- ---- links
+
+-- the bytes of Rreadlink before the target: size 4, type 1, tag 2 and the target's length 2
+abbrev pub READLINK_HEADER_SIZE : ℕ
+READLINK_HEADER_SIZE = 9
+
+-- a target that fits a frame, or its refusal
+abbrev pub fitting_target : ℕ → Result (List ℕ) ℕ → Result (List ℕ) ℕ
+fitting_target msize (Ok target) = if nat_lt msize (READLINK_HEADER_SIZE + length target)
+    then Err ENAMETOOLONG else Ok target
+fitting_target msize (Err e) = Err e
+
+abbrev pub readlink_told : ServerState → ℕ → Result (List ℕ) ℕ
+readlink_told s fid = by_fid (λ f. fitting_target s.msize (readlink_of s.tree f.ino))
+    (map.get s.fids fid)
+
+-- ---- new files
+
+-- why no file is made by an open: ENOTDIR in what is no directory, then the fault of its name,
+-- then EINVAL for access 3
+abbrev pub new_file_refused : Bool → List ℕ → ℕ → Option ℕ
+new_file_refused in_directory name flags =
+    if not in_directory then Some ENOTDIR else
+    first_of (name_fault name) (if access flags == O_ACCMODE then Some EINVAL else None)
+
+-- the new file
+abbrev pub new_file_of : Tree → ℕ → List ℕ → ℕ → ℕ → Result (ℕ × Tree) ℕ
+new_file_of t dir name flags mode =
+    unless_some (new_file_refused (is_directory_at (body_at t.records dir)) name flags)
+    (create_of t dir name mode)
+
+-- ---- writing
+
+-- where bytes are written: at the file's end through a fid that appends
+abbrev pub write_place : Tree → Fid → ℕ → ℕ
+write_place t f offset = if appends f.open_state then size_at t f.ino else offset
+
+-- how many bytes were written, through a fid that is open to write
+abbrev pub write_told : ServerState → ℕ → ℕ → List ℕ → Result (ℕ × Tree) ℕ
+write_told s fid offset payload =
+    by_open_fid is_writable (λ f. write_of s.tree f.ino (write_place s.tree f offset) payload)
+    (map.get s.fids fid)

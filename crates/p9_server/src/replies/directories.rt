@@ -1,0 +1,65 @@
+//! The replies to messages on directories, from what the server's steps give.
+ghost use Rattle.std.specs.Prelude.{◌≡◌, IfOk};
+ghost use Rattle.p9_wire.specs.Qids.{qid_of};
+ghost use Rattle.p9_wire.specs.Frames.{result_view};
+ghost use Rattle.p9_rmsg.specs.Replies.{reply_of};
+ghost use Rattle.p9_rmsg.specs.Replies.Reply.{link, mkdir, renameat, unlinkat};
+ghost use Rattle.p9_server.specs.Answering.{reply_told, IsShort};
+
+use super::refusal;
+use p9_rmsg::{Rmessage, Rmkdir};
+use p9_wire::error::WireError;
+use p9_wire::qid::Qid;
+use tree_model::HostError;
+
+// The qid of a directory that was made.
+fn directory_told(qid: Qid) -> Rmessage
+    ensures reply { reply_of result ≡ mkdir (qid_of qid) }
+    ensures short { IsShort (reply_of result) }
+{
+    Rmessage::Mkdir(Rmkdir { qid })
+}
+
+/// The reply to Tmkdir.
+pub fn mkdir_reply(step: Result<Qid, HostError>) -> Result<Rmessage, WireError>
+    ensures reply { result_view reply_of result ≡ reply_told (λ q. mkdir (qid_of q)) step }
+    ensures short { IfOk result (λ m. IsShort (reply_of m)) }
+{
+    match step {
+        Ok(qid) => Ok(directory_told(qid)),
+        Err(e) => refusal(e),
+    }
+}
+
+/// The reply to Tlink.
+pub fn link_reply(step: Result<(), HostError>) -> Result<Rmessage, WireError>
+    ensures reply { result_view reply_of result ≡ reply_told (λ _. link) step }
+    ensures short { IfOk result (λ m. IsShort (reply_of m)) }
+{
+    match step {
+        Ok(()) => Ok(Rmessage::Link),
+        Err(e) => refusal(e),
+    }
+}
+
+/// The reply to Trenameat.
+pub fn rename_reply(step: Result<(), HostError>) -> Result<Rmessage, WireError>
+    ensures reply { result_view reply_of result ≡ reply_told (λ _. renameat) step }
+    ensures short { IfOk result (λ m. IsShort (reply_of m)) }
+{
+    match step {
+        Ok(()) => Ok(Rmessage::RenameAt),
+        Err(e) => refusal(e),
+    }
+}
+
+/// The reply to Tunlinkat.
+pub fn unlink_reply(step: Result<(), HostError>) -> Result<Rmessage, WireError>
+    ensures reply { result_view reply_of result ≡ reply_told (λ _. unlinkat) step }
+    ensures short { IfOk result (λ m. IsShort (reply_of m)) }
+{
+    match step {
+        Ok(()) => Ok(Rmessage::UnlinkAt),
+        Err(e) => refusal(e),
+    }
+}
