@@ -1,19 +1,21 @@
 -- A node that counts one more, and a new node, stay paired with the server's fids.
-use Rattle.std.proofs.Common.{◌≡◌, ◌≢◌, ℕ, ◌+◌, cond, refl, sym, ap, ◌∙◌, subst, Option, Some, None, arith, is_some, ⊎_elim}
-use Rattle.std.proofs.lemmas.Bool.{cases_eq}
+use Rattle.std.proofs.Common.{◌≡◌, ◌≢◌, ℕ, ◌+◌, cond, refl, sym, ap, ◌∙◌, subst, Option, Some, None, arith, is_some, IsSome, option_map, ⊎_elim}
+use Rattle.std.proofs.lemmas.Bool.{cases_eq, false≢true}
 use Rattle.std.specs.Ordering.{nat_cmp}
 use Rattle.std.specs.Cmp.{nat_cmp_total}
 use Rattle.std.specs.FinMap.{FinMap, get, insert, remove, len, len-insert}
-use Rattle.tree_model.specs.Tree.{Record}
+use Rattle.tree_model.specs.Tree.{Tree, Record}
+use Rattle.tree_machine.specs.State.{Handle as MachineHandle}
+use Rattle.tree_machine.specs.Good.{IsOpenable}
 use Rattle.tree_model.specs.Attributes.{kind_of, qid_type}
 use Rattle.tree_model.proofs.Maps.{inserted, insert_keeps, removed, remove_keeps}
 use Rattle.tree_model.proofs.Counting.{put_back}
 use Rattle.fid_model.specs.Fids.{ServerState, closed}
-use Rattle.fuse_gate.specs.Standing.{IsInStep, ArePaired, fid_at}
-use Rattle.fuse_gate.specs.Changes.{without, counted_node, with_node}
+use Rattle.fuse_gate.specs.Standing.{IsInStep, ArePaired, fid_at, handle_of}
+use Rattle.fuse_gate.specs.Changes.{KeepsKinds, without, counted_node, with_node}
 use Rattle.fuse_gate.specs.declared.gate.Node.{Node}
 use Rattle.fuse_gate.specs.declared.gate.Gate.{Gate}
-use Rattle.fuse_gate.proofs.Standings.{next_free, node_fid, node_good}
+use Rattle.fuse_gate.proofs.Standings.{next_free, node_fid, node_good, handle_good}
 
 -- what is there after an insertion
 pub insert_cases : {X : Type 0} (m : FinMap nat_cmp X) (k : ℕ) (v : X) (q : ℕ) (P : Option X → Type 0) → (q ≡ k → P (Some v)) → (q ≢ k → P (get m q)) → P (get (insert m k v) q)
@@ -81,3 +83,26 @@ module _ (g : Gate) (s : ServerState) (st : IsInStep g (without s g.next)) (ino 
         (λ ne here stored. st.paired.node_kinds q m r here stored);
     handle_kinds = st.paired.handle_kinds;
   }
+
+-- ---- only the tree changes
+
+is_there : (o : Option Record) (h : MachineHandle) → IsOpenable (option_map (λ (r : Record). r.body) o) h → IsSome o
+is_there None h openable = absurd openable
+is_there (Some r) h openable = refl
+
+module _ (s : ServerState) (u : Tree) (kinds : KeepsKinds s.tree u) where
+  kept : (i kind : ℕ) (r : Record) (o : Option Record) → get s.tree.records i ≡ o → IsSome o → get u.records i ≡ Some r
+      → ((q : Record) → get s.tree.records i ≡ Some q → kind ≡ qid_type (kind_of q.body)) → kind ≡ qid_type (kind_of r.body)
+  kept i kind r None at there here before = absurd (false≢true there)
+  kept i kind r (Some q) at there here before = before q at ∙ ap qid_type (sym (kinds i q r at here))
+
+pub tree_paired : (g : Gate) (s : ServerState) (u : Tree) → IsInStep g s → KeepsKinds s.tree u → ArePaired g (record s { tree = u })
+tree_paired g s u st kinds = record {
+  fids = st.paired.fids;
+  used = st.paired.used;
+  counted = st.paired.counted;
+  ids = st.paired.ids;
+  known = st.paired.known;
+  node_kinds = λ id n r at here. kept s u kinds n.ino n.kind r (get s.tree.records n.ino) refl (node_good st id n at).stored here (λ q stored. st.paired.node_kinds id n q at stored);
+  handle_kinds = λ id h r at here. kept s u kinds h.ino h.kind r (get s.tree.records h.ino) refl (is_there (get s.tree.records h.ino) (handle_of h) (handle_good st id h at).openable) here (λ q stored. st.paired.handle_kinds id h q at stored);
+}

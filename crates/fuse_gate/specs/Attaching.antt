@@ -18,7 +18,8 @@ use Rattle.fuse_gate.specs.declared.gate.attach.AttachError.TheVariants.{Errno, 
 
 -- the root of the share in the linked tree; ENFILE where there may be no fid
 abbrev pub root_told : ServerState → Result ℕ ℕ
-root_told s = if nat_le s.settings.limit 0 then Err ENFILE else root_of (linked s.tree) s.settings.root
+root_told s = if nat_le s.settings.limit 0 then Err ENFILE else root_of (linked s.tree)
+    s.settings.root
 
 -- a gate at the beginning of a session, over the root of the share
 pub record Begins (g : Gate) (s0 s1 : ServerState) : Type 0 where
@@ -32,7 +33,8 @@ pub record Begins (g : Gate) (s0 s1 : ServerState) : Type 0 where
 -- a new gate's tables: the root as node 1, and nothing else
 pub record IsGateAt (ino kind : ℕ) (g : Gate) : Type 0 where
   pub phase : g.phase ≡ New
-  pub nodes : g.nodes ≡ map.insert map.empty FUSE_ROOT_ID (record { ino = ino; count = 1; kind = kind })
+  pub nodes : g.nodes ≡ map.insert map.empty FUSE_ROOT_ID
+      (record { ino = ino; count = 1; kind = kind })
   pub handles : g.handles ≡ map.empty
   pub ids : g.ids ≡ map.insert map.empty ino FUSE_ROOT_ID
   pub next : g.next ≡ 2

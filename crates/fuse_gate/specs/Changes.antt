@@ -1,10 +1,11 @@
 -- Changes of a gate, and the moment between two messages.
-use Rattle.std.specs.Prelude.{◌≡◌, ℕ, ◌+◌, ◌-◌, ◌^◌, ◌<◌, true, false, min, length, Option, Some, None, IsSome, Result, Ok, Err}
+use Rattle.std.specs.Prelude.{◌≡◌, ℕ, ◌+◌, ◌-◌, ◌^◌, ◌<◌, true, false, min, length, Option, Some}
+use Rattle.std.specs.Prelude.{None, IsSome, Result, Ok, Err}
 use Rattle.std.specs.FinMap as map
 use Rattle.port_base.specs.OpenFlags.{access, has_flag}
 use Rattle.port_base.specs.declared.oflag.TheConstants.{O_APPEND}
-use Rattle.tree_model.specs.Tree.{body_at, is_directory_at}
-use Rattle.tree_model.specs.Attributes.{Qid}
+use Rattle.tree_model.specs.Tree.{Tree, Record, body_at, is_directory_at}
+use Rattle.tree_model.specs.Attributes.{Qid, kind_of}
 use Rattle.tree_model.specs.Opening.{open_check_of}
 use Rattle.tree_model.specs.Reading.{part}
 use Rattle.tree_machine.specs.State.{is_at_limit, COUNT_LIMIT, Node as MachineNode}
@@ -22,6 +23,12 @@ use Rattle.fuse_gate.specs.Steps.{Serves, machine_at}
 use Rattle.fuse_gate.specs.declared.gate.Node.{Node}
 use Rattle.fuse_gate.specs.declared.gate.Handle.{Handle}
 use Rattle.fuse_gate.specs.declared.gate.Gate.{Gate}
+
+-- what is stored before and after is of the same kind
+abbrev pub KeepsKinds : Tree → Tree → Type 0
+KeepsKinds t u = (i : ℕ) (q r : Record) → map.get t.records i ≡ Some q → map.get u.records i
+    ≡ Some r
+    → kind_of r.body ≡ kind_of q.body
 
 -- one more message was sent
 abbrev pub one_sent : Gate → Gate
@@ -49,19 +56,26 @@ with_node g ino kind = record g {
 
 -- a node counts less
 abbrev pub counted_down : Gate → ℕ → Node → ℕ → Gate
-counted_down g id n number = record g { nodes = map.insert g.nodes id (record n { count = n.count - number }) }
+counted_down g id n number =
+    record g { nodes = map.insert g.nodes id (record n { count = n.count - number }) }
 
 -- a node of an inode goes
 abbrev pub without_node : Gate → ℕ → ℕ → Gate
-without_node g id ino = record g { nodes = map.remove g.nodes id; ids = map.remove g.ids ino; used = g.used - 1 }
+without_node g id ino =
+    record g { nodes = map.remove g.nodes id; ids = map.remove g.ids ino; used = g.used - 1 }
 
 -- the next number becomes a handle
 abbrev pub with_handle : Gate → Handle → Gate
-with_handle g h = record g { handles = map.insert g.handles g.next h; next = g.next + 1; used = g.used + 1 }
+with_handle g h = record g {
+  handles = map.insert g.handles g.next h;
+  next = g.next + 1;
+  used = g.used + 1;
+}
 
 -- the handle of a node that is opened by these flags
 abbrev pub handle_by : Node → ℕ → Handle
-handle_by n flags = record { ino = n.ino; access = access flags; append = has_flag O_APPEND flags; kind = n.kind }
+handle_by n flags =
+    record { ino = n.ino; access = access flags; append = has_flag O_APPEND flags; kind = n.kind }
 
 -- a handle goes
 abbrev pub without_handle : Gate → ℕ → Gate
@@ -90,7 +104,8 @@ pub record HasFresh (g : Gate) (s : ServerState) (ino : ℕ) (qid : Qid) : Type 
   pub room : is_at_limit s.settings (machine_of g s) ≡ false
   pub few : g.used < 2 ^ 32
 
--- the messages after the walk to an inode: its attributes, and where it has a node the second fid's going
+-- the messages after the walk to an inode: its attributes, and where it has a node the second
+-- fid's going
 abbrev pub entering_rest : Option (ℕ × MachineNode) → ℕ
 entering_rest None = 1
 entering_rest (Some known) = 2
@@ -107,7 +122,8 @@ ServesEntry ino old new reply =
 abbrev pub IsSubject : Gate → ServerState → ℕ → Option ℕ → Result ℕ ℕ → Type 0
 IsSubject g s node handle (Ok fid) =
     (getattr_refusal (machine_of g s) node handle ≡ None)
-    × ((f : Fid) × (map.get s.fids fid ≡ Some f) × (f.ino ≡ getattr_ino (machine_of g s) node handle))
+    × ((f : Fid) × (map.get s.fids fid ≡ Some f)
+    × (f.ino ≡ getattr_ino (machine_of g s) node handle))
 IsSubject g s node handle (Err e) = getattr_refusal (machine_of g s) node handle ≡ Some e
 
 -- the opening of a node that may be opened

@@ -19,9 +19,10 @@ pub record Unfailing (n0 n1 : Moment) : Type 0 where
   pub same : n1.faults ≡ n0.faults
   pub below : n0.faults < 2 ^ 64 - 1
 
--- what was written, the tree that is left and the number of messages are those of the machine for the
--- frames of the cut, which has this end
-pub record Plays (n0 n1 : Moment) (p0 p1 : Streams) (bytes : List ℕ) (turns : ℕ) (last : End) (handled nine_frames : ℕ) : Type 0 where
+-- what was written, the tree that is left and the number of messages are those of the machine for
+-- the frames of the cut, which has this end
+pub record Plays (n0 n1 : Moment) (p0 p1 : Streams) (bytes : List ℕ) (turns : ℕ) (last : End)
+    (handled nine_frames : ℕ) : Type 0 where
   pub root : ℕ
   pub found : root_of (linked n0.state.tree) n0.state.settings.root ≡ Ok root
   pub end : (cut turns bytes).end ≡ last
@@ -31,13 +32,15 @@ pub record Plays (n0 n1 : Moment) (p0 p1 : Streams) (bytes : List ℕ) (turns : 
   pub tree : n1.state.tree
       ≡ (play n0.state.settings (linked n0.state.tree) root (cut turns bytes).frames).1
   pub messages : Counted 0
-      (total (piece_of n0.state) n0.state.settings (linked n0.state.tree) root (cut turns bytes).frames)
+      (total (piece_of n0.state) n0.state.settings (linked n0.state.tree) root
+      (cut turns bytes).frames)
       nine_frames
 
 -- the same where no fault was counted and the input tells its bytes
 abbrev pub PlaysTo : End → ℕ → ℕ → Moment → Moment → Streams → Streams → ℕ → Type 0
 PlaysTo end handled nine_frames n0 n1 p0 p1 turns =
-    Unfailing n0 n1 → IfSome p0.left (λ bytes. Plays n0 n1 p0 p1 bytes turns end handled nine_frames)
+    Unfailing n0 n1
+    → IfSome p0.left (λ bytes. Plays n0 n1 p0 p1 bytes turns end handled nine_frames)
 
 -- the end of the cut at which a run stops by this cause
 abbrev pub end_of : BridgeError → Option End

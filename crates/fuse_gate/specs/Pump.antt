@@ -28,7 +28,8 @@ session_of g n = record {
   asked = n.asked;
 }
 
--- the session that a gate begins over a server: the machine begins with the linked tree, after one message
+-- the session that a gate begins over a server: the machine begins with the linked tree, after one
+-- message
 pub record Opens (n0 : Moment) (s0 : Session) : Type 0 where
   pub root : ℕ
   pub limit : 1 ≤ n0.state.settings.limit
@@ -72,18 +73,22 @@ Told n0 n1 nine_frames P = Between n0 n1 (λ s0 s1. (nine_frames ≡ s1.sent) ×
 -- nothing was read or written, since there was no memory or the attach was refused
 abbrev pub NotBegun : Moment → Moment → Stopped → Type 0
 NotBegun n0 n1 told =
-    ((errno : ℕ) × (told.cause ≡ cause.Attach errno) × (told.nine_frames ≡ 1) × AttachRefused n0 n1 errno)
+    ((errno : ℕ) × (told.cause ≡ cause.Attach errno) × (told.nine_frames ≡ 1)
+    × AttachRefused n0 n1 errno)
     ⊎ ((told.cause ≡ cause.NoMemory) × IsCleared n0.state n1.state)
 
 -- a run, by its answer
 abbrev pub PumpsBy : Moment → Moment → Streams → Streams → ℕ → Result Pumped Stopped → Type 0
 PumpsBy n0 n1 p0 p1 turns (Ok told) =
-    Told n0 n1 told.nine_frames (λ s0 s1. EndsQuietly s0 s1 (Unit {0}) p0 p1 turns told.handled done)
+    Told n0 n1 told.nine_frames
+    (λ s0 s1. EndsQuietly s0 s1 (Unit {0}) p0 p1 turns told.handled done)
 PumpsBy n0 n1 p0 p1 turns (Err told) =
-    Told n0 n1 told.nine_frames (λ s0 s1. StopsBy s0 s1 (Unit {0}) p0 p1 turns told.handled told.cause)
+    Told n0 n1 told.nine_frames
+    (λ s0 s1. StopsBy s0 s1 (Unit {0}) p0 p1 turns told.handled told.cause)
     ⊎ ((told.handled ≡ 0) × SameStreams p0 p1 × NotBegun n0 n1 told)
 
-pub record Pumps (n0 n1 : Moment) (p0 p1 : Streams) (turns : ℕ) (result : Result Pumped Stopped) : Type 0 where
+pub record Pumps (n0 n1 : Moment) (p0 p1 : Streams) (turns : ℕ)
+    (result : Result Pumped Stopped) : Type 0 where
   pub kept : Keeps n0 n1
   pub outcome : PumpsBy n0 n1 p0 p1 turns result
 

@@ -8,7 +8,8 @@ use Rattle.p9_rmsg.specs.Replies.{Attributes as Told}
 use Rattle.fid_model.specs.Fids.{ServerState}
 use Rattle.fid_model.specs.Calls.{getattr_told}
 use Rattle.tree_machine.specs.Replies.{Reply, fuse_attributes}
-use Rattle.tree_machine.specs.Replies.Reply.{Refused, Granted, Entry, Attributes, Opened, Bytes, Done}
+use Rattle.tree_machine.specs.Replies.Reply.{Refused, Granted, Entry, Attributes, Opened, Bytes}
+use Rattle.tree_machine.specs.Replies.Reply.{Done}
 use Rattle.fuse_gate.specs.declared.gate.reply.Reply.{Reply as GateReply}
 use Rattle.fuse_gate.specs.declared.gate.reply.Reply.TheVariants as gate
 

@@ -3,7 +3,8 @@ use Rattle.std.specs.Prelude.{◌≡◌, ℕ, ◌+◌, ◌-◌, ◌≤◌, min, 
 use Rattle.std.specs.FinMap as map
 use Rattle.tree_model.specs.Tree.{Record}
 use Rattle.tree_model.specs.Attributes.{kind_of, qid_type}
-use Rattle.tree_machine.specs.State.{MachineState, Node as MachineNode, Handle as MachineHandle, Phase as MachinePhase}
+use Rattle.tree_machine.specs.State.{MachineState, Node as MachineNode, Handle as MachineHandle}
+use Rattle.tree_machine.specs.State.{Phase as MachinePhase}
 use Rattle.tree_machine.specs.State.Phase.{New, Started, Over}
 use Rattle.tree_machine.specs.Good.{IsGoodMachine}
 use Rattle.fid_model.specs.Fids.{ServerState, Fid, closed}
@@ -30,7 +31,14 @@ handle_of h = record { ino = h.ino; access = h.access; append = h.append }
 
 -- the state of the machine that a gate and a server are
 abbrev pub machine_of : Gate → ServerState → MachineState
-machine_of g s = record { phase = phase_of g.phase; tree = s.tree; nodes = mapped node_of g.nodes; handles = mapped handle_of g.handles; next = g.next }
+machine_of g s =
+    record {
+      phase = phase_of g.phase;
+      tree = s.tree;
+      nodes = mapped node_of g.nodes;
+      handles = mapped handle_of g.handles;
+      next = g.next;
+    }
 
 -- the most bytes of a file that the gate asks a server for at once
 abbrev pub piece_of : ServerState → ℕ
@@ -52,11 +60,14 @@ pub record ArePaired (g : Gate) (s : ServerState) : Type 0 where
   pub used : g.used ≡ map.len s.fids
   pub counted : map.len g.nodes + map.len g.handles ≡ g.used
   -- the index has the node of each inode that one names
-  pub ids : (ino id : ℕ) → map.get g.ids ino ≡ Some id → (n : Node) × (map.get g.nodes id ≡ Some n) × (n.ino ≡ ino)
+  pub ids : (ino id : ℕ) → map.get g.ids ino ≡ Some id → (n : Node) × (map.get g.nodes id ≡ Some n)
+      × (n.ino ≡ ino)
   pub known : (id : ℕ) (n : Node) → map.get g.nodes id ≡ Some n → map.get g.ids n.ino ≡ Some id
   -- each kind is that of the inode's record
-  pub node_kinds : (id : ℕ) (n : Node) (r : Record) → map.get g.nodes id ≡ Some n → map.get s.tree.records n.ino ≡ Some r → n.kind ≡ qid_type (kind_of r.body)
-  pub handle_kinds : (id : ℕ) (h : Handle) (r : Record) → map.get g.handles id ≡ Some h → map.get s.tree.records h.ino ≡ Some r → h.kind ≡ qid_type (kind_of r.body)
+  pub node_kinds : (id : ℕ) (n : Node) (r : Record) → map.get g.nodes id ≡ Some n
+      → map.get s.tree.records n.ino ≡ Some r → n.kind ≡ qid_type (kind_of r.body)
+  pub handle_kinds : (id : ℕ) (h : Handle) (r : Record) → map.get g.handles id ≡ Some h
+      → map.get s.tree.records h.ino ≡ Some r → h.kind ≡ qid_type (kind_of r.body)
 
 -- a gate and a server stand for a good state, and the server takes every frame that the gate sends
 pub record IsInStep (g : Gate) (s : ServerState) : Type 0 where

@@ -27,7 +27,8 @@ pub record Sent (number : ℕ) (old new : Gate × Moment) : Type 0 where
 
 -- the reply and the state that are told, by so many messages; or, only where the count of faults
 -- rose, the error EIO, and of the state no more than the tree has changed, as `part` says
-abbrev pub ServedBy : Reply × MachineState → ℕ → (Tree → Type 0) → Gate × Moment → Gate × Moment → ℕ → Reply → Type 0
+abbrev pub ServedBy : Reply × MachineState → ℕ → (Tree → Type 0) → Gate × Moment → Gate × Moment
+    → ℕ → Reply → Type 0
 ServedBy told count part old new sent reply =
     ((reply ≡ told.0) × (machine_at new ≡ kept_state told.1) × (sent ≡ count))
     ⊎ (Rose old.1.faults new.1.faults × (reply ≡ Refused EIO)
@@ -35,7 +36,8 @@ ServedBy told count part old new sent reply =
     × part new.1.state.tree)
 
 -- what serving a request leaves whose reply and next state are told
-pub record Serves (told : Reply × MachineState) (count : ℕ) (part : Tree → Type 0) (old new : Gate × Moment) (reply : Reply) : Type 0 where
+pub record Serves (told : Reply × MachineState) (count : ℕ) (part : Tree → Type 0)
+    (old new : Gate × Moment) (reply : Reply) : Type 0 where
   pub stands : IsInStep new.0 new.1.state
   -- how many messages were sent
   pub sent : ℕ

@@ -1,5 +1,5 @@
-//! What a gate and a server stand for, computed: nodes 1 and 2 name the top directory and the file `hello` in it, and
-//! handle 3 is that file, open to be read.
+//! What a gate and a server stand for, computed: nodes 1 and 2 name the top directory and the file
+//! `hello` in it, and handle 3 is that file, open to be read.
 ghost use Rattle.std.specs.Prelude.{◌≡◌, ◌+◌, false, [], ◌∷◌, Some, None, Ok, Err, codes};
 ghost use Rattle.std.specs.FinMap.{get, insert};
 ghost use Rattle.std.specs.Global.{Global};
@@ -24,20 +24,24 @@ ghost use Rattle.fuse_gate.specs.Standing.{machine_of, piece_of, fid_at};
 #[tactic(auto, using(crate::proofs::Sampling::root_found))]
 fn attaching()
     ensures found { root_told server ≡ Ok 1 }
-    ensures no_fid { root_told (record server { settings = record server.settings { limit = 0 } }) ≡ Err ENFILE }
+    ensures no_fid { root_told (record server { settings = record server.settings { limit = 0 } })
+        ≡ Err ENFILE }
     ensures told { refusal 1 5 ≡ 5 }
     ensures no_fid_first { refusal 0 5 ≡ ENFILE }
 {}
 
-/// Nodes and handles of the machine, the fids that stand for them, and a node that is looked up once more.
+/// Nodes and handles of the machine, the fids that stand for them, and a node that is looked up
+/// once more.
 fn standing()
     ensures node { (a : Global) →
         get (machine_of (gate a) with_open).nodes 2 ≡ Some (record { ino = 2; count = 4 }) }
     ensures handle { (a : Global) → get (machine_of (gate a) with_open).handles 3
         ≡ Some (record { ino = 2; access = 0; append = false }) }
     ensures mapped { entries_mapped (λ n. n + 1) ((1, 5) ∷ (2, 7) ∷ []) ≡ (1, 6) ∷ (2, 8) ∷ [] }
-    ensures fid_of_node { fid_at (Some (record { ino = 2; count = 4; kind = 0 })) None ≡ Some (closed 2) }
-    ensures fid_of_handle { fid_at None (Some (record { ino = 2; access = 0; append = false; kind = 0 }))
+    ensures fid_of_node { fid_at (Some (record { ino = 2; count = 4; kind = 0 })) None
+        ≡ Some (closed 2) }
+    ensures fid_of_handle { fid_at None
+        (Some (record { ino = 2; access = 0; append = false; kind = 0 }))
         ≡ Some (record { ino = 2; open_state = Opened 0 false }) }
     ensures counted { (a : Global) → counted_up (gate a) 2 ≡ record (gate a) {
       nodes = insert (gate a).nodes 2 (record { ino = 2; count = 5; kind = 0 });
@@ -46,7 +50,8 @@ fn standing()
     ensures new_node { entering_rest None ≡ 1 }
 {}
 
-/// The bytes of a file that one message brings, by the greatest size of a message, and the file that a fid names.
+/// The bytes of a file that one message brings, by the greatest size of a message, and the file
+/// that a fid names.
 #[tactic(auto, using(crate::proofs::Sampling::bytes_of_file, crate::proofs::Sampling::bytes_of_none))]
 fn reading()
     ensures small { piece_of (record server { msize = 4352 }) ≡ 4341 }

@@ -3,7 +3,8 @@ ghost use Rattle.std.specs.Prelude.{◌≡◌, ◌-◌, ◌<◌, ◌≤◌, ◌^
 ghost use Rattle.std.specs.FinMap as map;
 ghost use Rattle.tree_machine.specs.State.{is_at_limit};
 ghost use Rattle.fuse_gate.specs.Standing.{IsInStep, machine_of};
-ghost use Rattle.fuse_gate.specs.Changes.{one_sent, counted_up, counted_down, with_node, without_node, with_handle, without_handle};
+ghost use Rattle.fuse_gate.specs.Changes.{one_sent, counted_up, counted_down, with_node};
+ghost use Rattle.fuse_gate.specs.Changes.{without_node, with_handle, without_handle};
 
 mod attach;
 mod forget;

@@ -35,13 +35,13 @@ impl<N: Nine> Answerer<N> for Gate {
     }
 }
 
-/// Attaches to the root of a server's share, answers the frames of the input, at most so many, and takes
-/// the server's fids away, whatever the answer.
+/// Attaches to the root of a server's share, answers the frames of the input, at most so many, and
+/// takes the server's fids away, whatever the answer.
 ///
 /// `Ok`: the input ended at a frame's end. `Attach`: as `Gate::new` refuses, with nothing read or
-/// written. `NoMemory`: no part of the unfinished reply was written. `Read`, `Write`: that stream failed.
-/// `Torn`: the input ends within a frame. `BadLength`: a length that no frame has. `TurnsSpent`: more
-/// bytes follow after so many frames. No other cause is told.
+/// written. `NoMemory`: no part of the unfinished reply was written. `Read`, `Write`: that stream
+/// failed. `Torn`: the input ends within a frame. `BadLength`: a length that no frame has.
+/// `TurnsSpent`: more bytes follow after so many frames. No other cause is told.
 pub fn pump<N: Nine, S: Source, K: Sink>(
     alloc: Global,
     nine: &mut N,
@@ -57,9 +57,9 @@ pub fn pump<N: Nine, S: Source, K: Sink>(
         (streams (S.left input.new) (K.sent out.new) (S.faults input.new) (K.faults out.new))
         turns result }
 
-    // Where no fault of the server was counted, what was written, the tree that is left and the number of
-    // messages are the machine's for the frames of the cut: for a whole input, and for one that stopped
-    // at the end of its cut.
+    // Where no fault of the server was counted, what was written, the tree that is left and the
+    // number of messages are the machine's for the frames of the cut: for a whole input, and for
+    // one that stopped at the end of its cut.
     ensures played { IfOk result (λ told. PlaysTo done told.handled told.nine_frames
         (N.at nine.old) (N.at nine.new)
         (streams (S.left input.old) (K.sent out.old) (S.faults input.old) (K.faults out.old))

@@ -6,9 +6,10 @@ use Rattle.std.specs.Ordering.{nat_cmp}
 use Rattle.std.specs.FinMap as map
 use Rattle.port_base.specs.Names.{name_fault}
 use Rattle.port_base.specs.OpenFlags.{has_flag}
-use Rattle.port_base.specs.declared.errno.TheConstants.{EBADF, ENFILE, EINVAL, EOPNOTSUPP}
+use Rattle.port_base.specs.declared.errno.TheConstants.{EBADF, ENFILE, EINVAL}
 use Rattle.port_base.specs.declared.oflag.TheConstants.{O_TRUNC}
-use Rattle.tree_model.specs.Tree.{is_linked}
+use Rattle.tree_model.specs.Tree.{Tree, is_linked}
+use Rattle.tree_model.specs.Attributing.{set_len_of}
 use Rattle.tree_model.specs.Finding.{find, root_of}
 use Rattle.tree_model.specs.Attributes.{Qid, stat_of}
 use Rattle.tree_model.specs.Opening.{open_check_of, read_of}
@@ -25,7 +26,7 @@ use Rattle.p9_rmsg.specs.Replies.Reply.{lerror as r_lerror, walk as r_walk}
 use Rattle.p9_wire.specs.declared.protocol.TheConstants.{P9_MAXWELEM}
 use Rattle.fid_model.specs.Fids.{ServerState, Fid, Fids, kept_state, IsGoodServer, closed, is_readable, fid_count, fid_weight}
 use Rattle.p9_wire.specs.declared.protocol.TheConstants.{RREAD_HEADER_SIZE}
-use Rattle.fid_model.specs.Answers.{answer, attach_core, attached, lopen_core, walk_core, walk_from, walk_answer, walk_names, walked_on, find_unless, getattr_by, getattr_reply, lopen_by, lopen_answer, opened, read_by, read_reply, clunk_by}
+use Rattle.fid_model.specs.Answers.{answer, attach_core, attached, emptied_where, walk_core, walk_from, walk_answer, walk_names, walked_on, find_unless, getattr_by, getattr_reply, lopen_by, lopen_answer, opened, read_by, read_reply, clunk_by}
 use Rattle.fid_model.specs.Handling.{Outcome, IsPartOfWalk}
 use Rattle.fid_model.specs.Calls.{named, walk_one_told, attach_told, clunked}
 use Rattle.fid_model.specs.Moments.{Untouched}
@@ -194,14 +195,26 @@ module _ (s : ServerState) (g : IsGoodServer s) (fid : ℕ) (f : Fid) (known : m
     still_kept : kept_state (record s { fids = map.insert s.fids fid (opened f flags) }) ≡ record s { fids = map.insert s.fids fid (opened f flags) }
     still_kept = kept_state_kept (record s { fids = map.insert s.fids fid (opened f flags) }) (λ i had. ap (λ k. is_linked s.tree.records i || nat_lt 0 k) (same_count i) ∙ g.kept i had)
 
-    open_core : lopen_core s fid flags ≡ lopen_answer s fid flags f (open_check_of s.tree f.ino flags)
-    open_core = ap (λ b. cond b (pair (r_lerror EOPNOTSUPP) s) (lopen_by s fid flags (map.get s.fids fid))) whole ∙ ap (lopen_by s fid flags) known
+    -- an open that empties nothing leaves the tree
+    open_kept : Result (Unit {0}) ℕ → Result (Unit {0} × Tree) ℕ
+    open_kept (Ok u) = Ok (tt, s.tree)
+    open_kept (Err e) = Err e
 
-    open_seen : (r : Result (Unit {0}) ℕ) → open_view (lopen_answer s fid flags f r).0 ≡ Some (opened_by s fid f flags r).0
+    emptied_none : (r : Result (Unit {0}) ℕ) → emptied_where r s.tree f.ino flags ≡ open_kept r
+    unfolding open_kept
+    emptied_none (Ok u) = ap (λ b. cond b (set_len_of s.tree f.ino 0) (Ok (tt, s.tree))) whole
+    emptied_none (Err e) = refl
+
+    open_core : lopen_by s fid flags (map.get s.fids fid) ≡ lopen_answer s fid flags f (open_kept (open_check_of s.tree f.ino flags))
+    open_core = ap (lopen_by s fid flags) known ∙ ap (lopen_answer s fid flags f) (emptied_none (open_check_of s.tree f.ino flags))
+
+    open_seen : (r : Result (Unit {0}) ℕ) → open_view (lopen_answer s fid flags f (open_kept r)).0 ≡ Some (opened_by s fid f flags r).0
+    unfolding open_kept
     open_seen (Ok u) = refl
     open_seen (Err e) = refl
 
-    open_left : (r : Result (Unit {0}) ℕ) → kept_state (lopen_answer s fid flags f r).1 ≡ (opened_by s fid f flags r).1
+    open_left : (r : Result (Unit {0}) ℕ) → kept_state (lopen_answer s fid flags f (open_kept r)).1 ≡ (opened_by s fid f flags r).1
+    unfolding open_kept
     open_left (Ok u) = still_kept
     open_left (Err e) = kept_state_good s g
 

@@ -28,7 +28,8 @@ pub record IsRequest (bytes : List ℕ) (m : Message) (s : ServerState) : Type 0
   pub askable : IsAskable s m
 
 -- these bytes are the reply to a message
-pub record RepliesWith (m : Message) (s0 s1 : ServerState) (f0 f1 : ℕ) (bytes : List ℕ) : Type 0 where
+pub record RepliesWith (m : Message) (s0 s1 : ServerState) (f0 f1 : ℕ) (bytes : List ℕ) : Type
+    0 where
   pub tag : ℕ
   pub reply : Reply
   pub spelled : bytes ≡ reply_frame tag reply

@@ -12,7 +12,8 @@ abbrev pub copied_told : ServerState → ℕ → ℕ → Result (Unit {0}) ℕ �
 copied_told s ino newfid = (Ok tt, record s { fids = map.insert s.fids newfid (closed ino) })
 
 abbrev pub opened_by : ServerState → ℕ → Fid → ℕ → Result (Unit {0}) ℕ → Result Qid ℕ × ServerState
-opened_by s fid f flags (Ok u) = (Ok (qid_at s.tree f.ino), record s { fids = map.insert s.fids fid (opened f flags) })
+opened_by s fid f flags (Ok u) =
+    (Ok (qid_at s.tree f.ino), record s { fids = map.insert s.fids fid (opened f flags) })
 opened_by s fid f flags (Err e) = (Err e, s)
 
 -- a fid is open by these flags
@@ -26,4 +27,5 @@ is_readable_at (Some f) = is_readable f.open_state
 
 -- the bytes of an inode from an offset on, as many as there are, are asked for and fit a frame
 abbrev pub read_told : ServerState → ℕ → ℕ → ℕ → Result (List ℕ) ℕ × ServerState
-read_told s ino offset count = (read_of s.tree ino offset (min count (s.msize - RREAD_HEADER_SIZE)), s)
+read_told s ino offset count =
+    (read_of s.tree ino offset (min count (s.msize - RREAD_HEADER_SIZE)), s)

@@ -7,7 +7,9 @@ use Rattle.p9_wire.specs.declared.data.Data.{Data}
 use Rattle.p9_wire.specs.Qids.{qid_of}
 use Rattle.p9_rmsg.specs.declared.message.Rgetattr.{Rgetattr}
 use Rattle.p9_rmsg.specs.Replies.{Attributes, attributes_of, Reply}
-use Rattle.p9_rmsg.specs.Replies.Reply.{attach as r_attach, getattr as r_getattr, lerror as r_lerror, lopen as r_lopen, read as r_read, walk as r_walk}
+use Rattle.p9_rmsg.specs.Replies.Reply.{attach as r_attach, getattr as r_getattr}
+use Rattle.p9_rmsg.specs.Replies.Reply.{lerror as r_lerror, lopen as r_lopen, read as r_read}
+use Rattle.p9_rmsg.specs.Replies.Reply.{walk as r_walk}
 use Rattle.fid_model.specs.Answers.{attributes_of as attributes_shown}
 use Rattle.fid_model.specs.Fids.{ServerState}
 use Rattle.fid_model.specs.Calls.{getattr_told, clunked}
@@ -47,7 +49,8 @@ pub record FidGone (fid : ℕ) (old new : Moment) : Type 0 where
 abbrev pub FidGoneOrNot : ℕ → Moment → Moment → Type 0
 FidGoneOrNot fid old new = (new.state ≡ old.state) ⊎ (new.state ≡ clunked old.state fid)
 
--- ---- replies, as the calls read them: their own answer or a refusal, and none of a reply of another kind
+-- ---- replies, as the calls read them: their own answer or a refusal, and none of a reply of
+-- another kind
 
 abbrev pub attach_view : Reply → Option (Result Qid ℕ)
 attach_view (r_attach qid) = Some (Ok qid)

@@ -1,5 +1,5 @@
-//! Opens and reads as those that ask are told them, computed on a small server: fid 7 names the top directory, and
-//! fid 8 the file `hello`, which is open to be read.
+//! Opens and reads as those that ask are told them, computed on a small server: fid 7 names the
+//! top directory, and fid 8 the file `hello`, which is open to be read.
 ghost use Rattle.std.specs.Prelude.{◌≡◌, true, false, Ok, Err, Some, None, codes};
 ghost use Rattle.std.specs.FinMap.{insert};
 ghost use Rattle.port_base.specs.declared.errno.TheConstants.{EISDIR};
@@ -11,10 +11,19 @@ ghost use Rattle.p9_client.specs.Opening.{opened_told, is_readable_at, read_told
 /// The directory, opened to be read; to be written it isn't.
 #[tactic(auto, using(crate::proofs::Sampling::open_read, crate::proofs::Sampling::open_written))]
 pub fn opening()
-    ensures to_read { opened_told server 7 (closed 1) 0 ≡ (Ok top_qid, record server { fids = insert server.fids 7 (record { ino = 1; open_state = Opened 0 false }) }) }
+    ensures to_read { opened_told server 7 (closed 1) 0
+        ≡ (
+          Ok top_qid,
+          record server {
+            fids =
+                insert server.fids 7 (record { ino = 1; open_state = Opened 0 false });
+          },
+        ) }
     ensures to_write { opened_told server 7 (closed 1) 1 ≡ (Err EISDIR, server) }
-    ensures readable { is_readable_at (Some (record { ino = 2; open_state = Opened 0 false })) ≡ true }
-    ensures writable { is_readable_at (Some (record { ino = 2; open_state = Opened 1 false })) ≡ false }
+    ensures readable { is_readable_at (Some (record { ino = 2; open_state = Opened 0 false }))
+        ≡ true }
+    ensures writable { is_readable_at (Some (record { ino = 2; open_state = Opened 1 false }))
+        ≡ false }
     ensures unknown { is_readable_at None ≡ false }
 {}
 

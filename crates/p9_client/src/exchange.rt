@@ -6,7 +6,8 @@ ghost use Rattle.p9_rmsg.specs.Replies.{Reply, reply_of, ReplySpells, IsReadable
 ghost use Rattle.p9_rmsg.specs.Frames.{reply_frame};
 ghost use Rattle.fid_model.specs.Moments.{AskedOne, Keeps};
 ghost use Rattle.fid_model.specs.Handling.{IsLeft};
-ghost use Rattle.p9_client.specs.Asking.{IsAskable, IsRequest, IsRepliedBy, IsExchanged, IsUnfinishedAt};
+ghost use Rattle.p9_client.specs.Asking.{IsAskable, IsRequest, IsRepliedBy, IsExchanged};
+ghost use Rattle.p9_client.specs.Asking.{IsUnfinishedAt};
 ghost use Rattle.p9_client.specs.Asking.{IsReplyFrame};
 
 use fid_model::Nine;
@@ -68,8 +69,8 @@ fn reply_in(alloc: Global, frame: &[u8]) -> Result<Rmessage, NoMemory>
     }
 }
 
-/// Sends a server one message. Its only error is out of memory: then the state is as a front part of the
-/// message, or the whole of it, left it.
+/// Sends a server one message. Its only error is out of memory: then the state is as a front part
+/// of the message, or the whole of it, left it.
 pub fn exchange<N: Nine>(
     alloc: Global,
     nine: &mut N,

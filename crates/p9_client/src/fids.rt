@@ -1,4 +1,5 @@
-//! Fids: they are made for the root, by a walk or as copies, opened, and let go. Each call sends one message.
+//! Fids: they are made for the root, by a walk or as copies, opened, and let go. Each call sends
+//! one message.
 ghost use Rattle.std.specs.Prelude.{◌≡◌, ◌<◌, ◌∷◌, [], false, IfOk, OnOk, OnErr, IsSome, None};
 ghost use Rattle.std.specs.FinMap as map;
 ghost use Rattle.port_base.specs.Names.{name_fault};

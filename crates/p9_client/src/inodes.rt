@@ -39,7 +39,8 @@ pub fn get_attr<N: Nine>(
     }
 }
 
-/// Reads at most so many bytes of a fid that is open to be read: as many as there are and fit a frame.
+/// Reads at most so many bytes of a fid that is open to be read: as many as there are and fit a
+/// frame.
 pub fn read<N: Nine>(
     alloc: Global,
     nine: &mut N,

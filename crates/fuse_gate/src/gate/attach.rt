@@ -73,8 +73,8 @@ fn refusal(limit: u32, errno: u32) -> u32
 impl Gate {
     /// Takes all fids of the server away, and attaches to the root of its share.
     ///
-    /// ENFILE exactly where there may be no fid, ENOENT or ENOTDIR by the root's path; EIO only where the
-    /// server's count of faults rose. After an error the server has no fid.
+    /// ENFILE exactly where there may be no fid, ENOENT or ENOTDIR by the root's path; EIO only
+    /// where the server's count of faults rose. After an error the server has no fid.
     pub fn new<N: Nine>(alloc: Global, nine: &mut N) -> Result<Gate, AttachError>
         requires { LEAST_MSIZE ≤ (N.at nine.old).state.msize }
         ensures attached { AttachedBy (N.at nine.old) (N.at nine.new) result }

@@ -16,8 +16,8 @@ use p9_client::clunk;
 use port_base::sink::NoMemory;
 
 impl Gate {
-    // A node counts less by so many, and goes where that leaves none; the root and an unknown node are passed
-    // over.
+    // A node counts less by so many, and goes where that leaves none; the root and an unknown node
+    // are passed over.
     pub(super) fn forget<N: Nine>(
         &mut self,
         nine: &mut N,

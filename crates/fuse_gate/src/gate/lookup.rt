@@ -18,8 +18,8 @@ use port_base::names::name_fault;
 use port_base::sink::NoMemory;
 
 impl Gate {
-    // The entry of an inode that the next number names as a fid: it becomes a node, or goes where the inode
-    // has one.
+    // The entry of an inode that the next number names as a fid: it becomes a node, or goes where
+    // the inode has one.
     fn enter<N: Nine>(&mut self, nine: &mut N, qid: Qid) -> Result<Reply, NoMemory>
         requires { HasFresh self.old (N.at nine.old).state qid.path (qid_of qid) }
         ensures served { IfOk result (λ reply. ServesEntry qid.path

@@ -20,8 +20,8 @@ use port_base::sink::NoMemory;
 use tree_model::attributes::QTDIR;
 
 impl Gate {
-    // The bytes of a fid's file from an offset on, at most so many, piece by piece: each is as long as a
-    // message brings, until none is left to be asked for or one is short.
+    // The bytes of a fid's file from an offset on, at most so many, piece by piece: each is as
+    // long as a message brings, until none is left to be asked for or one is short.
     fn read_pieces<N: Nine>(
         &mut self,
         nine: &mut N,

@@ -6,7 +6,8 @@ ghost use Rattle.tree_machine.specs.Step.{is_in_turn};
 ghost use Rattle.fid_model.specs.Moments.{Keeps};
 ghost use Rattle.fuse_gate.specs.Standing.{IsInStep, phase_of};
 ghost use Rattle.fuse_gate.specs.Replies.{reply_of};
-ghost use Rattle.fuse_gate.specs.Steps.{ServesRequest, LeavesPartOf, ServesFrame, LeavesPartOfFrame};
+ghost use Rattle.fuse_gate.specs.Steps.{ServesRequest, LeavesPartOf, ServesFrame};
+ghost use Rattle.fuse_gate.specs.Steps.{LeavesPartOfFrame};
 
 use crate::gate::reply::Reply;
 use crate::gate::{Gate, Phase};

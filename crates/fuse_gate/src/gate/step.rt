@@ -16,11 +16,11 @@ use fuse_wire::opcode::is_silent;
 use port_base::sink::NoMemory;
 
 impl Gate {
-    /// Answers one whole frame, and appends its reply, if it has one: the step of the machine; or, only
-    /// where the server's count of faults rose, the error EIO and what a fault leaves.
+    /// Answers one whole frame, and appends its reply, if it has one: the step of the machine; or,
+    /// only where the server's count of faults rose, the error EIO and what a fault leaves.
     ///
-    /// `NoMemory`: the reply is unchanged, the tree is as the request was carried out in part, and the
-    /// gate isn't used again.
+    /// `NoMemory`: the reply is unchanged, the tree is as the request was carried out in part, and
+    /// the gate isn't used again.
     pub fn step<N: Nine>(
         &mut self,
         nine: &mut N,
