@@ -37,10 +37,13 @@ pub record Stays (old new : Session) : Type 0 where
   pub steadily : IsTrue old.steady → new.faults ≡ old.faults
   pub rises : old.faults ≤ new.faults
 
--- the step of the machine, with its messages; or, only where the count of faults rose, a step that met a fault
-abbrev pub StepOutcome : ℕ → Settings → MachineState → MachineState → ℕ → ℕ → ℕ → List ℕ → List ℕ → Type 0
+-- the step of the machine, with its messages; or, only where the count of faults rose, a step that
+-- met a fault
+abbrev pub StepOutcome : ℕ → Settings → MachineState → MachineState → ℕ → ℕ → ℕ → List ℕ → List ℕ
+    → Type 0
 StepOutcome piece s m0 m1 f0 f1 sent frame bytes =
-    ((bytes ≡ (step s m0 frame).0) × (m1 ≡ (step s m0 frame).1) × (sent ≡ messages piece s m0 frame)) ⊎ (Rose f0 f1 × IsHurtStep s m0 frame bytes m1)
+    ((bytes ≡ (step s m0 frame).0) × (m1 ≡ (step s m0 frame).1)
+    × (sent ≡ messages piece s m0 frame)) ⊎ (Rose f0 f1 × IsHurtStep s m0 frame bytes m1)
 
 -- a frame was answered by these bytes
 pub record Answers (old new : Session) (frame bytes : List ℕ) : Type 0 where
@@ -49,13 +52,15 @@ pub record Answers (old new : Session) (frame bytes : List ℕ) : Type 0 where
   pub number : ℕ
   pub sent : Counted old.sent number new.sent
   pub asked : Counted old.asked number new.asked
-  pub outcome : StepOutcome old.piece old.settings old.state new.state old.faults new.faults number frame bytes
+  pub outcome : StepOutcome old.piece old.settings old.state new.state old.faults new.faults number
+      frame bytes
 
 -- a reply grew by the bytes that answer a frame
 abbrev pub AppendsAnswer : Session → Session → List ℕ → List ℕ → List ℕ → Type 0
-AppendsAnswer old new frame reply0 reply1 = (bytes : List ℕ) × (reply1 ≡ reply0 ++ bytes) × Answers old new frame bytes
+AppendsAnswer old new frame reply0 reply1 = (bytes : List ℕ) × (reply1 ≡ reply0 ++ bytes)
+    × Answers old new frame bytes
 
--- a frame was answered in part, for want of memory
+-- a frame was answered in part: out of memory
 pub record LeavesPart (old new : Session) (frame : List ℕ) : Type 0 where
   pub stays : Stays old new
   pub tree : IsPartDone old.settings old.state frame new.state.tree

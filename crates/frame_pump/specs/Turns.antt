@@ -1,5 +1,6 @@
 -- What a turn and a whole run leave, by their answers.
-use Rattle.std.specs.Prelude.{◌≡◌, ◌⊎◌, ℕ, Bool, true, false, List, [], ◌∷◌, ◌++◌, length, take, Option, IfSome, Result, Ok, Err}
+use Rattle.std.specs.Prelude.{◌≡◌, ◌⊎◌, ℕ, Bool, true, false, List, [], ◌∷◌, ◌++◌, length, take}
+use Rattle.std.specs.Prelude.{Option, IfSome, Result, Ok, Err}
 use Rattle.std.specs.Io.KnownBytes.{Appends, Consumes, Keeps, IsAtEnd}
 use Rattle.std.specs.List.{concat}
 use Rattle.port_base.specs.Faults.{Faulted}
@@ -17,7 +18,8 @@ use Rattle.frame_pump.specs.declared.outcome.Halt.{Halt}
 use Rattle.frame_pump.specs.declared.outcome.Pumped.{Pumped}
 use Rattle.frame_pump.specs.declared.outcome.Stopped.{Stopped}
 
--- what the input and the output show: the bytes still to come and those that were sent, where they are told, and the counts of faults
+-- what the input and the output show: the bytes still to come and those that were sent, where they
+-- are told, and the counts of faults
 pub record Streams : Type 0 where
   pub left : Option (List ℕ)
   pub sent : Option (List ℕ)
@@ -36,13 +38,17 @@ abbrev pub ReadFailed : Streams → Streams → Type 0
 ReadFailed old new = Faulted old.read_faults new.read_faults × (new.write_faults ≡ old.write_faults)
 
 abbrev pub WriteFailed : Streams → Streams → Type 0
-WriteFailed old new = (new.read_faults ≡ old.read_faults) × Faulted old.write_faults new.write_faults
+WriteFailed old new = (new.read_faults ≡ old.read_faults) × Faulted old.write_faults
+    new.write_faults
 
 -- sending a reply, by the answer
-abbrev pub Sends : Option (List ℕ) → Option (List ℕ) → ℕ → ℕ → List ℕ → Result (Unit {0}) SinkFault → Type 0
+abbrev pub Sends : Option (List ℕ) → Option (List ℕ) → ℕ → ℕ → List ℕ → Result (Unit {0}) SinkFault
+    → Type 0
 Sends sent0 sent1 faults0 faults1 reply (Ok x) = (faults1 ≡ faults0) × Appends sent0 sent1 reply
-Sends sent0 sent1 faults0 faults1 reply (Err sink.Failed) = Faulted faults0 faults1 × SentFront sent0 sent1 reply
-Sends sent0 sent1 faults0 faults1 reply (Err sink.NoMemory) = (faults1 ≡ faults0) × Keeps sent0 sent1
+Sends sent0 sent1 faults0 faults1 reply (Err sink.Failed) =
+    Faulted faults0 faults1 × SentFront sent0 sent1 reply
+Sends sent0 sent1 faults0 faults1 reply (Err sink.NoMemory) =
+    (faults1 ≡ faults0) × Keeps sent0 sent1
 
 -- ---- one turn
 
@@ -58,7 +64,9 @@ Idle s0 s1 p0 p1 = (s1 ≡ s0) × Keeps p0.sent p1.sent
 
 -- no memory: nothing was answered; or the next frame in part, or in whole
 abbrev pub Unanswered : Session → Session → Streams → Streams → Type 0
-Unanswered s0 s1 p0 p1 = (s1 ≡ s0) ⊎ ((frame : List ℕ) × IsFrame frame × Consumes p0.left p1.left frame × LeavesPart s0 s1 frame)
+Unanswered s0 s1 p0 p1 =
+    (s1 ≡ s0) ⊎ ((frame : List ℕ) × IsFrame frame × Consumes p0.left p1.left frame
+    × LeavesPart s0 s1 frame)
 
 -- a frame was taken and answered, and of the reply was sent what `sent` says
 abbrev pub Answering : Session → Session → Streams → Streams → (List ℕ → Type 0) → Type 0
@@ -88,10 +96,12 @@ Turn s0 s1 stands p0 p1 (Err _) = ⊥
 
 -- these are the first frames of the cut of the input, where it tells its bytes
 abbrev pub AreFirst : Option (List ℕ) → ℕ → List (List ℕ) → Type 0
-AreFirst left turns frames = IfSome left (λ bytes. take (length frames) (cut turns bytes).frames ≡ frames)
+AreFirst left turns frames =
+    IfSome left (λ bytes. take (length frames) (cut turns bytes).frames ≡ frames)
 
 -- the first frames of the input, so many
-pub record Fronts (left : Option (List ℕ)) (turns handled : ℕ) (frames : List (List ℕ)) : Type 0 where
+pub record Fronts (left : Option (List ℕ)) (turns handled : ℕ) (frames : List (List ℕ)) : Type
+    0 where
   pub whole : AreFrames frames
   pub number : length frames ≡ handled
   pub first : AreFirst left turns frames
@@ -120,7 +130,8 @@ pub record Ended (s0 s1 : Session) (p0 p1 : Streams) (turns handled : ℕ) (end 
   pub answered : Answered s0 s1 frames replies
   pub sent : Appends p0.sent p1.sent replies
 
--- the input failed after so many frames were answered and the replies sent: fewer bytes than a frame has were taken behind them
+-- the input failed after so many frames were answered and the replies sent: fewer bytes than a
+-- frame has were taken behind them
 pub record ReadStopped (s0 s1 : Session) (p0 p1 : Streams) (turns handled : ℕ) : Type 0 where
   pub frames : List (List ℕ)
   pub fronts : Fronts p0.left turns handled frames
@@ -145,7 +156,8 @@ pub record WriteStopped (s0 s1 : Session) (p0 p1 : Streams) (turns handled : ℕ
   pub answers : Answers between s1 last bytes
   pub sent : (n : ℕ) × Appends p0.sent p1.sent (replies ++ take n bytes)
 
--- no memory after so many frames were answered and the replies sent: all is as after them, but that the next frame may have been answered in part
+-- no memory after so many frames were answered and the replies sent: all is as after them, but
+-- that the next frame may have been answered in part
 pub record MemoryStopped (s0 s1 : Session) (p0 p1 : Streams) (turns handled : ℕ) : Type 0 where
   pub frames : List (List ℕ)
   pub fronts : Fronts p0.left turns handled frames
@@ -153,7 +165,9 @@ pub record MemoryStopped (s0 s1 : Session) (p0 p1 : Streams) (turns handled : �
   pub between : Session
   pub answered : Answered s0 between frames replies
   pub sent : Appends p0.sent p1.sent replies
-  pub after : (s1 ≡ between) ⊎ ((next : List ℕ) × AreFirst p0.left turns (frames ++ next ∷ []) × IsFrame next × LeavesPart between s1 next)
+  pub after : (s1 ≡ between)
+      ⊎ ((next : List ℕ) × AreFirst p0.left turns (frames ++ next ∷ []) × IsFrame next
+      × LeavesPart between s1 next)
 
 -- all the frames of the cut were answered and the replies sent, and no stream failed
 abbrev pub EndsQuietly : Session → Session → Type 0 → Streams → Streams → ℕ → ℕ → End → Type 0
@@ -183,13 +197,15 @@ Loops s0 s1 stands p0 p1 turns (Err halt) =
     StopsBy s0 s1 stands p0 p1 turns halt.handled halt.cause
 
 -- a run, by its answer
-abbrev pub RunsBy : Session → Session → Type 0 → Streams → Streams → ℕ → Result Pumped Stopped → Type 0
+abbrev pub RunsBy : Session → Session → Type 0 → Streams → Streams → ℕ → Result Pumped Stopped
+    → Type 0
 RunsBy s0 s1 stands p0 p1 turns (Ok told) =
     (told.nine_frames ≡ s1.sent) × EndsQuietly s0 s1 stands p0 p1 turns told.handled done
 RunsBy s0 s1 stands p0 p1 turns (Err told) =
     (told.nine_frames ≡ s1.sent) × StopsBy s0 s1 stands p0 p1 turns told.handled told.cause
 
 -- a run: what always holds, and the answer
-pub record Runs (s0 s1 : Session) (stands : Type 0) (p0 p1 : Streams) (turns : ℕ) (result : Result Pumped Stopped) : Type 0 where
+pub record Runs (s0 s1 : Session) (stands : Type 0) (p0 p1 : Streams) (turns : ℕ)
+    (result : Result Pumped Stopped) : Type 0 where
   pub stays : Stays s0 s1
   pub outcome : RunsBy s0 s1 stands p0 p1 turns result

@@ -5,10 +5,11 @@ ghost use Rattle.frame_pump.specs.Sessions.{Session, AppendsAnswer, LeavesPart};
 
 use port_base::sink::NoMemory;
 
-/// Answers frames one at a time, over something below that it is handed at each call, as a gate does over a
-/// 9P server.
+/// Answers frames one at a time, over something below that it is handed at each call, as a gate
+/// does over a 9P server.
 pub trait Answerer<N> {
-    /// What both show: the state of the machine, the settings, the bytes of a piece, and their counts.
+    /// What both show: the state of the machine, the settings, the bytes of a piece, and their
+    /// counts.
     ghost session: { Self → N → Session };
 
     /// Whether both stand for a good state of the machine.
@@ -19,8 +20,8 @@ pub trait Answerer<N> {
 
     ghost kept: { Self → N → Kept };
 
-    /// Answers one whole frame, and appends its reply, if it has one. `NoMemory`: the reply is unchanged, and
-    /// no further frame may be answered.
+    /// Answers one whole frame, and appends its reply, if it has one. `NoMemory`: the reply is
+    /// unchanged, and no further frame may be answered.
     fn answer(&mut self, below: &mut N, frame: &[u8], reply: &mut Vec<u8>) -> Result<(), NoMemory>
         requires frame { IsFrame frame.now }
         requires stands { stands self.old below.old }

@@ -4,8 +4,8 @@ ghost use Rattle.tree_machine.specs.Play.{play_from};
 ghost use Rattle.tree_machine.specs.Messages.{messages_from};
 ghost use Rattle.frame_pump.specs.Sessions.{Session, Counted, Answers, Answered};
 
-/// Where no fault was counted, the replies to frames, the state behind them and the number of messages are the
-/// machine's.
+/// Where no fault was counted, the replies to frames, the state behind them and the number of
+/// messages are the machine's.
 pub fn unfailing_runs_are_plays()
     ensures { (s0 s1 : Session) (frames : List (List ℕ)) (replies : List ℕ) →
         Answered s0 s1 frames replies → s1.faults ≡ s0.faults → s0.faults < 2 ^ 64 - 1 →
@@ -17,7 +17,8 @@ pub fn unfailing_runs_are_plays()
 
 /// A frame that is answered behind others is one of them.
 pub fn one_more_is_answered()
-    ensures { (s0 s1 s2 : Session) (frames : List (List ℕ)) (last : List ℕ) (replies bytes : List ℕ) →
+    ensures { (s0 s1 s2 : Session) (frames : List (List ℕ)) (last : List ℕ)
+        (replies bytes : List ℕ) →
         Answered s0 s1 frames replies → Answers s1 s2 last bytes →
         Answered s0 s2 (frames ++ last ∷ []) (replies ++ bytes) }
 {}

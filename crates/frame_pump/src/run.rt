@@ -9,8 +9,8 @@ use port_base::sink::{Sink, SinkFault, write_all};
 use port_base::source::{Source, read_full};
 use std::alloc::Global;
 
-// Sends a whole reply, or a front of it. Its room is reserved first, so that no part of it is sent where
-// there is no memory.
+// Sends a whole reply, or a front of it. Its room is reserved first, so that no part of it is sent
+// where there is no memory.
 fn send_reply<K: Sink>(out: &mut K, reply: &[u8]) -> Result<(), SinkFault>
     ensures sends { Sends
         (K.sent out.old) (K.sent out.new) (K.faults out.old) (K.faults out.new) reply.now result }
@@ -28,8 +28,8 @@ fn send_reply<K: Sink>(out: &mut K, reply: &[u8]) -> Result<(), SinkFault>
     }
 }
 
-// Takes one frame, answers it and sends the reply; false at the end of the input. The buffers are used again
-// from turn to turn.
+// Takes one frame, answers it and sends the reply; false at the end of the input. The buffers are
+// used again from turn to turn.
 fn turn<A: Answerer<N>, N, S: Source, K: Sink>(
     answerer: &mut A,
     below: &mut N,
@@ -111,10 +111,11 @@ fn handle_frames<A: Answerer<N>, N, S: Source, K: Sink>(
     }
 }
 
-/// Answers the frames of the input, at most so many, one after another: each reply is sent in whole before the
-/// next frame is taken. `Ok`: the input ended at a frame's end. `NoMemory`: the unfinished reply wasn't sent,
-/// and no further frame may be answered. `Read`, `Write`: that stream failed. `Torn`: the input ends within
-/// a frame. `BadLength`: a length that no frame has. `TurnsSpent`: more bytes follow after so many frames.
+/// Answers the frames of the input, at most so many, one after another: each reply is sent in
+/// whole before the next frame is taken. `Ok`: the input ended at a frame's end. `NoMemory`: the
+/// unfinished reply wasn't sent, and no further frame may be answered. `Read`, `Write`: that
+/// stream failed. `Torn`: the input ends within a frame. `BadLength`: a length that no frame has.
+/// `TurnsSpent`: more bytes follow after so many frames.
 pub fn run_frames<A: Answerer<N>, N, S: Source, K: Sink>(
     alloc: Global,
     answerer: &mut A,

@@ -27,7 +27,8 @@ struct Failing {
 // Appends the error EIO, where the request gets a reply.
 fn reply_failed(frame: &[u8], reply: &mut Vec<u8>) -> Result<(), NoMemory>
     requires { IsFrame frame.now }
-    ensures ok { OnOk result (reply.new.items ≡ reply.old.items ++ answer_bytes frame.now (Refused EIO)) }
+    ensures ok { OnOk result
+        (reply.new.items ≡ reply.old.items ++ answer_bytes frame.now (Refused EIO)) }
     ensures err { OnErr result (reply.new.items ≡ reply.old.items) }
 {
     let head = Head::read(frame);
@@ -41,8 +42,23 @@ fn reply_failed(frame: &[u8], reply: &mut Vec<u8>) -> Result<(), NoMemory>
 
 impl Answerer<()> for Failing {
     ghost session = { λ f below. record {
-      state = begun (record { records = map.empty; next = 2; limits = record { file = 0; entries = 0; links = 1 }; moment = record { sec = 0; nsec = 0 } }) 1;
-      settings = record { root = []; uid_map = map.empty; gid_map = map.empty; casefold = false; limit = 1 };
+      state =
+          begun
+          (record {
+            records = map.empty;
+            next = 2;
+            limits =
+                record { file = 0; entries = 0; links = 1 };
+            moment = record { sec = 0; nsec = 0 };
+          }) 1;
+      settings = record {
+        root = [];
+        uid_map = map.empty;
+        gid_map = map.empty;
+        casefold =
+            false;
+        limit = 1;
+      };
       piece = 1;
       faults = f.failed;
       steady = false;
@@ -87,7 +103,8 @@ const REPLIES: [u8; 32] = [
 
 #[test]
 fn each_end_of_the_input(rt: HostRuntime) -> Result<(), Fail> {
-    // How many bytes of the input are there, and how many turns; how many frames are answered, and the cause.
+    // How many bytes of the input are there, and how many turns; how many frames are answered, and
+    // the cause.
     let cases = [
         (0, 0, 0, None),
         (81, 2, 2, None),

@@ -1,10 +1,12 @@
--- The core requests: for each one the refusals that stand before anything is done, in order, and the
--- reply and the state where it isn't refused by them.
-use Rattle.std.specs.Prelude.{ℕ, ◌+◌, Bool, false, not, ◌||◌, List, [], ◌∷◌, find as first_where, Option, Some, None, Result, Ok, Err, ◌==◌, nat_lt, min}
+-- The core requests: for each one the refusals that stand before anything is done, in order, and
+-- the reply and the state where it isn't refused by them.
+use Rattle.std.specs.Prelude.{ℕ, ◌+◌, Bool, false, not, ◌||◌, List, [], ◌∷◌, find as first_where}
+use Rattle.std.specs.Prelude.{Option, Some, None, Result, Ok, Err, ◌==◌, nat_lt, min}
 use Rattle.std.specs.FinMap as map
 use Rattle.port_base.specs.Names.{name_fault}
 use Rattle.port_base.specs.OpenFlags.{access, has_flag}
-use Rattle.port_base.specs.declared.errno.TheConstants.{EBADF, EISDIR, ELOOP, ENFILE, ENOENT, EPROTO, ESTALE}
+use Rattle.port_base.specs.declared.errno.TheConstants.{EBADF, EISDIR, ELOOP, ENFILE, ENOENT}
+use Rattle.port_base.specs.declared.errno.TheConstants.{EPROTO, ESTALE}
 use Rattle.port_base.specs.declared.oflag.TheConstants.{O_APPEND, O_WRONLY}
 use Rattle.tree_model.specs.Tree.{Tree, Body, body_at, is_directory_at}
 use Rattle.tree_model.specs.Tree.Body.{File, Directory, Link}
@@ -13,12 +15,15 @@ use Rattle.tree_model.specs.Attributes.{stat_of}
 use Rattle.tree_model.specs.Opening.{read_of}
 use Rattle.tree_model.specs.Settings.{Settings, shown_told}
 use Rattle.tree_model.specs.declared.attributes.Attr.{Attr}
-use Rattle.fuse_wire.specs.Request.{Request, init, lookup, getattr, open_file, read, flush, release, forget, batch_forget}
-use Rattle.fuse_wire.specs.declared.protocol.TheConstants.{FUSE_KERNEL_VERSION, FUSE_LEAST_MINOR, FUSE_KERNEL_MINOR_VERSION, MAX_READ}
+use Rattle.fuse_wire.specs.Request.{Request, init, lookup, getattr, open_file, read, flush}
+use Rattle.fuse_wire.specs.Request.{release, forget, batch_forget}
+use Rattle.fuse_wire.specs.declared.protocol.TheConstants.{FUSE_KERNEL_VERSION, FUSE_LEAST_MINOR}
+use Rattle.fuse_wire.specs.declared.protocol.TheConstants.{FUSE_KERNEL_MINOR_VERSION, MAX_READ}
 use Rattle.tree_machine.specs.State.{MachineState, Node, Handle, is_at_limit, COUNT_LIMIT}
 use Rattle.tree_machine.specs.State.Phase.{Started}
 use Rattle.tree_machine.specs.Replies.{Reply, fuse_attributes}
-use Rattle.tree_machine.specs.Replies.Reply.{Refused, Granted, Entry, Attributes, Opened, Bytes, Done}
+use Rattle.tree_machine.specs.Replies.Reply.{Refused, Granted, Entry, Attributes, Opened, Bytes}
+use Rattle.tree_machine.specs.Replies.Reply.{Done}
 use Rattle.tree_machine.specs.Refusals.{refused_if, refused_unknown, first_refusal, refused_or}
 use Rattle.tree_machine.specs.Forgetting.{forgotten, all_forgotten, pairs_of}
 
@@ -60,7 +65,9 @@ abbrev pub node_for : MachineState → ℕ → Option (ℕ × Node) → ℕ × M
 node_for m ino (Some known) = (
   known.0,
   record m {
-    nodes = map.insert m.nodes known.0 (record { ino = ino; count = min (known.1.count + 1) COUNT_LIMIT });
+    nodes =
+        map.insert m.nodes known.0
+        (record { ino = ino; count = min (known.1.count + 1) COUNT_LIMIT });
   },
 )
 node_for m ino None = (

@@ -20,8 +20,9 @@ IsEither before after t = (t ≡ before) ⊎ (t ≡ after)
 abbrev pub IsAfterFront : {X : Type 0} → (List X → Tree) → List X → Tree → Type 0
 IsAfterFront after all t = (n : ℕ) × (t ≡ after (take n all))
 
--- the trees between: of BATCH_FORGET those after a front part of its pairs (so of SETATTR those after
--- a front part of its steps, and of WRITE of its bytes, once they are served); of no other request
+-- the trees between: of BATCH_FORGET those after a front part of its pairs (so of SETATTR those
+-- after a front part of its steps, and of WRITE of its bytes, once they are served); of no other
+-- request
 abbrev pub IsBetween : MachineState → Result Request ℕ → Tree → Type 0
 IsBetween m (Ok (batch_forget pairs)) t =
     IsAfterFront (λ ps. (kept_state (all_forgotten m ps)).tree) (pairs_of pairs) t
@@ -39,7 +40,8 @@ IsPartDone s m frame t =
     PartOf s m (head_of frame).nodeid (request_in_turn m.phase frame) t
 
 -- a request that met a fault gets the error EIO; all but the tree is as before
-pub record IsHurtStep (s : Settings) (m : MachineState) (frame bytes : List ℕ) (after : MachineState) : Type 0 where
+pub record IsHurtStep (s : Settings) (m : MachineState) (frame bytes : List ℕ)
+    (after : MachineState) : Type 0 where
   pub answered : bytes ≡ answer_bytes frame (Refused EIO)
   pub state : after ≡ record m { tree = after.tree }
   pub tree : IsPartDone s m frame after.tree
@@ -49,4 +51,6 @@ abbrev pub Hurt : Settings → MachineState → List (List ℕ) → ℕ → List
 Hurt s m [] n replies last = (n ≡ 0) × (replies ≡ []) × (last ≡ m)
 Hurt s m (f ∷ fs) n replies last =
     ((rest : List ℕ) × (replies ≡ (step s m f).0 ++ rest) × Hurt s (step s m f).1 fs n rest last)
-    ⊎ ((bytes : List ℕ) × (rest : List ℕ) × (after : MachineState) × (k : ℕ) × IsHurtStep s m f bytes after × (replies ≡ bytes ++ rest) × (n ≡ suc k) × Hurt s after fs k rest last)
+    ⊎ ((bytes : List ℕ) × (rest : List ℕ) × (after : MachineState) × (k : ℕ)
+    × IsHurtStep s m f bytes after × (replies ≡ bytes ++ rest) × (n ≡ suc k)
+    × Hurt s after fs k rest last)

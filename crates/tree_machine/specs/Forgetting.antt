@@ -1,5 +1,6 @@
 -- How often a node was given, counted down.
-use Rattle.std.specs.Prelude.{ℕ, ◌-◌, ◌/◌, List, [], ◌∷◌, map as each, length, Option, Some, None, if◌then◌else◌, ◌==◌, nat_le}
+use Rattle.std.specs.Prelude.{ℕ, ◌-◌, ◌/◌, List, [], ◌∷◌, map as each, length, Option, Some, None}
+use Rattle.std.specs.Prelude.{if◌then◌else◌, ◌==◌, nat_le}
 use Rattle.std.specs.FinMap as map
 use Rattle.std.specs.Simd.{first_chunks}
 use Rattle.fuse_wire.specs.Fields.{u64_at}
@@ -19,7 +20,8 @@ less_where m node number (Some n) = less_by m node number n
 
 -- the root and an unknown node are passed over
 abbrev pub forgotten : MachineState → ℕ → ℕ → MachineState
-forgotten m node number = if node == FUSE_ROOT_ID then m else less_where m node number (map.get m.nodes node)
+forgotten m node number = if node == FUSE_ROOT_ID then m else less_where m node number
+    (map.get m.nodes node)
 
 -- pair by pair: a node, and its number
 abbrev pub all_forgotten : MachineState → List (ℕ × ℕ) → MachineState

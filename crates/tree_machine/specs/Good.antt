@@ -36,6 +36,7 @@ pub record IsGoodMachine (s : Settings) (m : MachineState) : Type 0 where
   pub handles : (id : ℕ) (h : Handle) → map.get m.handles id ≡ Some h → IsGoodHandle m id h
   -- no number is a node and a handle, and no two nodes name one inode
   pub apart : (id : ℕ) (n : Node) → map.get m.nodes id ≡ Some n → map.get m.handles id ≡ None
-  pub once : (a b : ℕ) (p q : Node) → map.get m.nodes a ≡ Some p → map.get m.nodes b ≡ Some q → p.ino ≡ q.ino → a ≡ b
+  pub once : (a b : ℕ) (p q : Node) → map.get m.nodes a ≡ Some p → map.get m.nodes b ≡ Some q
+      → p.ino ≡ q.ino → a ≡ b
   pub next : m.next ≤ NUMBER_LIMIT
   pub within : map.len m.nodes + map.len m.handles ≤ s.limit

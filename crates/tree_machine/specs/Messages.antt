@@ -1,5 +1,7 @@
--- How many 9P messages a gate takes for a request: counted from the tree, and not from what a gate sent.
-use Rattle.std.specs.Prelude.{ℕ, ◌+◌, ◌-◌, ◌/◌, max, min, List, [], ◌∷◌, length, Option, Some, None, Result, Ok, Err, if◌then◌else◌, nat_lt}
+-- How many 9P messages a gate takes for a request: counted from the tree, and not from what a gate
+-- sent.
+use Rattle.std.specs.Prelude.{ℕ, ◌+◌, ◌-◌, ◌/◌, max, min, List, [], ◌∷◌, length, Option, Some}
+use Rattle.std.specs.Prelude.{None, Result, Ok, Err, if◌then◌else◌, nat_lt}
 use Rattle.std.specs.FinMap as map
 use Rattle.std.specs.Int.{div_ceil}
 use Rattle.tree_model.specs.Tree.{Tree}
@@ -7,7 +9,8 @@ use Rattle.tree_model.specs.Finding.{find}
 use Rattle.tree_model.specs.Opening.{open_check_of}
 use Rattle.tree_model.specs.Settings.{Settings}
 use Rattle.fuse_wire.specs.Head.{head_of}
-use Rattle.fuse_wire.specs.Request.{Request, init, lookup, getattr, open_file, read, flush, release, forget, batch_forget}
+use Rattle.fuse_wire.specs.Request.{Request, init, lookup, getattr, open_file, read, flush}
+use Rattle.fuse_wire.specs.Request.{release, forget, batch_forget}
 use Rattle.fuse_wire.specs.declared.protocol.TheConstants.{MAX_READ}
 use Rattle.tree_machine.specs.State.{MachineState, Node, begun}
 use Rattle.tree_machine.specs.Refusals.{none_or}
@@ -61,7 +64,8 @@ effect_messages piece s m node (release fh) = 1
 effect_messages piece s m node (forget number) = gone m (forgotten m node number)
 effect_messages piece s m node (batch_forget pairs) = gone m (all_forgotten m (pairs_of pairs))
 
--- the messages of any request; what is out of turn, isn't served or is outside its grammar takes none
+-- the messages of any request; what is out of turn, isn't served or is outside its grammar takes
+-- none
 abbrev pub request_messages : ℕ → Settings → MachineState → ℕ → Result Request ℕ → ℕ
 request_messages piece s m node (Err e) = 0
 request_messages piece s m node (Ok r) =

@@ -1,5 +1,6 @@
 -- Every request: the core requests, and those beyond them.
-use Rattle.std.specs.Prelude.{ℕ, Bool, true, not, ◌&&◌, ◌||◌, [], ◌∷◌, Option, Result, Ok, Err, ◌==◌}
+use Rattle.std.specs.Prelude.{ℕ, Bool, true, not, ◌&&◌, ◌||◌, [], ◌∷◌, Option, Result, Ok, Err}
+use Rattle.std.specs.Prelude.{◌==◌}
 use Rattle.std.specs.FinMap as map
 use Rattle.port_base.specs.OpenFlags.{access, has_flag}
 use Rattle.port_base.specs.declared.errno.TheConstants.{ENOSYS}

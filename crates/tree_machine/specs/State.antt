@@ -53,7 +53,8 @@ is_named nodes handles i =
 abbrev pub kept_state : MachineState → MachineState
 kept_state m = record m { tree = keep (is_named m.nodes m.handles) m.tree }
 
--- no further number can be drawn: node ids and handles are as many as the limit, or the counter is at its end
+-- no further number can be drawn: node ids and handles are as many as the limit, or the counter is
+-- at its end
 abbrev pub is_at_limit : Settings → MachineState → Bool
 is_at_limit s m =
     nat_le s.limit (map.len m.nodes + map.len m.handles) || nat_le NUMBER_LIMIT m.next

@@ -7,10 +7,15 @@ ghost use Rattle.fuse_wire.specs.Request.{open_file, read, flush, release};
 ghost use Rattle.tree_machine.specs.Replies.Reply.{Refused, Bytes, Done};
 ghost use Rattle.tree_machine.specs.Requests.{answer_of, is_core};
 ghost use Rattle.tree_machine.specs.Forgetting.{forgotten};
-ghost use Rattle.tree_machine.specs.FileSamples.{open_frame, open_reply, with_open, read_frame, read_reply, release_frame, release_reply, with_closed, forget_frame, with_none, thrice_given, batch_frame};
+ghost use Rattle.tree_machine.specs.FileSamples.{open_frame, open_reply, with_open, read_frame};
+ghost use Rattle.tree_machine.specs.FileSamples.{read_reply, release_frame, release_reply};
+ghost use Rattle.tree_machine.specs.FileSamples.{with_closed, forget_frame, with_none};
+ghost use Rattle.tree_machine.specs.FileSamples.{thrice_given, batch_frame};
 ghost use Rattle.tree_machine.specs.Messages.{messages, pieces};
 ghost use Rattle.tree_machine.specs.Step.{step, frame_answer};
-ghost use Rattle.tree_machine.specs.Samples.{tree, settings, init_frame, init_reply, started, lookup_frame, entry_reply_bytes, getattr_frame, with_hello, attr_reply_bytes};
+ghost use Rattle.tree_machine.specs.Samples.{tree, settings, init_frame, init_reply, started};
+ghost use Rattle.tree_machine.specs.Samples.{lookup_frame, entry_reply_bytes, getattr_frame};
+ghost use Rattle.tree_machine.specs.Samples.{with_hello, attr_reply_bytes};
 
 /// INIT of minor 31 is granted.
 #[tactic(auto, using(crate::proofs::Sampling::init_answered))]
@@ -76,8 +81,8 @@ fn hello_is_closed()
     ensures messages { messages 4341 settings with_open release_frame ≡ 1 }
 {}
 
-/// FORGET takes the node away, and so does a batch, which passes over the root and what isn't there.
-/// Neither gets a reply.
+/// FORGET takes the node away, and so does a batch, which passes over the root and what isn't
+/// there. Neither gets a reply.
 #[tactic(auto, using(crate::proofs::FileSampling::forget_silent, crate::proofs::FileSampling::forget_leaves, crate::proofs::FileSampling::forget_counted, crate::proofs::FileSampling::batch_silent, crate::proofs::FileSampling::batch_leaves, crate::proofs::FileSampling::batch_counted))]
 fn hello_is_forgotten()
     ensures silent { (step settings with_hello forget_frame).0 ≡ [] }

@@ -1,5 +1,6 @@
 //! Laws over runs of the machine. Each function makes no call: its contract is the law.
-ghost use Rattle.std.specs.Prelude.{◌≡◌, ◌+◌, ◌-◌, ◌<◌, ◌≤◌, min, ℕ, List, [], ◌∷◌, length, take, drop, Ok};
+ghost use Rattle.std.specs.Prelude.{◌≡◌, ◌+◌, ◌-◌, ◌<◌, ◌≤◌, min, ℕ, List, [], ◌∷◌, length, take};
+ghost use Rattle.std.specs.Prelude.{drop, Ok};
 ghost use Rattle.tree_model.specs.Tree.{Tree};
 ghost use Rattle.tree_model.specs.Good.{IsGoodTree};
 ghost use Rattle.tree_model.specs.Finding.{root_of};
@@ -8,7 +9,8 @@ ghost use Rattle.tree_machine.specs.State.{MachineState, begun, kept_state};
 ghost use Rattle.tree_machine.specs.Forgetting.{forgotten, all_forgotten, pair_of, pairs_of};
 ghost use Rattle.tree_machine.specs.Messages.{pieces, gone};
 ghost use Rattle.tree_machine.specs.Step.{step, core_step};
-ghost use Rattle.tree_machine.specs.Play.{play, play_from, core_play, IsCoreRequest, AreCoreRequests};
+ghost use Rattle.tree_machine.specs.Play.{play, play_from, core_play, IsCoreRequest};
+ghost use Rattle.tree_machine.specs.Play.{AreCoreRequests};
 ghost use Rattle.tree_machine.specs.Good.{IsGoodMachine};
 ghost use Rattle.tree_machine.specs.Faults.{Hurt};
 
@@ -18,7 +20,8 @@ pub fn steps_stay_good()
         IsGoodMachine s m → IsGoodMachine s (step s m frame).1 }
 {}
 
-/// Each state of a run is good that begins with a good tree, whose root is an inode, and a limit of at least 1.
+/// Each state of a run is good that begins with a good tree, whose root is an inode, and a limit
+/// of at least 1.
 pub fn plays_stay_good()
     ensures { (s : Settings) (t : Tree) (root : ℕ) (frames : List (List ℕ)) →
         IsGoodTree t → root_of t s.root ≡ Ok root → 1 ≤ s.limit →
@@ -54,8 +57,8 @@ pub fn pieces_are_counted_one_by_one()
         pieces piece size there ≡ 1 + pieces piece (size - piece) (there - piece) }
 {}
 
-/// The nodes that go with a batch are those of its first pair and those of the others; and the records
-/// that nothing names may go before the pairs, too: the same is left.
+/// The nodes that go with a batch are those of its first pair and those of the others; and the
+/// records that nothing names may go before the pairs, too: the same is left.
 #[tactic(auto, using(crate::proofs::Forgetting::gone_then, crate::proofs::Batches::kept_between, crate::proofs::Batches::gone_between))]
 pub fn batches_go_pair_by_pair()
     ensures counted { (m : MachineState) (p : ℕ × ℕ) (ps : List (ℕ × ℕ)) →
@@ -67,7 +70,8 @@ pub fn batches_go_pair_by_pair()
         gone (kept_state m) (all_forgotten (kept_state m) ps) ≡ gone m (all_forgotten m ps) }
 {}
 
-/// The pairs of a batch: none in fewer than 16 bytes; else that of the first 16, and those of the rest.
+/// The pairs of a batch: none in fewer than 16 bytes; else that of the first 16, and those of the
+/// rest.
 #[tactic(auto, using(crate::proofs::Pairs::no_pair, crate::proofs::Pairs::one_pair))]
 pub fn batches_hold_pairs()
     ensures none { (bytes : List ℕ) → length bytes < 16 → pairs_of bytes ≡ [] }

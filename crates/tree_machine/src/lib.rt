@@ -1,5 +1,5 @@
-//! The machine that answers FUSE requests from a plain tree: the definitions that the headline cites, and
-//! laws over runs.
+//! The machine that answers FUSE requests from a plain tree: the definitions that the headline
+//! cites, and laws over runs.
 #![tactic(auto)]
 
 mod examples;
