@@ -8,7 +8,7 @@ use Rattle.port_base.specs.Quoting.{quoted, quoted_byte}
 use Rattle.libmount.specs.declared.mountinfo.errors.ParseError.TheVariants as parse_error
 use Rattle.libmount.specs.declared.mountinfo.errors.RowError.{RowError}
 use Rattle.libmount.specs.declared.mountinfo.numbers.NumberFault.TheVariants as number_fault
-use Rattle.libmount.specs.declared.remount.RemountError.TheVariants as remount_error
+use Rattle.libmount.specs.declared.errors.RemountError.TheVariants as remount_error
 use Rattle.libmount.specs.Cuts.{colon, cut, dash, space, without_leading_spaces, without_trailing_spaces}
 use Rattle.libmount.specs.ErrorTexts.{parse_error_text, remount_error_text}
 use Rattle.libmount.specs.Escapes.{has_escape, decoded}
@@ -210,6 +210,6 @@ pub parse_memory_printed : parse_error_text parse_error.NoMemory ≡ codes "out 
 unfolding shown digits
 parse_memory_printed = refl
 
-pub remount_memory_printed : remount_error_text remount_error.NoMemory ≡ codes "out of memory"
+pub remount_memory_printed : remount_error_text remount_error.NoMemory ≡ codes "no memory"
 unfolding shown digits
 remount_memory_printed = refl

@@ -1,12 +1,19 @@
+mod BuilderLemmas
 pub mod ByComputing
+pub mod ComputedTables
+pub mod ComputedTexts
 mod CutLaw
 mod CutLemmas
 mod DecimalLaw
 mod EscapeLemmas
+mod FactLemmas
+pub mod FlagLaws
 mod ItemLemmas
 mod LineLemmas
 mod LookupLemmas
 mod NumberLemmas
+pub mod MountingLemmas
+pub mod ScriptLemmas
 mod PartLemmas
 mod PlaceLemmas
 mod SliceLemmas

@@ -6,8 +6,8 @@ use Rattle.std.specs.Option.{option_map}
 use Rattle.std.proofs.lemmas.List.{reverse-append}
 use Rattle.port_base.specs.declared.flags.MsFlags.{MsFlags}
 use Rattle.port_base.specs.Flags.{bits_of}
-use Rattle.libmount.specs.declared.remount.RemountError.{RemountError}
-use Rattle.libmount.specs.declared.remount.RemountError.TheVariants.{ParseMountInfo, NoMemory}
+use Rattle.libmount.specs.declared.errors.RemountError.{RemountError}
+use Rattle.libmount.specs.declared.errors.RemountError.TheVariants.{Io, ParseMountInfo, UnknownMountPoint, NoMemory}
 use Rattle.libmount.specs.Items.{line_feed}
 use Rattle.libmount.specs.Cuts.{Placed}
 use Rattle.libmount.specs.Lookup.{flags_at, or_none, verdict, verdict_by, verdicts}
@@ -62,3 +62,5 @@ module _ (path : List ℕ) (content front : Option (List ℕ)) (line : List ℕ)
   pub say-err : (all : Result (Option ℕ) Message) (error : RemountError) → all ≡ last_say path content → GivesVerdict (Err error) (verdict path line) → GivesFlags (Err error) all
   say-err all (ParseMountInfo message) so h = so ∙ by_verdict _ h
   say-err all NoMemory so h = tt
+  say-err all (Io cause) so h = h
+  say-err all (UnknownMountPoint path) so h = h

@@ -1,5 +1,6 @@
 -- What stands before a mark and after it, and where it begins.
-use Rattle.std.specs.Prelude.{ℕ, ◌+◌, ◌-◌, List, [], ◌∷◌, length, take, drop, Bool, nat_eq, ◌==◌, if◌then◌else◌, codes}
+use Rattle.std.specs.Prelude.{ℕ, ◌+◌, ◌-◌, List, [], ◌∷◌, length, take, drop, Bool, nat_eq, ◌==◌}
+use Rattle.std.specs.Prelude.{if◌then◌else◌, codes}
 use Rattle.std.specs.List.{starts_with, prefix_len, suffix_len}
 
 -- bytes, and the place where they begin
@@ -26,11 +27,13 @@ dash = codes "- "
 abbrev pub after_byte : ℕ → List ℕ × List ℕ → List ℕ × List ℕ
 after_byte byte found = (byte ∷ found.0, found.1)
 
--- what stands before the first such mark, and what follows it: all, and nothing, where there is none
+-- what stands before the first such mark, and what follows it: all, and nothing, where there is
+-- none
 unfoldable pub cut : List ℕ → List ℕ → List ℕ × List ℕ
 cut mark [] = ([], [])
 cut mark (byte ∷ bytes) =
-    if starts_with nat_eq (byte ∷ bytes) mark then ([], drop (length mark) (byte ∷ bytes)) else after_byte byte (cut mark bytes)
+    if starts_with nat_eq (byte ∷ bytes) mark then ([], drop (length mark) (byte ∷ bytes))
+    else after_byte byte (cut mark bytes)
 
 -- the same of bytes that begin at a place
 abbrev pub cut_at : List ℕ → Placed → Placed × Placed

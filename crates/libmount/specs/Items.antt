@@ -1,5 +1,6 @@
 -- What the rows of a table say, in order.
-use Rattle.std.specs.Prelude.{ℕ, ◌+◌, List, [], ◌∷◌, length, Option, Some, None, Result, Ok, Err, IfSome, option_copied}
+use Rattle.std.specs.Prelude.{ℕ, ◌+◌, List, [], ◌∷◌, length, Option, Some, None, Result, Ok, Err}
+use Rattle.std.specs.Prelude.{IfSome, option_copied}
 use Rattle.std.specs.Borrow.{Bor}
 use Rattle.std.specs.Iterator.{YieldsFirstBy}
 use Rattle.std.specs.List.{filter_map}
@@ -17,12 +18,14 @@ line_feed = 10
 abbrev pub Line : Type 0
 Line = ℕ × Placed
 
--- Lines with their numbers, where so many line feeds stand before them: one that a line feed ends counts it,
--- and the last doesn't. The first begins at the place, and each other one behind the line feed before it.
+-- Lines with their numbers, where so many line feeds stand before them: one that a line feed ends
+-- counts it, and the last doesn't. The first begins at the place, and each other one behind the
+-- line feed before it.
 abbrev pub numbered : ℕ → ℕ → List (List ℕ) → List Line
 numbered before place [] = []
 numbered before place (line ∷ []) = (before, (place, line)) ∷ []
-numbered before place (line ∷ next ∷ lines) = (before + 1, (place, line)) ∷ numbered (before + 1) (place + (length line + 1)) (next ∷ lines)
+numbered before place (line ∷ next ∷ lines) =
+    (before + 1, (place, line)) ∷ numbered (before + 1) (place + (length line + 1)) (next ∷ lines)
 
 -- the lines of a text with their numbers
 unfoldable pub lines : Placed → List Line
@@ -41,7 +44,8 @@ Item = Result Row Refused
 abbrev pub item_by : Line → Result (Option Row) Message → Option Item
 item_by line (Ok None) = None
 item_by line (Ok (Some fields)) = Some (Ok fields)
-item_by line (Err message) = Some (Err (record { message = message; number = line.0; row = line.1.1 }))
+item_by line (Err message) =
+    Some (Err (record { message = message; number = line.0; row = line.1.1 }))
 
 unfoldable pub item_of : Line → Option Item
 item_of line = item_by line (row line.1)
@@ -57,12 +61,14 @@ place_of (Some slice) = slice.ref_ptr.1
 
 -- the lines that are still to come
 abbrev pub lines_left : Lines → List Line
-lines_left left = numbered left.line_feeds (place_of left.rest) (parts line_feed (option_copied left.rest))
+lines_left left =
+    numbered left.line_feeds (place_of left.rest) (parts line_feed (option_copied left.rest))
 
 abbrev pub numbered_line : ℕ × Bor (List ℕ) → Line
 numbered_line line = (line.0, placed line.1)
 
--- one call of the iterator: the first line goes, and lies in the text that was left, as what is left now does
+-- one call of the iterator: the first line goes, and lies in the text that was left, as what is
+-- left now does
 pub record NextLine (old : Lines) (found : Option (ℕ × Bor (List ℕ))) (new : Lines) : Type 0 where
   pub gives : YieldsFirstBy numbered_line lines_left old found new
   pub part : IfSome found (λ line. LiesInRest old.rest line.1)

@@ -14,3 +14,15 @@ pub mod Parsers
 pub mod Texts
 pub mod ErrorTexts
 pub mod Slices
+pub mod Builders
+pub mod BuilderTexts
+pub mod WorkedBuilders
+pub mod MountOptions
+pub mod MountTables
+pub mod Mounters
+pub mod Probes
+pub mod OperationTexts
+pub mod Explanations
+pub mod Mountings
+pub mod Scripts
+pub mod WorkedTables

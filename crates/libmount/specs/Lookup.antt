@@ -1,5 +1,6 @@
 -- The flags of a mount, looked up in a table.
-use Rattle.std.specs.Prelude.{ℕ, List, Option, Some, None, Result, Ok, Err, if◌then◌else◌, reverse, slice_get}
+use Rattle.std.specs.Prelude.{ℕ, List, Option, Some, None, Result, Ok, Err, if◌then◌else◌, reverse}
+use Rattle.std.specs.Prelude.{slice_get}
 use Rattle.std.specs.List.{filter_map}
 use Rattle.std.specs.Option.{option_map}
 use Rattle.port_base.specs.Paths.{same_path}
@@ -11,9 +12,11 @@ use Rattle.libmount.specs.Rows.{Row, row, text_bytes}
 
 -- the flags of a row whose mount point is the path
 abbrev pub flags_at : List ℕ → Row → Option ℕ
-flags_at path row = if same_path (text_bytes row.mount_point) path then Some (flags_of (text_bytes row.mount_options)) else None
+flags_at path row = if same_path (text_bytes row.mount_point) path
+    then Some (flags_of (text_bytes row.mount_options)) else None
 
--- the flags of a row that has the path, or the message of a refused row; every other line has no say
+-- the flags of a row that has the path, or the message of a refused row; every other line has no
+-- say
 abbrev pub verdict_by : List ℕ → Result (Option Row) Message → Option (Result ℕ Message)
 verdict_by path (Ok None) = None
 verdict_by path (Ok (Some row)) = option_map Ok (flags_at path row)

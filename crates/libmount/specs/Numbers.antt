@@ -1,8 +1,11 @@
 -- Numbers as text.
-use Rattle.std.specs.Prelude.{◌≡◌, ℕ, ◌+◌, ◌-◌, ◌*◌, ◌^◌, ◌<◌, ◌≤◌, IsTrue, false, List, length, drop, Result, Ok, Err, Bool, ◌==◌, ◌&&◌, ◌||◌, nat_le, nat_lt, if◌then◌else◌, slice_index}
+use Rattle.std.specs.Prelude.{◌≡◌, ℕ, ◌+◌, ◌-◌, ◌*◌, ◌^◌, ◌<◌, ◌≤◌, IsTrue, false, List, length}
+use Rattle.std.specs.Prelude.{drop, Result, Ok, Err, Bool, ◌==◌, ◌&&◌, ◌||◌, nat_le, nat_lt}
+use Rattle.std.specs.Prelude.{if◌then◌else◌, slice_index}
 use Rattle.std.specs.List.{fold, take_while}
 use Rattle.libmount.specs.declared.mountinfo.numbers.NumberFault.{NumberFault}
-use Rattle.libmount.specs.declared.mountinfo.numbers.NumberFault.TheVariants.{Empty, InvalidDigit, TooLarge}
+use Rattle.libmount.specs.declared.mountinfo.numbers.NumberFault.TheVariants.{Empty, InvalidDigit}
+use Rattle.libmount.specs.declared.mountinfo.numbers.NumberFault.TheVariants.{TooLarge}
 use Rattle.libmount.specs.Cuts.{Placed, space}
 use Rattle.libmount.specs.Reading.{Message, ◌>>=◌, bad_number, field_at}
 
@@ -21,12 +24,13 @@ decimal_value digits = fold with_digit 0 digits
 abbrev pub unsigned : List ℕ → List ℕ
 unsigned text = if slice_index text 0 == 43 then drop 1 text else text
 
--- The number of digits, or the first fault from the left: the digits at the front reach 2 ^ 64, or else a
--- digit is missing.
+-- The number of digits, or the first fault from the left: the digits at the front reach 2 ^ 64, or
+-- else a digit is missing.
 unfoldable pub digits_value : List ℕ → Result ℕ NumberFault
 digits_value text =
     if nat_le (2 ^ 64) (decimal_value (take_while is_digit text)) then Err TooLarge else
-    if (length text == 0) || nat_lt (length (take_while is_digit text)) (length text) then Err InvalidDigit else
+    if (length text == 0) || nat_lt (length (take_while is_digit text)) (length text)
+    then Err InvalidDigit else
     Ok (decimal_value (take_while is_digit text))
 
 -- a number: digits, and a plus may stand before them
@@ -53,7 +57,8 @@ number_field mark part = do
 
 -- a digit goes on to a number below 2 ^ 64, or is the first fault
 abbrev pub Goes : ℕ → ℕ → Result ℕ NumberFault → Type 0
-Goes number digit (Ok more) = IsTrue (is_digit digit) × (more ≡ with_digit number digit) × (more < 2 ^ 64)
+Goes number digit (Ok more) = IsTrue (is_digit digit) × (more ≡ with_digit number digit)
+    × (more < 2 ^ 64)
 Goes number digit (Err TooLarge) = IsTrue (is_digit digit) × (2 ^ 64 ≤ with_digit number digit)
 Goes number digit (Err InvalidDigit) = is_digit digit ≡ false
 Goes number digit (Err Empty) = ⊥

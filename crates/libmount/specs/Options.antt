@@ -2,7 +2,11 @@
 use Rattle.std.specs.Prelude.{ℕ, List, Some, if◌then◌else◌, bytes_eq, codes}
 use Rattle.std.specs.List.{fold}
 use Rattle.std.specs.Int.RustNames.{bit_or}
-use Rattle.port_base.specs.declared.flags.TheConstants.MsFlags.{MS_RDONLY, MS_NOSUID, MS_NODEV, MS_NOEXEC, MS_SYNCHRONOUS, MS_MANDLOCK, MS_DIRSYNC, MS_NOATIME, MS_NODIRATIME, MS_RELATIME, MS_STRICTATIME}
+use Rattle.port_base.specs.declared.flags.TheConstants.MsFlags.{MS_RDONLY, MS_NOSUID, MS_NODEV}
+use Rattle.port_base.specs.declared.flags.TheConstants.MsFlags.{MS_NOEXEC, MS_SYNCHRONOUS}
+use Rattle.port_base.specs.declared.flags.TheConstants.MsFlags.{MS_MANDLOCK, MS_DIRSYNC}
+use Rattle.port_base.specs.declared.flags.TheConstants.MsFlags.{MS_NOATIME, MS_NODIRATIME}
+use Rattle.port_base.specs.declared.flags.TheConstants.MsFlags.{MS_RELATIME, MS_STRICTATIME}
 use Rattle.port_base.specs.Flags.{bits_of}
 use Rattle.libmount.specs.Parts.{parts}
 

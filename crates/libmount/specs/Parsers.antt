@@ -1,5 +1,6 @@
 -- What a parser still gives, and what one call gives of it.
-use Rattle.std.specs.Prelude.{◌≡◌, ℕ, ◌<◌, List, [], ◌∷◌, length, Option, Some, None, IfSome, Result, Ok, Err}
+use Rattle.std.specs.Prelude.{◌≡◌, ℕ, ◌<◌, List, [], ◌∷◌, length, Option, Some, None, IfSome}
+use Rattle.std.specs.Prelude.{Result, Ok, Err}
 use Rattle.std.specs.Borrow.{Bor}
 use Rattle.std.specs.List.{filter_map}
 use Rattle.libmount.specs.declared.mountinfo.errors.ParseError.{ParseError}
@@ -21,7 +22,8 @@ TakesItem old (Some (Ok m)) new = old ≡ Ok (row_view m) ∷ new
 TakesItem old (Some (Err (Row e))) new = old ≡ Err (refused_view e) ∷ new
 TakesItem old (Some (Err NoMemory)) new = 0 < length old
 
--- one call of a parser: the first of the items, or none where none is left; running out of memory ends it
+-- one call of a parser: the first of the items, or none where none is left; running out of memory
+-- ends it
 abbrev pub GivesNext : List Item → Option (Result MountPoint ParseError) → List Item → Type 0
 GivesNext old None new = (old ≡ []) × (new ≡ [])
 GivesNext old (Some (Ok m)) new = old ≡ Ok (row_view m) ∷ new
@@ -41,9 +43,10 @@ abbrev pub ItemLiesInRest : Option (Bor (List ℕ)) → Result MountPoint ParseE
 ItemLiesInRest None item = ⊥
 ItemLiesInRest (Some text) item = ItemLiesIn text item
 
--- one call of a parser: it gives the next item, whose borrowed fields lie in the text that was left, as the text
--- that is left now does
-pub record NextItem (old : Parser) (found : Option (Result MountPoint ParseError)) (new : Parser) : Type 0 where
+-- one call of a parser: it gives the next item, whose borrowed fields lie in the text that was
+-- left, as the text that is left now does
+pub record NextItem (old : Parser) (found : Option (Result MountPoint ParseError))
+    (new : Parser) : Type 0 where
   pub gives : GivesNext (items_left old) found (items_left new)
   pub parts : IfSome found (ItemLiesInRest (text_left old))
   pub text : StaysIn (text_left old) (text_left new)

@@ -1,10 +1,13 @@
 -- Reading from left to right, where a refusal is its message.
-use Rattle.std.specs.Prelude.{◌≡◌, ℕ, List, ◌++◌, length, Result, Ok, Err, ◌==◌, if◌then◌else◌, codes}
+use Rattle.std.specs.Prelude.{◌≡◌, ℕ, List, ◌++◌, length, Result, Ok, Err, ◌==◌, if◌then◌else◌}
+use Rattle.std.specs.Prelude.{codes}
 use Rattle.port_base.specs.Quoting.{quoted}
 use Rattle.libmount.specs.declared.mountinfo.numbers.NumberFault.{NumberFault}
-use Rattle.libmount.specs.declared.mountinfo.numbers.NumberFault.TheVariants.{Empty, InvalidDigit, TooLarge}
+use Rattle.libmount.specs.declared.mountinfo.numbers.NumberFault.TheVariants.{Empty, InvalidDigit}
+use Rattle.libmount.specs.declared.mountinfo.numbers.NumberFault.TheVariants.{TooLarge}
 use Rattle.libmount.specs.declared.mountinfo.refusals.Refusal.{Refusal}
-use Rattle.libmount.specs.declared.mountinfo.refusals.Refusal.TheVariants.{MoreFields, Number, NoMemory}
+use Rattle.libmount.specs.declared.mountinfo.refusals.Refusal.TheVariants.{MoreFields, Number}
+use Rattle.libmount.specs.declared.mountinfo.refusals.Refusal.TheVariants.{NoMemory}
 use Rattle.libmount.specs.Cuts.{Placed, cut_at, last_of, without_leading_spaces}
 
 abbrev pub Message : Type 0
@@ -26,11 +29,13 @@ fault_text TooLarge = codes "number too large"
 
 -- a field is no number
 unfoldable pub bad_number : List ℕ → NumberFault → Message
-bad_number field fault = codes "Cannot parse integer " ++ (quoted field ++ (codes ": " ++ fault_text fault))
+bad_number field fault = codes "Cannot parse integer "
+    ++ (quoted field ++ (codes ": " ++ fault_text fault))
 
 -- a field up to a mark, after leading spaces, and what follows the mark
 unfoldable pub field_at : List ℕ → Placed → Result (Placed × Placed) Message
-field_at mark part = if length part.1 == 0 then Err more_fields else Ok (cut_at mark (last_of part (without_leading_spaces part.1)))
+field_at mark part = if length part.1 == 0 then Err more_fields
+    else Ok (cut_at mark (last_of part (without_leading_spaces part.1)))
 
 -- the code's refusal is the reading's, unless memory ran out
 abbrev pub Fails : {Y : Type 0} → Refusal → Result Y Message → Type 0

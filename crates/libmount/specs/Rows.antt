@@ -1,5 +1,6 @@
 -- Rows of a mountinfo table, as proc(5) describes them.
-use Rattle.std.specs.Prelude.{ℕ, List, length, drop, Bool, ◌==◌, ◌||◌, if◌then◌else◌, slice_index, Option, Some, None, Result, Ok}
+use Rattle.std.specs.Prelude.{ℕ, List, length, drop, Bool, ◌==◌, ◌||◌, if◌then◌else◌, slice_index}
+use Rattle.std.specs.Prelude.{Option, Some, None, Result, Ok}
 use Rattle.std.specs.List.{prefix_len}
 use Rattle.std.specs.Str.Lines.{strip_carriage_return}
 use Rattle.libmount.specs.Cuts.{Placed, space, colon, dash, without_trailing_spaces}
@@ -7,7 +8,8 @@ use Rattle.libmount.specs.Escapes.{has_escape, decoded}
 use Rattle.libmount.specs.Numbers.{number_at, number_field}
 use Rattle.libmount.specs.Reading.{Message, ◌>>=◌, field_at}
 
--- a text field: a part of the row as it stands there, with its place, or what its escapes were decoded to
+-- a text field: a part of the row as it stands there, with its place, or what its escapes were
+-- decoded to
 pub data Text : Type 0 where
   borrowed : Placed → Text
   owned : List ℕ → Text

@@ -4,17 +4,22 @@ use Rattle.std.specs.Option.{option_map}
 use Rattle.port_base.specs.declared.flags.MsFlags.{MsFlags}
 use Rattle.port_base.specs.Flags.{bits_of}
 use Rattle.libmount.specs.declared.mountinfo.errors.ParseError.{ParseError}
-use Rattle.libmount.specs.declared.mountinfo.errors.ParseError.TheVariants.{Row as ErrorRow, NoMemory as NoErrorMemory}
+use Rattle.libmount.specs.declared.mountinfo.errors.ParseError.TheVariants.{Row as ErrorRow}
+use Rattle.libmount.specs.declared.mountinfo.errors.ParseError.TheVariants.{NoMemory as NoErrorMemory}
 use Rattle.libmount.specs.declared.mountinfo.errors.RowError.{RowError}
 use Rattle.libmount.specs.declared.mountinfo.errors.RowFault.{RowFault}
-use Rattle.libmount.specs.declared.mountinfo.errors.RowFault.TheVariants.{Row as RefusedRow, NoMemory as NoRowMemory}
+use Rattle.libmount.specs.declared.mountinfo.errors.RowFault.TheVariants.{Row as RefusedRow}
+use Rattle.libmount.specs.declared.mountinfo.errors.RowFault.TheVariants.{NoMemory as NoRowMemory}
 use Rattle.libmount.specs.declared.mountinfo.escapes.Field.{Field}
 use Rattle.libmount.specs.declared.mountinfo.escapes.Field.TheVariants.{Borrowed, Owned}
 use Rattle.libmount.specs.declared.mountinfo.refusals.Refusal.{Refusal}
-use Rattle.libmount.specs.declared.mountinfo.refusals.Refusal.TheVariants.{MoreFields, Number, NoMemory}
+use Rattle.libmount.specs.declared.mountinfo.refusals.Refusal.TheVariants.{MoreFields, Number}
+use Rattle.libmount.specs.declared.mountinfo.refusals.Refusal.TheVariants.{NoMemory}
 use Rattle.libmount.specs.declared.mountinfo.rows.MountPoint.{MountPoint}
-use Rattle.libmount.specs.declared.remount.RemountError.{RemountError}
-use Rattle.libmount.specs.declared.remount.RemountError.TheVariants.{ParseMountInfo, NoMemory as NoRemountMemory}
+use Rattle.libmount.specs.declared.errors.RemountError.{RemountError}
+use Rattle.libmount.specs.declared.errors.RemountError.TheVariants.{Io, ParseMountInfo}
+use Rattle.libmount.specs.declared.errors.RemountError.TheVariants.{UnknownMountPoint}
+use Rattle.libmount.specs.declared.errors.RemountError.TheVariants.{NoMemory as NoRemountMemory}
 use Rattle.libmount.specs.Items.{Item, Refused}
 use Rattle.libmount.specs.Reading.{Message, bad_number, more_fields}
 use Rattle.libmount.specs.Rows.{Row, Text, borrowed, owned}
@@ -44,7 +49,8 @@ row_view m = record {
   super_options = text m.super_options;
 }
 
--- what a line says, or its refusal's message; running out of memory comes at no line that is passed over
+-- what a line says, or its refusal's message; running out of memory comes at no line that is
+-- passed over
 abbrev pub GivesRow : Result (Option MountPoint) RowFault → Result (Option Row) Message → Type 0
 GivesRow (Ok found) read = read ≡ Ok (option_map row_view found)
 GivesRow (Err (RefusedRow e)) read = read ≡ Err e.0.items
@@ -67,7 +73,8 @@ refused_view e = record { message = e.message.items; number = e.row_num; row = e
 -- the row that a fault refuses, unless memory ran out
 abbrev pub IsRefused : RowFault → ℕ → List ℕ → ParseError → Type 0
 IsRefused fault number line NoErrorMemory = Unit {0}
-IsRefused (RefusedRow error) number line (ErrorRow e) = refused_view e ≡ record { message = error.0.items; number = number; row = line }
+IsRefused (RefusedRow error) number line (ErrorRow e) =
+    refused_view e ≡ record { message = error.0.items; number = number; row = line }
 IsRefused NoRowMemory number line (ErrorRow e) = ⊥
 
 -- what a line says, where it isn't passed over; running out of memory comes at no line that is
@@ -83,9 +90,13 @@ GivesVerdict (Ok None) wanted = wanted ≡ None
 GivesVerdict (Ok (Some flags)) wanted = wanted ≡ Some (Ok (bits_of flags))
 GivesVerdict (Err (ParseMountInfo message)) wanted = wanted ≡ Some (Err message.items)
 GivesVerdict (Err NoRemountMemory) wanted = Unit {0}
+GivesVerdict (Err (Io cause)) wanted = ⊥
+GivesVerdict (Err (UnknownMountPoint path)) wanted = ⊥
 
 -- the flags that a table gives a path, unless memory ran out
 abbrev pub GivesFlags : Result (Option MsFlags) RemountError → Result (Option ℕ) Message → Type 0
 GivesFlags (Ok found) wanted = wanted ≡ Ok (option_map bits_of found)
 GivesFlags (Err (ParseMountInfo message)) wanted = wanted ≡ Err message.items
 GivesFlags (Err NoRemountMemory) wanted = Unit {0}
+GivesFlags (Err (Io cause)) wanted = ⊥
+GivesFlags (Err (UnknownMountPoint path)) wanted = ⊥

@@ -3,7 +3,9 @@ use Rattle.std.specs.Prelude.{ℕ, ◌+◌, List, [], ◌∷◌, ◌++◌, codes
 use Rattle.libmount.specs.Rows.{Row, borrowed, owned}
 
 abbrev pub worked_line : List ℕ
-worked_line = codes "76 24 8:6 / /home/my\\040super\\011name\\012\\134 rw,relatime shared:29 - ext4 /dev/sda1 rw,data=ordered"
+worked_line =
+    codes
+    "76 24 8:6 / /home/my\\040super\\011name\\012\\134 rw,relatime shared:29 - ext4 /dev/sda1 rw,data=ordered"
 
 abbrev pub worked_fields : Row
 worked_fields = record {
@@ -68,13 +70,17 @@ small_table = codes "# Test\n" ++ returned_line ++ codes "\nbad"
 
 -- two mounts at one place
 abbrev pub mounted_twice : List ℕ
-mounted_twice = codes "11 18 0:4 / /tmp rw shared:28 - tmpfs tmpfs rw\n12 18 0:6 / /tmp rw,nosuid,nodev shared:29 - tmpfs tmpfs rw\n"
+mounted_twice =
+    codes
+    "11 18 0:4 / /tmp rw shared:28 - tmpfs tmpfs rw\n12 18 0:6 / /tmp rw,nosuid,nodev shared:29 - tmpfs tmpfs rw\n"
 
 -- the options that name a flag, and all of them with two that name none
 abbrev pub option_words : List (List ℕ)
 option_words =
-    codes "ro" ∷ codes "nosuid" ∷ codes "nodev" ∷ codes "noexec" ∷ codes "mand" ∷ codes "sync" ∷ codes "dirsync" ∷ codes "noatime" ∷ codes "nodiratime"
+    codes "ro" ∷ codes "nosuid" ∷ codes "nodev" ∷ codes "noexec" ∷ codes "mand" ∷ codes "sync"
+    ∷ codes "dirsync" ∷ codes "noatime" ∷ codes "nodiratime"
     ∷ codes "relatime" ∷ codes "strictatime" ∷ []
 
 abbrev pub all_options : List ℕ
-all_options = codes "ro,nosuid,nodev,noexec,mand,sync,dirsync,noatime,nodiratime,relatime,strictatime,,RO"
+all_options =
+    codes "ro,nosuid,nodev,noexec,mand,sync,dirsync,noatime,nodiratime,relatime,strictatime,,RO"

@@ -30,10 +30,13 @@ pub fn decimal_texts_are_numbers()
     ensures plus { (n : ℕ) → n < 2 ^ 64 → number_of (43 ∷ decimal n) ≡ Ok n }
 {}
 
-/// A part of a part of a text is a part of it. So each call of a parser keeps what is left within the whole
-/// table, and a borrowed field of any item lies in that table.
+/// A part of a part of a text is a part of it. So each call of a parser keeps what is left within
+/// the whole table, and a borrowed field of any item lies in that table.
 pub fn parts_of_parts_are_parts()
-    ensures part { (whole middle part : Bor (List ℕ)) → LiesIn whole middle → LiesIn middle part → LiesIn whole part }
-    ensures rest { (first middle last : Option (Bor (List ℕ))) → StaysIn first middle → StaysIn middle last → StaysIn first last }
-    ensures item { (first later : Option (Bor (List ℕ))) (item : Result MountPoint ParseError) → StaysIn first later → ItemLiesInRest later item → ItemLiesInRest first item }
+    ensures part { (whole middle part : Bor (List ℕ)) → LiesIn whole middle → LiesIn middle part
+        → LiesIn whole part }
+    ensures rest { (first middle last : Option (Bor (List ℕ))) → StaysIn first middle
+        → StaysIn middle last → StaysIn first last }
+    ensures item { (first later : Option (Bor (List ℕ))) (item : Result MountPoint ParseError)
+        → StaysIn first later → ItemLiesInRest later item → ItemLiesInRest first item }
 {}

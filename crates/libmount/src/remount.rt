@@ -1,38 +1,16 @@
 //! The flags of a mount, looked up in a mountinfo table.
-ghost use Rattle.std.specs.Prelude.{◌≡◌, Some};
+ghost use Rattle.std.specs.Prelude.{◌≡◌};
 ghost use Rattle.std.specs.Option.{option_map};
 ghost use Rattle.port_base.specs.Flags.{bits_of};
-ghost use Rattle.libmount.specs.ErrorTexts.{remount_error_text};
 ghost use Rattle.libmount.specs.Lookup.{flags_at, flags_in, verdict};
 ghost use Rattle.libmount.specs.Views.{row_view, GivesFlags, GivesVerdict};
 
+use crate::errors::RemountError;
 use crate::mountinfo::parts::last_part;
 use crate::mountinfo::{MountPoint, RowFault, parse_mount_point};
-use crate::texts::Shown;
 use port_base::flags::MsFlags;
 use port_base::paths::same_path;
 use std::alloc::Global;
-use std::fmt;
-
-/// Why a mount can't be changed.
-#[derive(Debug, Drop)]
-pub enum RemountError {
-    /// A row of the table is refused, with what is wrong with it.
-    ParseMountInfo(Vec<u8>),
-    NoMemory,
-}
-
-impl fmt::Display for RemountError {
-    ghost output = { λ e. Some (remount_error_text e) };
-
-    #[tactic(auto, unfolding(crate::specs::Texts::shown))]
-    fn fmt<W: fmt::Write>(&self, f: &mut fmt::Formatter<W>) -> fmt::Result {
-        match self {
-            RemountError::ParseMountInfo(message) => write!(f, "{}", Shown(message)),
-            RemountError::NoMemory => f.write_str("out of memory"),
-        }
-    }
-}
 
 // The flags of a mount where its mount point is the path.
 fn flags_at(mount: &MountPoint<'_>, path: &[u8]) -> Option<MsFlags>
@@ -61,9 +39,9 @@ fn verdict(alloc: Global, line: &[u8], path: &[u8]) -> Result<Option<MsFlags>, R
     }
 }
 
-/// The flags of the last row of a table whose mount point is the path, compared by components. The lines
-/// are read from the last one back; one that is refused before such a row is `ParseMountInfo`, and the
-/// lines before the row aren't read.
+/// The flags of the last row of a table whose mount point is the path, compared by components. The
+/// lines are read from the last one back; one that is refused before such a row is
+/// `ParseMountInfo`, and the lines before the row aren't read.
 pub fn flags_from(
     alloc: Global,
     content: &[u8],

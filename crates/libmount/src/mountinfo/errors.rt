@@ -22,8 +22,8 @@ pub enum RowFault {
 pub struct RowError {
     /// What is wrong with it.
     pub message: Vec<u8>,
-    /// The row's number: rows that a line feed ends are numbered from 1, and a last one without has the
-    /// number of line feeds before it.
+    /// The row's number: rows that a line feed ends are numbered from 1, and a last one without
+    /// has the number of line feeds before it.
     pub row_num: usize,
     /// The whole row without its line feed.
     pub row: Vec<u8>,

@@ -1,6 +1,7 @@
 // Texts in which a backslash and three octal digits are one byte.
 ghost use Rattle.std.specs.Prelude.{◌≡◌, ◌<◌, ◌≤◌, IsTrue, IfOk, length};
-ghost use Rattle.libmount.specs.Escapes.{has_escape, is_octal, octal_value, starts_with_escape, decoded, TakesByte};
+ghost use Rattle.libmount.specs.Escapes.{has_escape, is_octal, octal_value, starts_with_escape};
+ghost use Rattle.libmount.specs.Escapes.{decoded, TakesByte};
 ghost use Rattle.libmount.specs.Slices.{FieldLiesIn, placed};
 ghost use Rattle.libmount.specs.Views.{text, GivesText};
 ghost use Rattle.libmount.specs.Rows.{text_bytes, text_of};
@@ -9,7 +10,8 @@ use crate::mountinfo::refusals::Refusal;
 use port_base::sink::NoMemory;
 use std::alloc::Global;
 
-/// A text field of a row: where no escape stands in it, that very part of the row, and else its decoded bytes.
+/// A text field of a row: where no escape stands in it, that very part of the row, and else its
+/// decoded bytes.
 #[derive(Debug, Drop)]
 pub enum Field<'a> {
     Borrowed(&'a [u8]),

@@ -1,5 +1,6 @@
 // The lines of a text with their numbers.
-ghost use Rattle.std.specs.Prelude.{◌≡◌, ◌+◌, ◌<◌, ◌^◌, [], length, None, IsSome, is_some, if◌then◌else◌};
+ghost use Rattle.std.specs.Prelude.{◌≡◌, ◌+◌, ◌<◌, ◌^◌, [], length, None, IsSome, is_some};
+ghost use Rattle.std.specs.Prelude.{if◌then◌else◌};
 ghost use Rattle.std.specs.Option.{ForSome};
 
 use crate::mountinfo::parts::first_part;
@@ -15,8 +16,8 @@ fn line_feeds(before: usize, rest: Option<&[u8]>) -> usize
     }
 }
 
-/// Lines with their numbers: one that a line feed ends is numbered from 1, and a last one without has the
-/// number of line feeds before it.
+/// Lines with their numbers: one that a line feed ends is numbered from 1, and a last one without
+/// has the number of line feeds before it.
 #[derive(Debug, Drop)]
 pub(crate) struct Lines<'a> {
     rest: Option<&'a [u8]>,

@@ -1,6 +1,7 @@
 // Numbers as text.
 ghost use Rattle.std.specs.Prelude.{◌≡◌, IfOk};
-ghost use Rattle.libmount.specs.Numbers.{digits_value, number_at, number_field, number_of, unsigned, with_digit, Goes};
+ghost use Rattle.libmount.specs.Numbers.{digits_value, number_at, number_field, number_of};
+ghost use Rattle.libmount.specs.Numbers.{unsigned, with_digit, Goes};
 ghost use Rattle.libmount.specs.Reading.{Gives};
 ghost use Rattle.libmount.specs.Slices.{LiesIn, placed};
 
@@ -71,7 +72,8 @@ fn number(text: &[u8]) -> Result<u64, NumberFault>
 /// A number up to a space, and what follows it.
 #[tactic(auto, unfolding(crate::specs::Numbers::number_at))]
 pub(crate) fn number_at(bytes: &[u8]) -> Result<(u64, &[u8]), Refusal<'_>>
-    ensures value { Gives (λ found. (found.0, placed found.1)) result (number_at (placed bytes.entry)) }
+    ensures value { Gives (λ found. (found.0, placed found.1)) result
+        (number_at (placed bytes.entry)) }
     ensures rest { IfOk result (λ found. LiesIn bytes.entry found.1) }
 {
     let (text, rest) = field(b" ", bytes)?;
@@ -84,7 +86,8 @@ pub(crate) fn number_at(bytes: &[u8]) -> Result<(u64, &[u8]), Refusal<'_>>
 /// A number in a field that another mark ends, and what follows it.
 #[tactic(auto, unfolding(crate::specs::Numbers::number_field))]
 pub(crate) fn number_field<'a>(mark: &[u8], bytes: &'a [u8]) -> Result<(u64, &'a [u8]), Refusal<'a>>
-    ensures value { Gives (λ found. (found.0, placed found.1)) result (number_field mark.now (placed bytes.entry)) }
+    ensures value { Gives (λ found. (found.0, placed found.1)) result
+        (number_field mark.now (placed bytes.entry)) }
     ensures rest { IfOk result (λ found. LiesIn bytes.entry found.1) }
 {
     let (text, rest) = field(mark, bytes)?;

@@ -57,7 +57,8 @@ fn flags_of(options: &[u8]) -> MsFlags
 }
 
 impl MountPoint<'_> {
-    /// The flags of the mount's options, as mount(2) takes them. Options that name no flag are passed over.
+    /// The flags of the mount's options, as mount(2) takes them. Options that name no flag are
+    /// passed over.
     pub fn get_mount_flags(&self) -> MsFlags
         ensures { bits_of result ≡ flags_of (text_bytes (text self.now.mount_options)) }
     {

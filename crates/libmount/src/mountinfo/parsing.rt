@@ -2,7 +2,8 @@
 ghost use Rattle.std.specs.Prelude.{◌≡◌, IfSome, Some};
 ghost use Rattle.std.specs.Iterator.{item_count};
 ghost use Rattle.libmount.specs.Items.{item_of, items};
-ghost use Rattle.libmount.specs.Parsers.{items_left, text_left, ItemLiesIn, ItemLiesInRest, NextItem, TakesItem};
+ghost use Rattle.libmount.specs.Parsers.{items_left, text_left, ItemLiesIn, ItemLiesInRest};
+ghost use Rattle.libmount.specs.Parsers.{NextItem, TakesItem};
 ghost use Rattle.libmount.specs.Slices.{StaysIn, placed};
 ghost use Rattle.libmount.specs.Views.{GivesItem, IsRefused};
 
@@ -46,8 +47,8 @@ fn item_of<'a>(
     }
 }
 
-/// The rows of a table in order, as an iterator. Rows that are passed over give no item, and after the last
-/// row or `NoMemory` it ends.
+/// The rows of a table in order, as an iterator. Rows that are passed over give no item, and after
+/// the last row or `NoMemory` it ends.
 #[derive(Debug, Drop)]
 pub struct Parser<'a> {
     alloc: Global,

@@ -5,7 +5,8 @@ ghost use Rattle.std.specs.List.{prefix_len};
 ghost use Rattle.std.specs.Str.Lines.{strip_carriage_return};
 ghost use Rattle.libmount.specs.Cuts.{dash};
 ghost use Rattle.libmount.specs.Reading.{Gives};
-ghost use Rattle.libmount.specs.Rows.{fields_of, is_blank, is_skipped, optional_at, row, row_of, text_at};
+ghost use Rattle.libmount.specs.Rows.{fields_of, is_blank, is_skipped, optional_at, row, row_of};
+ghost use Rattle.libmount.specs.Rows.{text_at};
 ghost use Rattle.libmount.specs.Slices.{FieldLiesIn, LiesIn, RowLiesIn, placed};
 ghost use Rattle.libmount.specs.Views.{row_view, text, GivesRow};
 
@@ -46,8 +47,10 @@ pub struct MountPoint<'a> {
 // A text up to a space, and what follows it.
 #[tactic(auto, unfolding(crate::specs::Rows::text_at))]
 fn text_at(alloc: Global, bytes: &[u8]) -> Result<(Field<'_>, &[u8]), Refusal<'_>>
-    ensures value { Gives (λ found. (text found.0, placed found.1)) result (text_at (placed bytes.entry)) }
-    ensures parts { IfOk result (λ found. FieldLiesIn bytes.entry found.0 × LiesIn bytes.entry found.1) }
+    ensures value { Gives (λ found. (text found.0, placed found.1)) result
+        (text_at (placed bytes.entry)) }
+    ensures parts { IfOk result (λ found. FieldLiesIn bytes.entry found.0
+        × LiesIn bytes.entry found.1) }
 {
     let (field, rest) = field(b" ", bytes)?;
     let text = text_of(alloc, field)?;
@@ -57,8 +60,10 @@ fn text_at(alloc: Global, bytes: &[u8]) -> Result<(Field<'_>, &[u8]), Refusal<'_
 // The optional fields, and what follows their dash.
 #[tactic(auto, unfolding(crate::specs::Rows::optional_at))]
 fn optional_at(alloc: Global, bytes: &[u8]) -> Result<(Field<'_>, &[u8]), Refusal<'_>>
-    ensures value { Gives (λ found. (text found.0, placed found.1)) result (optional_at (placed bytes.entry)) }
-    ensures parts { IfOk result (λ found. FieldLiesIn bytes.entry found.0 × LiesIn bytes.entry found.1) }
+    ensures value { Gives (λ found. (text found.0, placed found.1)) result
+        (optional_at (placed bytes.entry)) }
+    ensures parts { IfOk result (λ found. FieldLiesIn bytes.entry found.0
+        × LiesIn bytes.entry found.1) }
 {
     let (field, rest) = field(b"- ", bytes)?;
     let text = text_of(alloc, without_trailing_spaces(field))?;
@@ -139,8 +144,8 @@ fn row_of(alloc: Global, row: &[u8]) -> Result<Option<MountPoint<'_>>, Refusal<'
     Ok(Some(fields))
 }
 
-/// What one line of the table says, without its line feed: `None` where it is passed over, as an empty
-/// row is, and spaces and tabs and then a number sign.
+/// What one line of the table says, without its line feed: `None` where it is passed over, as an
+/// empty row is, and spaces and tabs and then a number sign.
 #[tactic(auto, unfolding(crate::specs::Rows::row))]
 pub fn parse_mount_point(alloc: Global, line: &[u8]) -> Result<Option<MountPoint<'_>>, RowFault>
     ensures value { GivesRow result (row (placed line.entry)) }

@@ -1,0 +1,52 @@
+use crate::bind::BindMount;
+use crate::explanation::{exists, user};
+use crate::flag_change::Remount;
+use crate::move_mount::Move;
+use crate::probe::{Probe, User};
+use crate::script_probe::ScriptProbe;
+use crate::tmpfs::Tmpfs;
+use std::test::Fail;
+
+#[test]
+fn explanations_tell_paths_and_the_user(rt: HostRuntime) -> Result<(), Fail> {
+    let alloc = rt.alloc();
+    let mut probe = ScriptProbe::new(alloc, User::RootIdentity, b"/home")?;
+    probe.add(b"/a", 1)?;
+    let bind = BindMount::new(alloc, b"/a/", b"/b")?;
+    assert_eq!(rt;
+        bind.explain(alloc, &mut probe)?.as_slice(),
+        b"source: exists, target: missing, superuser".as_slice()
+    );
+    let relocation = Move::new(alloc, b"/b", b"/a")?;
+    assert_eq!(rt;
+        relocation.explain(alloc, &mut probe)?.as_slice(),
+        b"source: missing, target: exists".as_slice()
+    );
+    let tmpfs = Tmpfs::new(alloc, b"/a")?;
+    assert_eq!(rt;
+        tmpfs.explain(alloc, &mut probe)?.as_slice(),
+        b"target: exists, superuser".as_slice()
+    );
+    let change = Remount::new(alloc, b"/b")?;
+    assert_eq!(rt;
+        change.explain(alloc, &mut probe)?.as_slice(),
+        b"path: missing, superuser".as_slice()
+    );
+    Ok(())
+}
+
+#[test]
+fn a_probe_faults_where_its_script_says(rt: HostRuntime) -> Result<(), Fail> {
+    let alloc = rt.alloc();
+    let mut probe = ScriptProbe::new(alloc, User::RootMapped, b"/home")?;
+    probe.add(b"/a", 1)?;
+    probe.add(b"/a", 2)?;
+    probe.fail_at(&[1, 3])?;
+    assert_eq!(rt; exists(&mut probe, b"/a"), "exists");
+    assert_eq!(rt; exists(&mut probe, b"/a"), "missing");
+    assert_eq!(rt; probe.device(b"/a"), Some(2));
+    assert!(rt; probe.current_dir(alloc).is_err());
+    assert_eq!(rt; probe.current_dir(alloc)?.as_slice(), b"/home".as_slice());
+    assert_eq!(rt; user(&mut probe), "mapped-root");
+    Ok(())
+}

@@ -1,0 +1,135 @@
+//! A probe that goes by a script.
+ghost use Rattle.std.specs.Prelude.{◌≡◌, ◌++◌, ◌∷◌, [], IsTrue, IfOk, OnOk, OnErr, Some, None};
+ghost use Rattle.std.specs.Prelude.{false, map};
+ghost use Rattle.port_base.specs.Failing.{first_calls};
+ghost use Rattle.libmount.specs.Mounters.{FaultedIn};
+ghost use Rattle.libmount.specs.Scripts.{Place, calls_of, device_at, facts_of, place_view};
+
+use crate::probe::{Probe, ProbeFault, User};
+use port_base::failing::FailingCalls;
+use port_base::paths::same_path;
+use port_base::sink::NoMemory;
+use std::alloc::Global;
+
+// A path where there is something, and the device that it lies on.
+#[derive(Debug, Drop)]
+struct Placed {
+    path: Vec<u8>,
+    device: u64,
+}
+
+/// A system that a test makes up. Its answers are its facts, but in the calls that are to fault.
+#[derive(Drop)]
+pub struct ScriptProbe {
+    alloc: Global,
+    user: User,
+    dir: Vec<u8>,
+    places: Vec<Placed>,
+    failing: FailingCalls,
+}
+
+// Counts a call, and says whether it faults.
+#[tactic(auto, using(crate::proofs::ScriptLemmas::due_is_loud))]
+fn strikes(failing: &mut FailingCalls) -> bool
+    ensures fault { IsTrue result → FaultedIn (calls_of failing.old) (calls_of failing.new) }
+    ensures none { result ≡ false → calls_of failing.new ≡ calls_of failing.old }
+{
+    failing.count()
+}
+
+// The device of the last of these places that is at the path.
+fn device_at(places: &[Placed], path: &[u8]) -> Option<u64>
+    ensures { result ≡ device_at path.now (map place_view places.now) }
+{
+    let mut found = None;
+    for place in places {
+        if same_path(&place.path, path) {
+            found = Some(place.device);
+        }
+    }
+    found
+}
+
+impl ScriptProbe {
+    /// A system of this user and current directory, in which no path is there and no call faults.
+    pub fn new(alloc: Global, user: User, dir: &[u8]) -> Result<ScriptProbe, NoMemory>
+        ensures facts { IfOk result
+            (λ p. facts_of p.user p.dir.items (map place_view p.places.items)
+            ≡ facts_of user dir.now []) }
+        ensures calls { IfOk result (λ p. p.failing ≡ first_calls []) }
+    {
+        Ok(ScriptProbe {
+            alloc,
+            user,
+            dir: dir.to_vec(alloc).map_err(|_| NoMemory)?,
+            places: Vec::new(alloc),
+            failing: FailingCalls::none(alloc),
+        })
+    }
+
+    /// There is something at the path, on this device. Of two calls for one path the last counts.
+    pub fn add(&mut self, path: &[u8], device: u64) -> Result<(), NoMemory>
+        ensures added { OnOk result
+            (map place_view self.new.places.items ≡ map place_view self.old.places.items
+            ++ record { path = path.now; device = device } ∷ []) }
+        ensures kept { OnErr result
+            (map place_view self.new.places.items ≡ map place_view self.old.places.items) }
+        ensures user { self.new.user ≡ self.old.user }
+        ensures dir { self.new.dir.items ≡ self.old.dir.items }
+        ensures calls { self.new.failing ≡ self.old.failing }
+    {
+        let path = path.to_vec(self.alloc).map_err(|_| NoMemory)?;
+        self.places
+            .push(Placed { path, device })
+            .map_err(|_| NoMemory)
+    }
+
+    /// The calls with these numbers, from 0 on, fault too.
+    pub fn fail_at(&mut self, fails: &[u64]) -> Result<(), NoMemory>
+        ensures more { OnOk result
+            (self.new.failing.script.numbers ≡ self.old.failing.script.numbers ++ fails.now) }
+        ensures refused { OnErr result (self.new.failing ≡ self.old.failing) }
+        ensures facts { facts_of self.new.user self.new.dir.items
+            (map place_view self.new.places.items) ≡ facts_of self.old.user self.old.dir.items
+            (map place_view self.old.places.items) }
+    {
+        self.failing.fail_at(fails)
+    }
+}
+
+impl Probe for ScriptProbe {
+    ghost facts = { λ p. Some (facts_of p.user p.dir.items (map place_view p.places.items)) };
+
+    ghost calls = { λ p. calls_of p.failing };
+
+    #[tactic(auto, using(crate::proofs::ScriptLemmas::told_fact, crate::proofs::ScriptLemmas::told_fault))]
+    fn exists(&mut self, path: &[u8]) -> bool {
+        if strikes(&mut self.failing) {
+            return false;
+        }
+        device_at(&self.places, path).is_some()
+    }
+
+    #[tactic(auto, using(crate::proofs::ScriptLemmas::told_fact, crate::proofs::ScriptLemmas::told_fault))]
+    fn device(&mut self, path: &[u8]) -> Option<u64> {
+        if strikes(&mut self.failing) {
+            return None;
+        }
+        device_at(&self.places, path)
+    }
+
+    #[tactic(auto, using(crate::proofs::ScriptLemmas::told_fact, crate::proofs::ScriptLemmas::told_fault))]
+    fn user(&mut self) -> User {
+        if strikes(&mut self.failing) {
+            return User::RootUnreadable;
+        }
+        self.user
+    }
+
+    fn current_dir(&mut self, alloc: Global) -> Result<Vec<u8>, ProbeFault> {
+        if strikes(&mut self.failing) {
+            return Err(ProbeFault::Fault);
+        }
+        self.dir.to_vec(alloc).map_err(|_| ProbeFault::NoMemory)
+    }
+}
