@@ -10,13 +10,13 @@ use std::io::{self, BufReader};
 use std::process::ExitCode;
 
 const HELP: &str = "\
-usage: mount9 serve target=PATH root=/ [KEY=VALUE ..] < INPUT
+usage: mount9 serve target=PATH root=PATH [KEY=VALUE ..] < INPUT
 
 Reads a header that describes a tree of files, and FUSE request frames behind it, from standard
 input. Serves the frames, and writes a report to standard output.
 
   target=PATH  where the share is mounted: / or a path that the header names
-  root=/       the directory that is shared
+  root=PATH    the directory that is shared, by its path in that tree
   msize=N      the greatest size of a 9P message, 256 to 65560 bytes (65560); a session needs 4352
   turns=N      how many frames are handled at most, 1 to 8192 (4096)
   ids=N        how many node ids and handles there may be, 0 to 1000000 (1024)

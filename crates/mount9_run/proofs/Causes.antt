@@ -5,8 +5,8 @@ use Rattle.std.specs.Prelude.{◌↔◌, option_map}
 use Rattle.port_base.specs.Faults.{Faulted}
 use Rattle.port_base.specs.declared.errno.TheConstants.{ENFILE}
 use Rattle.fuse_gate.specs.declared.gate.TheConstants.{LEAST_MSIZE}
-use Rattle.tree_model.specs.declared.attributes.TheConstants.{TOP}
 use Rattle.tree_model.specs.Tree.{Tree, linked}
+use Rattle.tree_model.specs.Finding.{path_names, root_of}
 use Rattle.fuse_wire.specs.Cuts.{Cut, cut, End}
 use Rattle.fuse_wire.specs.Cuts.End.{done, turns_spent, torn, bad_length}
 use Rattle.mount9_run.specs.Command.{Serve, command}
@@ -17,7 +17,6 @@ use Rattle.mount9_run.specs.Causes.{IsAccepted, IsValidInput, IsStoppedInput, Is
 use Rattle.frame_pump.specs.declared.outcome.BridgeError.TheVariants.{MsizeTooSmall, Mount}
 use Rattle.mount9_run.specs.declared.run.Status.{Status}
 use Rattle.mount9_run.specs.declared.run.Status.TheVariants.{Served, Stopped, Words, Header, Memory, Input, Output}
-use Rattle.mount9_run.proofs.HeaderTree.{header_root}
 
 below : (n : ℕ) → nat_lt n LEAST_MSIZE ≡ true → n < LEAST_MSIZE
 below n h = grind (arith, nat_tests)
@@ -56,6 +55,10 @@ module _ (words : List (List ℕ)) (bytes : List ℕ) where
   by_mount (Some e) x = Stopped
   by_mount None x = x
 
+  abbrev by_root : Result ℕ ℕ → Status → Status
+  by_root (Err e) x = Stopped
+  by_root (Ok i) x = x
+
   module _ (a : IsAccepted words bytes) where
     abbrev t : Tree
     t = a.described.tree
@@ -63,44 +66,62 @@ module _ (words : List (List ℕ)) (bytes : List ℕ) where
     abbrev taken : Cut
     taken = cut a.serve.turns a.rest
 
+    abbrev at_root : Result ℕ ℕ
+    at_root = root_of (linked t) (path_names a.serve.root)
+
     refusal_is : (b : Bool) → nat_lt a.serve.msize LEAST_MSIZE ≡ b → (o : Option ℕ) → mount_refused a.serve.target a.described ≡ o → refusal a.serve a.described ≡ cond b (Some MsizeTooSmall) (option_map Mount o)
     refusal_is b short o mount = λ j. cond (short j) (Some MsizeTooSmall) (option_map Mount (mount j))
 
-    root_is : (c : Bool) → nat_le a.serve.ids 0 ≡ c → root_given a.serve (linked t) ≡ cond c (Err ENFILE) (Ok 1)
-    root_is c no_fid = λ j. cond (no_fid j) (Err ENFILE) (header_root bytes a.rest a.described a.headed j)
+    served_by : (r : Result ℕ ℕ) → root_given a.serve (linked t) ≡ r → (mounted a.serve t a.rest None).0 ≡ by_root r (status_of taken.end)
+    served_by (Err e) root = ap (λ x. (attached a.serve (linked t) x taken).0) root
+    served_by (Ok i) root = ap (λ x. (attached a.serve (linked t) x taken).0) root
 
-    served_by : (c : Bool) → nat_le a.serve.ids 0 ≡ c → (mounted a.serve t a.rest None).0 ≡ cond c Stopped (status_of taken.end)
-    served_by true no_fid = ap (λ r. (attached a.serve (linked t) r taken).0) (root_is true no_fid)
-    served_by false no_fid = ap (λ r. (attached a.serve (linked t) r taken).0) (root_is false no_fid)
+    run_by : (b : Bool) → nat_lt a.serve.msize LEAST_MSIZE ≡ b → (o : Option ℕ) → mount_refused a.serve.target a.described ≡ o → (r : Result ℕ ℕ) → root_given a.serve (linked t) ≡ r
+        → (run_of a.serve a.described a.rest).0 ≡ cond b Stopped (by_mount o (by_root r (status_of taken.end)))
+    run_by true short o mount r root = ap (λ x. (mounted a.serve t a.rest x).0) (refusal_is true short o mount)
+    run_by false short (Some e) mount r root = ap (λ x. (mounted a.serve t a.rest x).0) (refusal_is false short (Some e) mount)
+    run_by false short None mount r root = ap (λ x. (mounted a.serve t a.rest x).0) (refusal_is false short None mount) ∙ served_by r root
 
-    run_by : (b : Bool) → nat_lt a.serve.msize LEAST_MSIZE ≡ b → (o : Option ℕ) → mount_refused a.serve.target a.described ≡ o → (c : Bool) → nat_le a.serve.ids 0 ≡ c
-        → (run_of a.serve a.described a.rest).0 ≡ cond b Stopped (by_mount o (cond c Stopped (status_of taken.end)))
-    run_by true short o mount c no_fid = ap (λ r. (mounted a.serve t a.rest r).0) (refusal_is true short o mount)
-    run_by false short (Some e) mount c no_fid = ap (λ r. (mounted a.serve t a.rest r).0) (refusal_is false short (Some e) mount)
-    run_by false short None mount c no_fid = ap (λ r. (mounted a.serve t a.rest r).0) (refusal_is false short None mount) ∙ served_by c no_fid
+    -- where there may be a fid, the root decides
+    given_by : (c : Bool) → nat_le a.serve.ids 0 ≡ c → root_given a.serve (linked t) ≡ cond c (Err ENFILE) at_root
+    given_by c no_fid = ap (λ b. cond b (Err ENFILE) at_root) no_fid
+
+    given_root : 1 ≤ a.serve.ids → root_given a.serve (linked t) ≡ at_root
+    given_root some = given_by false (positive a.serve.ids some)
+
+    no_root : (c : Bool) → nat_le a.serve.ids 0 ≡ c → (e : ℕ) → root_given a.serve (linked t) ≡ Err e → (a.serve.ids ≡ 0) ⊎ ((errno : ℕ) × (at_root ≡ Err errno))
+    no_root true no_fid e root = inl (none_of a.serve.ids no_fid)
+    no_root false no_fid e root = inr (e, sym (given_by false no_fid) ∙ root)
+
+    some_root : (c : Bool) → nat_le a.serve.ids 0 ≡ c → (i : ℕ) → root_given a.serve (linked t) ≡ Ok i → (1 ≤ a.serve.ids) × (at_root ≡ Ok i)
+    some_root true no_fid i root = let clash : ◌≡◌ {A = Result ℕ ℕ} (Err ENFILE) (Ok i) = sym (given_by true no_fid) ∙ root in absurd cc
+    some_root false no_fid i root = (some_of a.serve.ids no_fid, sym (given_by false no_fid) ∙ root)
 
     accepted_answer : answer ≡ (run_of a.serve a.described a.rest).0
     accepted_answer = ap (λ o. (outcome_by o (header bytes)).0) a.commanded ∙ ap (λ r. (outcome_by (Some a.serve) r).0) a.headed
 
     -- ---- each answer has its cause
 
-    ended_cause : LEAST_MSIZE ≤ a.serve.msize → mount_refused a.serve.target a.described ≡ None → 1 ≤ a.serve.ids → (e : End) → taken.end ≡ e → Caused (status_of e)
-    ended_cause long is some done at = record { accepted = a; long = long; let_in = is; some = some; whole = at }
-    ended_cause long is some turns_spent at = record { accepted = a; cause = inr (inr (inr (λ over. let clash : turns_spent ≡ done = sym at ∙ over in cc))) }
-    ended_cause long is some torn at = record { accepted = a; cause = inr (inr (inr (λ over. let clash : torn ≡ done = sym at ∙ over in cc))) }
-    ended_cause long is some bad_length at = record { accepted = a; cause = inr (inr (inr (λ over. let clash : bad_length ≡ done = sym at ∙ over in cc))) }
+    ended_cause : LEAST_MSIZE ≤ a.serve.msize → mount_refused a.serve.target a.described ≡ None → (i : ℕ) → (1 ≤ a.serve.ids) × (at_root ≡ Ok i) → (e : End) → taken.end ≡ e → Caused (status_of e)
+    ended_cause long is i root done at = record { accepted = a; long = long; let_in = is; some = root.0; root = i; found = root.1; whole = at }
+    ended_cause long is i root turns_spent at = record { accepted = a; cause = inr (inr (inr (inr (λ over. let clash : turns_spent ≡ done = sym at ∙ over in cc)))) }
+    ended_cause long is i root torn at = record { accepted = a; cause = inr (inr (inr (inr (λ over. let clash : torn ≡ done = sym at ∙ over in cc)))) }
+    ended_cause long is i root bad_length at = record { accepted = a; cause = inr (inr (inr (inr (λ over. let clash : bad_length ≡ done = sym at ∙ over in cc)))) }
 
-    run_cause : (b : Bool) → nat_lt a.serve.msize LEAST_MSIZE ≡ b → (o : Option ℕ) → mount_refused a.serve.target a.described ≡ o → (c : Bool) → nat_le a.serve.ids 0 ≡ c
-        → Caused (cond b Stopped (by_mount o (cond c Stopped (status_of taken.end))))
-    run_cause true short o mount c no_fid = record { accepted = a; cause = inl (below a.serve.msize short) }
-    run_cause false short (Some e) mount c no_fid = record { accepted = a; cause = inr (inl (λ none. let clash : Some e ≡ None = sym mount ∙ none in cc)) }
-    run_cause false short None mount true no_fid = record { accepted = a; cause = inr (inr (inl (none_of a.serve.ids no_fid))) }
-    run_cause false short None mount false no_fid = ended_cause (not_below a.serve.msize short) mount (some_of a.serve.ids no_fid) taken.end refl
+    root_cause : (a.serve.ids ≡ 0) ⊎ ((errno : ℕ) × (at_root ≡ Err errno)) → Caused Stopped
+    root_cause why = ⊎_elim (λ none. record { accepted = a; cause = inr (inr (inl none)) }) (λ away. record { accepted = a; cause = inr (inr (inr (inl away))) }) why
+
+    run_cause : (b : Bool) → nat_lt a.serve.msize LEAST_MSIZE ≡ b → (o : Option ℕ) → mount_refused a.serve.target a.described ≡ o → (r : Result ℕ ℕ) → root_given a.serve (linked t) ≡ r
+        → Caused (cond b Stopped (by_mount o (by_root r (status_of taken.end))))
+    run_cause true short o mount r root = record { accepted = a; cause = inl (below a.serve.msize short) }
+    run_cause false short (Some e) mount r root = record { accepted = a; cause = inr (inl (λ none. let clash : Some e ≡ None = sym mount ∙ none in cc)) }
+    run_cause false short None mount (Err e) root = root_cause (no_root (nat_le a.serve.ids 0) refl e root)
+    run_cause false short None mount (Ok i) root = ended_cause (not_below a.serve.msize short) mount i (some_root (nat_le a.serve.ids 0) refl i root) taken.end refl
 
     accepted_cause : Caused (run_of a.serve a.described a.rest).0
     accepted_cause =
-        subst Caused (sym (run_by (nat_lt a.serve.msize LEAST_MSIZE) refl (mount_refused a.serve.target a.described) refl (nat_le a.serve.ids 0) refl))
-        (run_cause (nat_lt a.serve.msize LEAST_MSIZE) refl (mount_refused a.serve.target a.described) refl (nat_le a.serve.ids 0) refl)
+        subst Caused (sym (run_by (nat_lt a.serve.msize LEAST_MSIZE) refl (mount_refused a.serve.target a.described) refl (root_given a.serve (linked t)) refl))
+        (run_cause (nat_lt a.serve.msize LEAST_MSIZE) refl (mount_refused a.serve.target a.described) refl (root_given a.serve (linked t)) refl)
 
   cause_by : (o : Option Serve) → command words ≡ o → (r : Result (HeaderRead × List ℕ) ℕ) → header bytes ≡ r → Caused (outcome_by o r).0
   cause_by None w r h = w
@@ -121,7 +142,7 @@ module _ (words : List (List ℕ)) (bytes : List ℕ) where
   told_served : IsValidInput words bytes → answer ≡ Served
   told_served v =
       accepted_answer v.accepted
-      ∙ run_by v.accepted false (at_least v.accepted.serve.msize v.long) None v.let_in false (positive v.accepted.serve.ids v.some)
+      ∙ run_by v.accepted false (at_least v.accepted.serve.msize v.long) None v.let_in (Ok v.root) (given_root v.accepted v.some ∙ v.found)
       ∙ ap status_of v.whole
 
   not_done : (e : End) → e ≢ done → status_of e ≡ Stopped
@@ -133,29 +154,34 @@ module _ (words : List (List ℕ)) (bytes : List ℕ) where
   told_stopped : IsStoppedInput words bytes → answer ≡ Stopped
   told_stopped v =
       accepted_answer v.accepted
-      ∙ run_by v.accepted (nat_lt v.accepted.serve.msize LEAST_MSIZE) refl (mount_refused v.accepted.serve.target v.accepted.described) refl (nat_le v.accepted.serve.ids 0) refl
-      ∙ stops (nat_lt v.accepted.serve.msize LEAST_MSIZE) refl (mount_refused v.accepted.serve.target v.accepted.described) refl (nat_le v.accepted.serve.ids 0) refl
+      ∙ run_by v.accepted (nat_lt v.accepted.serve.msize LEAST_MSIZE) refl (mount_refused v.accepted.serve.target v.accepted.described) refl (root_given v.accepted.serve (linked v.accepted.described.tree)) refl
+      ∙ stops (nat_lt v.accepted.serve.msize LEAST_MSIZE) refl (mount_refused v.accepted.serve.target v.accepted.described) refl (root_given v.accepted.serve (linked v.accepted.described.tree)) refl
     where
-      stops : (b : Bool) → nat_lt v.accepted.serve.msize LEAST_MSIZE ≡ b → (o : Option ℕ) → mount_refused v.accepted.serve.target v.accepted.described ≡ o → (c : Bool) → nat_le v.accepted.serve.ids 0 ≡ c
-          → cond b Stopped (by_mount o (cond c Stopped (status_of (cut v.accepted.serve.turns v.accepted.rest).end))) ≡ Stopped
-      stops true short o mount c no_fid = refl
-      stops false short (Some e) mount c no_fid = refl
-      stops false short None mount true no_fid = refl
-      stops false short None mount false no_fid = ⊎_elim
+      rooted : (i : ℕ) → root_given v.accepted.serve (linked v.accepted.described.tree) ≡ Ok i → (1 ≤ v.accepted.serve.ids) × (root_of (linked v.accepted.described.tree) (path_names v.accepted.serve.root) ≡ Ok i)
+      rooted i root = some_root v.accepted (nat_le v.accepted.serve.ids 0) refl i root
+
+      stops : (b : Bool) → nat_lt v.accepted.serve.msize LEAST_MSIZE ≡ b → (o : Option ℕ) → mount_refused v.accepted.serve.target v.accepted.described ≡ o
+          → (r : Result ℕ ℕ) → root_given v.accepted.serve (linked v.accepted.described.tree) ≡ r
+          → cond b Stopped (by_mount o (by_root r (status_of (cut v.accepted.serve.turns v.accepted.rest).end))) ≡ Stopped
+      stops true short o mount r root = refl
+      stops false short (Some e) mount r root = refl
+      stops false short None mount (Err e) root = refl
+      stops false short None mount (Ok i) root = ⊎_elim
           (λ lt. absurd (let least = not_below v.accepted.serve.msize short in omega (arith, lt, least)))
           (λ others. ⊎_elim (λ some. absurd (some mount))
-          (λ more. ⊎_elim (λ zero. absurd (let some = some_of v.accepted.serve.ids no_fid in omega (arith, zero, some)))
-          (λ other. not_done (cut v.accepted.serve.turns v.accepted.rest).end other) more) others)
+          (λ more. ⊎_elim (λ zero. absurd (let some = (rooted i root).0 in omega (arith, zero, some)))
+          (λ last. ⊎_elim (λ away. absurd (let clash : ◌≡◌ {A = Result ℕ ℕ} (Err away.0) (Ok i) = sym away.1 ∙ (rooted i root).1 in cc))
+          (λ other. not_done (cut v.accepted.serve.turns v.accepted.rest).end other) last) more) others)
           v.cause
 
   -- what valid input writes: the play of its frames
-  pub served_outcome : (v : IsValidInput words bytes) → outcome words bytes ≡ played v.accepted.serve (linked v.accepted.described.tree) TOP (cut v.accepted.serve.turns v.accepted.rest)
+  pub served_outcome : (v : IsValidInput words bytes) → outcome words bytes ≡ played v.accepted.serve (linked v.accepted.described.tree) v.root (cut v.accepted.serve.turns v.accepted.rest)
   served_outcome v =
       let a : IsAccepted words bytes = v.accepted in
       ap (λ o. outcome_by o (header bytes)) a.commanded
       ∙ ap (λ r. outcome_by (Some a.serve) r) a.headed
       ∙ ap (mounted a.serve a.described.tree a.rest) (refusal_is a false (at_least a.serve.msize v.long) None v.let_in)
-      ∙ ap (λ r. attached a.serve (linked a.described.tree) r (cut a.serve.turns a.rest)) (root_is a false (positive a.serve.ids v.some))
+      ∙ ap (λ r. attached a.serve (linked a.described.tree) r (cut a.serve.turns a.rest)) (given_root a v.some ∙ v.found)
 
   pub served_exactly : (answer ≡ Served) ↔ IsValidInput words bytes
   served_exactly = (caused Served, told_served)

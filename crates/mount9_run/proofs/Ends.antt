@@ -1,5 +1,5 @@
 -- Runs that were served, and those that weren't.
-use Rattle.std.proofs.Common.{◌≡◌, ◌≢◌, ℕ, List, Result, Ok, Err, refl, sym, ap, ◌∙◌}
+use Rattle.std.proofs.Common.{◌≡◌, ◌≢◌, ℕ, List, Result, Ok, Err, refl, sym, ap, ◌∙◌, subst}
 use Rattle.std.specs.Prelude.{IsOk}
 use Rattle.port_base.specs.declared.sink.SinkFault.{SinkFault}
 use Rattle.port_base.specs.declared.sink.SinkFault.TheVariants.{Failed, NoMemory}
@@ -10,7 +10,7 @@ use Rattle.frame_pump.specs.declared.outcome.BridgeError.TheVariants as error
 use Rattle.mount9_run.specs.Serving.{ending_of, stopped_by}
 use Rattle.mount9_run.specs.declared.run.Ending.{Ending}
 use Rattle.mount9_run.specs.Wrote.{Shown}
-use Rattle.mount9_run.specs.Running.{Tells, after_text}
+use Rattle.mount9_run.specs.Running.{IsTold, Tells, after_text}
 use Rattle.mount9_run.specs.declared.run.Status.{Status}
 use Rattle.mount9_run.specs.declared.run.Status.TheVariants.{Served, Stopped, Memory, Input, Output}
 
@@ -70,3 +70,22 @@ unserved (Err r) s is served = by_cause r.handled r.nine_frames r.cause s is ser
   by_cause handled nine error.MsizeTooSmall s is served = absurd cc
   by_cause handled nine (error.Mount errno) s is served = absurd cc
   by_cause handled nine (error.Attach errno) s is served = absurd cc
+
+-- nor is a text told
+pub untold : (r : Result Pumped StoppedRun) (s : Status) → ending_of r ≡ Err s → IsTold s → ⊥
+untold (Ok r) s is told = absurd cc
+untold (Err r) s is told = by_cause r.handled r.nine_frames r.cause s is told where
+  apart : (x s : Status) → ◌≡◌ {A = Result Ending Status} (Err x) (Err s) → (IsTold x → ⊥) → IsTold s → ⊥
+  apart x s is none told = let same : x ≡ s = cc in none (subst IsTold (sym same) told)
+
+  by_cause : (handled nine : ℕ) (cause : BridgeError) (s : Status) → stopped_by handled nine cause ≡ Err s → IsTold s → ⊥
+  by_cause handled nine error.NoMemory s is told = apart Memory s is (λ none. none) told
+  by_cause handled nine error.Read s is told = apart Input s is (λ none. none) told
+  by_cause handled nine error.Write s is told = apart Output s is (λ none. none) told
+  by_cause handled nine error.Unmount s is told = apart Output s is (λ none. none) told
+  by_cause handled nine error.Torn s is told = absurd cc
+  by_cause handled nine error.BadLength s is told = absurd cc
+  by_cause handled nine error.TurnsSpent s is told = absurd cc
+  by_cause handled nine error.MsizeTooSmall s is told = absurd cc
+  by_cause handled nine (error.Mount errno) s is told = absurd cc
+  by_cause handled nine (error.Attach errno) s is told = absurd cc

@@ -2,7 +2,6 @@
 use Rattle.std.proofs.Common.{◌≡◌, ⊎_elim, ◌⊎◌, inl, inr, ℕ, ◌-◌, ◌^◌, min, List, [], length, IfSome, Some, None, Ok, refl, sym, ap, ◌∙◌, subst, arith}
 use Rattle.std.specs.declared.option.Option.{Option}
 use Rattle.port_base.specs.Faults.{Faulted}
-use Rattle.tree_model.specs.declared.attributes.TheConstants.{TOP}
 use Rattle.tree_model.specs.Tree.{Tree, linked}
 use Rattle.tree_model.specs.Finding.{root_of}
 use Rattle.fuse_wire.specs.Cuts.{Cut, cut}
@@ -22,7 +21,6 @@ use Rattle.mount9_run.specs.Statuses.{exit_code, IsWholeTree, IsPlayReport, Send
 use Rattle.mount9_run.specs.declared.run.Status.{Status}
 use Rattle.mount9_run.specs.declared.run.Status.TheVariants.{Served, Stopped, Words, Header, Memory, Input, Output}
 use Rattle.mount9_run.proofs.Causes.{served_outcome, served_exactly, answers_alike}
-use Rattle.mount9_run.proofs.HeaderTree.{header_root}
 
 pub served_by_code : (s : Status) → exit_code s ≡ 0 → s ≡ Served
 served_by_code Served is = refl
@@ -49,38 +47,41 @@ module _ (words : List (List ℕ)) (bytes : List ℕ) (v : IsValidInput words by
   c : Cut
   c = cut a.serve.turns a.rest
 
-  found : root_of t (share_settings a.serve).root ≡ Ok TOP
-  unfolding a t
-  found = ap (λ (x : Tree). root_of x []) (sym w.whole) ∙ header_root bytes a.rest a.described a.headed
+  base : ℕ
+  base = v.root
 
-  final : linked (play (share_settings a.serve) t TOP c.frames).1 ≡ (play (share_settings a.serve) t TOP c.frames).1
-  unfolding a t c
-  final = linked_twice _ (play_good (share_settings a.serve) (begun t TOP) c.frames (begun_good (share_settings a.serve) t TOP w.good found v.some)).tree
+  found : root_of t (share_settings a.serve).root ≡ Ok base
+  unfolding a t base
+  found = ap (λ (x : Tree). root_of x (share_settings a.serve).root) (sym w.whole) ∙ v.found
 
-  text : (outcome words bytes).1 ≡ report (play (share_settings a.serve) t TOP c.frames).0
-      (verdict_of done (length c.frames) (min (total (piece a.serve) (share_settings a.serve) t TOP c.frames) (2 ^ 64 - 1)))
-      (play (share_settings a.serve) t TOP c.frames).1 mount_table
-  unfolding a t c
+  final : linked (play (share_settings a.serve) t base c.frames).1 ≡ (play (share_settings a.serve) t base c.frames).1
+  unfolding a t c base
+  final = linked_twice _ (play_good (share_settings a.serve) (begun t base) c.frames (begun_good (share_settings a.serve) t base w.good found v.some)).tree
+
+  text : (outcome words bytes).1 ≡ report (play (share_settings a.serve) t base c.frames).0
+      (verdict_of done (length c.frames) (min (total (piece a.serve) (share_settings a.serve) t base c.frames) (2 ^ 64 - 1)))
+      (play (share_settings a.serve) t base c.frames).1 mount_table
+  unfolding a t c base
   text =
       ap (λ (o : Outcome). o.1) (served_outcome words bytes v)
-      ∙ (λ j. report (play (share_settings a.serve) (w.whole j) TOP c.frames).0
-      (verdict_of (v.whole j) (length c.frames) (min (total (piece a.serve) (share_settings a.serve) (w.whole j) TOP c.frames) (2 ^ 64 - 1)))
-      (linked (play (share_settings a.serve) (w.whole j) TOP c.frames).1) mount_table)
-      ∙ ap (λ (x : Tree). report (play (share_settings a.serve) t TOP c.frames).0
-      (verdict_of done (length c.frames) (min (total (piece a.serve) (share_settings a.serve) t TOP c.frames) (2 ^ 64 - 1))) x mount_table) final
+      ∙ (λ j. report (play (share_settings a.serve) (w.whole j) base c.frames).0
+      (verdict_of (v.whole j) (length c.frames) (min (total (piece a.serve) (share_settings a.serve) (w.whole j) base c.frames) (2 ^ 64 - 1)))
+      (linked (play (share_settings a.serve) (w.whole j) base c.frames).1) mount_table)
+      ∙ ap (λ (x : Tree). report (play (share_settings a.serve) t base c.frames).0
+      (verdict_of done (length c.frames) (min (total (piece a.serve) (share_settings a.serve) t base c.frames) (2 ^ 64 - 1))) x mount_table) final
 
   play_report : IsPlayReport words bytes (outcome words bytes).1
-  unfolding a t c
+  unfolding a t c base
   play_report = record {
     serve = a.serve;
     commanded = a.commanded;
     described = a.described;
     rest = a.rest;
     headed = a.headed;
-    root = TOP;
+    root = base;
     found = found;
     whole = v.whole;
-    messages = min (total (piece a.serve) (share_settings a.serve) t TOP c.frames) (2 ^ 64 - 1);
+    messages = min (total (piece a.serve) (share_settings a.serve) t base c.frames) (2 ^ 64 - 1);
     counted = refl;
     text_is = text;
   }

@@ -18,8 +18,10 @@ pub mod Reporting
 pub mod Ran
 pub mod Told
 pub mod Mounting
-pub mod HeaderTree
+pub mod HeaderPlaces
 pub mod HeaderExamples
 pub mod Causes
 pub mod Exits
 pub mod Heading
+pub mod TakenInput
+pub mod Rooted

@@ -1,5 +1,5 @@
 -- What a share tells and leaves, from what the run over its server does.
-use Rattle.std.proofs.Common.{◌≡◌, ⊎_elim, ℕ, ◌-◌, ◌^◌, ◌<◌, ◌≤◌, min, List, [], ◌++◌, Bool, true, false, cond, ◌||◌, IsSome, IfSome, Option, Some, None, Result, Ok, Err, refl, sym, ap, ◌∙◌, subst, arith, if◌then◌else◌, nat_le}
+use Rattle.std.proofs.Common.{◌≡◌, ⊎_elim, ℕ, ◌+◌, ◌-◌, ◌^◌, ◌<◌, ◌≤◌, min, List, [], ◌++◌, length, length-append, Bool, true, false, cond, ◌||◌, IsSome, IfSome, Option, Some, None, Result, Ok, Err, refl, sym, ap, ◌∙◌, subst, arith, if◌then◌else◌, nat_le}
 use Rattle.std.proofs.lemmas.Bool.{false≢true}
 use Rattle.std.proofs.lemmas.Bool.Decides.{nat_tests}
 use Rattle.std.proofs.lemmas.Option.{same_Some}
@@ -13,6 +13,8 @@ use Rattle.tree_host.specs.Host.{IsHeldIn}
 use Rattle.tree_host.proofs.Held.{hold_count-empty}
 use Rattle.std.specs.Prelude.{nat_lt, IsOk}
 use Rattle.std.specs.Io.KnownBytes.{IsAtEnd}
+use Rattle.std.proofs.KnownBytes.{Consumes-nil}
+use Rattle.std.specs.List.{concat}
 use Rattle.port_base.specs.Faults.{Faulted, Rose}
 use Rattle.port_base.specs.declared.errno.TheConstants.{ENFILE}
 use Rattle.fuse_wire.specs.Cuts.{Cut, cut, End}
@@ -21,7 +23,7 @@ use Rattle.tree_machine.specs.State.{MachineState, begun}
 use Rattle.tree_machine.specs.Play.{play, play_from}
 use Rattle.tree_machine.specs.Messages.{total, messages_from}
 use Rattle.frame_pump.specs.Sessions.{Session}
-use Rattle.frame_pump.specs.Turns.{Streams, StopsBy, Ended}
+use Rattle.frame_pump.specs.Turns.{Streams, StopsBy, Ended, TookTo}
 use Rattle.frame_pump.proofs.Answering.{Answered-exact}
 use Rattle.frame_pump.specs.declared.outcome.Pumped.{Pumped}
 use Rattle.frame_pump.specs.declared.outcome.Stopped.{Stopped}
@@ -34,7 +36,11 @@ use Rattle.p9_wire.specs.declared.protocol.TheConstants.{RREAD_HEADER_SIZE}
 use Rattle.mount9_run.specs.Command.{Serve}
 use Rattle.mount9_run.specs.Report.{report}
 use Rattle.mount9_run.specs.Outcome.{served, attached, root_given, share_settings, piece, status_of, verdict_of, halted, mount_table}
-use Rattle.mount9_run.specs.Serving.{StoppedBy, SharesBy, Shares}
+use Rattle.mount9_run.specs.Serving.{StoppedBy, SharesBy, Shares, ending_of, stopped_by as ending_stopped}
+use Rattle.mount9_run.specs.Taken.{Taken, Took, cut_taken, served_taken}
+use Rattle.mount9_run.specs.Taken.Taken.{just}
+use Rattle.mount9_run.specs.declared.run.Ending.{Ending}
+use Rattle.mount9_run.specs.declared.run.Status.{Status}
 use Rattle.mount9_run.specs.declared.run.Status.TheVariants as status
 
 -- ---- a host that holds nothing stores linked records alone
@@ -68,6 +74,18 @@ not_risen a b z n f = absurd (omega (arith, z, n, f))
 positive : (n : ℕ) → nat_le n 0 ≡ true → 1 ≤ n → ⊥
 positive n t some = absurd (grind (arith, nat_tests))
 
+-- ---- what is taken of the input
+
+cut_took : (end : End) (frames : List (List ℕ)) (left0 left1 : Option (List ℕ)) → TookTo end frames left0 left1 → Took (cut_taken (record { frames = frames; end = end })) left0 left1
+cut_took done frames left0 left1 k = k
+cut_took torn frames left0 left1 k = k
+cut_took bad_length frames left0 left1 (more, number, c) = (concat frames ++ more, c, length-append (concat frames) more ∙ ap (λ n. length (concat frames) + n) number)
+cut_took turns_spent frames left0 left1 (more, number, c) = (concat frames ++ more, c, length-append (concat frames) more ∙ ap (λ n. length (concat frames) + n) number)
+
+-- out of memory isn't reported
+silent_ending : (handled nine : ℕ) (cause : BridgeError) (e : Ending) → cause ≡ error.NoMemory → ending_stopped handled nine cause ≡ Ok e → ⊥
+silent_ending handled nine cause e memory is = let clash : ◌≡◌ {A = Result Ending Status} (Err status.Memory) (Ok e) = sym (ap (ending_stopped handled nine) memory) ∙ is in cc
+
 -- ---- a share of a tree by a server that has never failed, with what it was sent in memory
 
 module _ (w : Serve) (n0 n1 : Moment) (settings : n0.state.settings ≡ share_settings w) (sized : n0.state.msize ≡ w.msize) (zero : n0.faults ≡ 0) (same : n1.faults ≡ n0.faults) (left0 left1 : Option (List ℕ)) (r0 r1 : List ℕ) (in0 in1 : ℕ) (start : r0 ≡ []) (last : Tree) (ended : last ≡ linked n1.state.tree) where
@@ -83,6 +101,9 @@ module _ (w : Serve) (n0 n1 : Moment) (settings : n0.state.settings ≡ share_se
   some_fid false is some found = ap (λ b. cond b (Err ENFILE) (root_of (linked n0.state.tree) (share_settings w).root)) is ∙ found
 
   module _ (s0 s1 : Session) (b : Opens n0 s0) (e : Closes s1 n1) where
+    root_found : root_given w (linked n0.state.tree) ≡ Ok b.root
+    root_found = some_fid (nat_le w.ids 0) refl (subst (λ (s : Settings). 1 ≤ s.limit) settings b.limit) (subst (λ (s : Settings). root_of (linked n0.state.tree) s.root ≡ Ok b.root) settings b.found)
+
     module _ (handled nine : ℕ) (sent : nine ≡ s1.sent) (end : End) (h : Ended s0 s1 p0 p1 w.turns handled end) where
       abbrev t : Tree
       t = linked n0.state.tree
@@ -92,7 +113,6 @@ module _ (w : Serve) (n0 n1 : Moment) (settings : n0.state.settings ≡ share_se
           let still : s1.faults ≡ s0.faults = omega (arith, same, e.faults, b.rises, h.answered.stays.rises) in
           let below : s0.faults < 2 ^ 64 - 1 = omega (arith, same, zero, e.faults, b.rises, h.answered.stays.rises) in
           let exact = Answered-exact s0 s1 h.frames h.replies h.answered still below in
-          let found : root_given w t ≡ Ok b.root = some_fid (nat_le w.ids 0) refl (subst (λ (s : Settings). 1 ≤ s.limit) settings b.limit) (subst (λ (s : Settings). root_of t s.root ≡ Ok b.root) settings b.found) in
           let set : s0.settings ≡ share_settings w = b.settings ∙ settings in
           let played : play_from s0.settings s0.state h.frames ≡ play_from (share_settings w) (begun t b.root) h.frames = (λ j. play_from (set j) (b.state j) h.frames) in
           let pieces : s0.piece ≡ piece w = b.piece ∙ ap (λ n. min n GREATEST_MSIZE - RREAD_HEADER_SIZE) sized in
@@ -101,12 +121,34 @@ module _ (w : Serve) (n0 n1 : Moment) (settings : n0.state.settings ≡ share_se
           let final : linked (play (share_settings w) t b.root h.frames).1 ≡ last = sym (ended ∙ ap linked (e.tree ∙ ap (λ (m : MachineState). linked m.tree) (exact.1 ∙ ap (λ (r : List ℕ × MachineState). r.1) played))) in
           let messages : min (total (piece w) (share_settings w) t b.root h.frames) (2 ^ 64 - 1) ≡ min nine (2 ^ 64 - 1) = omega (arith, exact.2, number, sent, b.sent, h.answered.sent) in
           ap (λ (c : Cut). served w t c) is
-          ∙ ap (λ (r : Result ℕ ℕ). attached w t r (record { frames = h.frames; end = end })) found
+          ∙ ap (λ (r : Result ℕ ℕ). attached w t r (record { frames = h.frames; end = end })) root_found
           ∙ (λ j. (status_of end, report (replies j) (verdict_of end (h.number j) (messages j)) (final j) mount_table))
 
       leads_known : (left : Option (List ℕ)) → IfSome left (λ bytes. cut w.turns bytes ≡ record { frames = h.frames; end = end }) → IfSome left (λ bytes. served w t (cut w.turns bytes) ≡ (status_of end, report r1 (verdict_of end handled (min nine (2 ^ 64 - 1))) last mount_table))
       leads_known None is = tt
       leads_known (Some bytes) is = leads bytes is
+
+      took_known : (left : Option (List ℕ)) → IfSome left (λ bytes. cut w.turns bytes ≡ record { frames = h.frames; end = end }) → Took (cut_taken (record { frames = h.frames; end = end })) left0 left1
+          → IfSome left (λ bytes. Took (served_taken w (root_given w t) bytes) left0 left1)
+      took_known None is k = tt
+      took_known (Some bytes) is k =
+          subst (λ (n : Taken). Took n left0 left1) (ap cut_taken (sym is) ∙ ap (λ (r : Result ℕ ℕ). served_taken w r bytes) (sym root_found)) k
+
+      took : IfSome left0 (λ bytes. Took (served_taken w (root_given w t) bytes) left0 left1)
+      took = took_known left0 h.cut (cut_took end h.frames left0 left1 h.taken)
+
+    took_stopped : (handled nine : ℕ) → nine ≡ s1.sent → (cause : BridgeError) → StopsBy s0 s1 (Unit {0}) p0 p1 w.turns handled cause → (e : Ending) → ending_stopped handled nine cause ≡ Ok e
+        → IfSome left0 (λ bytes. Took (served_taken w (root_given w (linked n0.state.tree)) bytes) left0 left1)
+    took_stopped handled nine sent error.Torn k e is = took handled nine sent torn k.2
+    took_stopped handled nine sent error.BadLength k e is = took handled nine sent bad_length k.2
+    took_stopped handled nine sent error.TurnsSpent k e is = took handled nine sent turns_spent k.2
+    took_stopped handled nine sent error.Read k e is = absurd cc
+    took_stopped handled nine sent error.Write k e is = absurd cc
+    took_stopped handled nine sent error.NoMemory k e is = absurd cc
+    took_stopped handled nine sent (error.Attach errno) k e is = absurd k
+    took_stopped handled nine sent error.MsizeTooSmall k e is = absurd k
+    took_stopped handled nine sent (error.Mount errno) k e is = absurd k
+    took_stopped handled nine sent error.Unmount k e is = absurd k
 
     stopped_by : (handled nine : ℕ) → nine ≡ s1.sent → (cause : BridgeError) → StopsBy s0 s1 (Unit {0}) p0 p1 w.turns handled cause → StoppedBy w n0.state.tree left0 in0 in1 r1 last handled nine cause
     stopped_by handled nine sent error.Torn k = (k.0.0, leads_known handled nine sent torn k.2 left0 k.2.cut)
@@ -138,6 +180,11 @@ module _ (w : Serve) (n0 n1 : Moment) (settings : n0.state.settings ≡ share_se
         ap (λ (r : Result ℕ ℕ). attached w (linked n0.state.tree) r (cut w.turns bytes)) found
         ∙ (λ j. (status.Stopped, report (replies j) (halted (error.Attach errno) (sym none j) (messages j)) (final j) mount_table))
 
+    took_nothing : (bytes : List ℕ) → Took (served_taken w (root_given w (linked n0.state.tree)) bytes) left0 left1
+    took_nothing bytes =
+        subst (λ (n : Taken). Took n left0 left1) (ap (λ (r : Result ℕ ℕ). served_taken w r bytes) (sym found))
+        (subst (λ (left : Option (List ℕ)). Took (just 0) left0 left) (sym (ap (λ (p : Streams). p.left) still)) ([], Consumes-nil left0, refl))
+
   over : {P : List ℕ → Type 0} (left : Option (List ℕ)) → ((bytes : List ℕ) → P bytes) → IfSome left P
   over None h = tt
   over (Some bytes) h = h bytes
@@ -150,6 +197,18 @@ module _ (w : Serve) (n0 n1 : Moment) (settings : n0.state.settings ≡ share_se
       (λ a. subst (λ (c : BridgeError). StoppedBy w n0.state.tree left0 in0 in1 r1 last r.handled r.nine_frames c) (sym a.1)
       (ap (λ (p : Streams). p.read_faults) n.1, over left0 (refused_leads r.handled r.nine_frames a.0 n.0 a.2 n.1 a.3)))
       (λ m. subst (λ (c : BridgeError). StoppedBy w n0.state.tree left0 in0 in1 r1 last r.handled r.nine_frames c) (sym m.0) (ap (λ (p : Streams). p.read_faults) n.1))
+      n.2)
+      h
+
+  -- what is reported tells how much was taken
+  pub took_by : (result : Result Pumped Stopped) → PumpsBy n0 n1 p0 p1 w.turns result → (e : Ending) → ending_of result ≡ Ok e
+      → IfSome left0 (λ bytes. Took (served_taken w (root_given w (linked n0.state.tree)) bytes) left0 left1)
+  took_by (Ok r) (s0, s1, b, e, k) ending is = took s0 s1 b e r.handled r.nine_frames k.0 done k.1.2
+  took_by (Err r) h ending is = ⊎_elim
+      (λ b. took_stopped b.0 b.1 b.2 b.3 r.handled r.nine_frames b.4.0 r.cause b.4.1 ending is)
+      (λ n. ⊎_elim
+      (λ a. over left0 (took_nothing r.handled r.nine_frames a.0 n.0 a.2 n.1 a.3))
+      (λ m. absurd (silent_ending r.handled r.nine_frames r.cause ending m.0 is))
       n.2)
       h
 

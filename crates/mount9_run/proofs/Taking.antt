@@ -9,7 +9,7 @@ use Rattle.std.proofs.lemmas.List.{nil_from_length}
 use Rattle.std.proofs.lemmas.Bool.Decides.{nat_tests}
 use Rattle.std.proofs.lemmas.Option.{none-some, same_Some}
 use Rattle.mount9_run.specs.Header.{Split, onto, text_from, text_of, within_limit}
-use Rattle.mount9_run.specs.HeaderViews.{Scans}
+use Rattle.mount9_run.specs.HeaderViews.{Scans, IsEndless}
 
 Consumes-if : (a b : Option (List ℕ)) (taken : List ℕ) (P : List ℕ → Type 0) → Consumes a b taken → ((more : List ℕ) → P (taken ++ more)) → IfSome a P
 Consumes-if None b taken P h each = tt
@@ -18,6 +18,11 @@ Consumes-if (Some xs) (Some ys) taken P h each = subst P (sym h) (each ys)
 
 leb-false-of : (a b : ℕ) → b < a → nat_le a b ≡ false
 leb-false-of a b h = grind (arith, nat_tests)
+
+AtEnd-back : (a b : Option (List ℕ)) (bytes : List ℕ) → length bytes ≡ 0 → Consumes a b bytes → IsAtEnd b → IsAtEnd a
+AtEnd-back None b bytes none c end = tt
+AtEnd-back (Some xs) None bytes none c end = absurd c
+AtEnd-back (Some xs) (Some ys) bytes none c end = c ∙ ap (λ (l : List ℕ). bytes ++ l) end ∙ append-nil bytes ∙ nil_from_length bytes none
 
 abbrev pub onto_all : List ℕ → Split → Split
 onto_all bs None = None
@@ -73,17 +78,40 @@ module _ (left0 left1 left2 : Option (List ℕ)) (in0 in1 in2 : ℕ) (text new :
         ap within_limit found ∙ (rw (le-leb (length new) 16777216 (omega (arith, one_more h e))) refl),
   )
 
+-- ---- no line `end` stands within the limit
+
+-- all was taken, and the input is at its end
+endless_whole : (text more : List ℕ) → length more ≡ 0 → length text ≤ 16777216 → (l0 l1 l2 : Option (List ℕ)) → Consumes l0 l1 text → Consumes l1 l2 more → IsAtEnd l2
+    → IfSome l0 (λ bytes. text_of bytes ≡ None) → IfSome l0 (λ bytes. IsEndless bytes l0 l2)
+endless_whole text more none few None l1 l2 c d end h = tt
+endless_whole text more none few (Some xs) None l2 c d end h = absurd c
+endless_whole text more none few (Some xs) (Some ys) None c d end h = absurd d
+endless_whole text more none few (Some xs) (Some ys) (Some zs) c d end h = record {
+  none = h;
+  took = (text ++ more, Consumes-trans (Some xs) (Some ys) (Some zs) text more c d, omega (arith, none, few, length-append text more, ap length c, length-append text ys, ap length d, length-append more zs, ap length end));
+}
+
+-- as much was taken as a header may have
+endless_full : (text : List ℕ) → length text ≡ 16777216 → (l0 l1 : Option (List ℕ)) → Consumes l0 l1 text → IfSome l0 (λ bytes. text_of bytes ≡ None) → IfSome l0 (λ bytes. IsEndless bytes l0 l1)
+endless_full text full None l1 c h = tt
+endless_full text full (Some xs) None c h = absurd c
+endless_full text full (Some xs) (Some ys) c h = record { none = h; took = (text, c, omega (arith, full, ap length c, length-append text ys)) }
+
 module _ (left0 left1 : Option (List ℕ)) (in0 in1 : ℕ) (text : List ℕ) (start count : ℕ) where
   text-none : text_from [] text ≡ None → text_of text ≡ None
   unfolding text_of
   text-none h = ap within_limit h
 
   -- the input ends before a line `end`
-  pub Taking-none : Taking left0 left1 in0 in1 text start count → IsAtEnd left1 → IfSome left0 (λ bytes. text_of bytes ≡ None)
+  Taking-none : Taking left0 left1 in0 in1 text start count → IsAtEnd left1 → IfSome left0 (λ bytes. text_of bytes ≡ None)
   unfolding text_from
   Taking-none h end =
       let nothing : text_from [] (text ++ []) ≡ None = h.scanned [] in
       Consumes-whole left0 left1 text (λ bytes. text_of bytes ≡ None) h.taken end (text-none (ap (text_from []) (sym (append-nil text)) ∙ nothing))
+
+  pub Endless-end : (left2 : Option (List ℕ)) (more : List ℕ) → length more ≡ 0 → count < 16777216 → Taking left0 left1 in0 in1 text start count → Consumes left1 left2 more → IsAtEnd left2 → IfSome left0 (λ bytes. IsEndless bytes left0 left2)
+  Endless-end left2 more none few h c end =
+      endless_whole text more none (omega (arith, few, h.number)) left0 left1 left2 h.taken c end (Taking-none h (AtEnd-back left1 left2 more none c end))
 
 onto-some : (b : ℕ) (s : Split) (p : List ℕ × List ℕ) → onto b s ≡ Some p → 0 < length p.0
 onto-some b None p h = absurd (none-some p h)
@@ -105,17 +133,14 @@ too_long text None f h = refl
 too_long text (Some p) f h = rw (leb-false-of (length (text ++ p.0)) 16777216 (omega (arith, length-append text p.0, f p refl))) refl
 
 module _ (left0 left1 : Option (List ℕ)) (in0 in1 : ℕ) (text : List ℕ) (start count : ℕ) where
-  -- no line `end` stands within the limit
-  pub Taking-limit : Taking left0 left1 in0 in1 text start count → count ≡ 16777216 → IfSome left0 (λ bytes. text_of bytes ≡ None)
+  Taking-limit : Taking left0 left1 in0 in1 text start count → count ≡ 16777216 → IfSome left0 (λ bytes. text_of bytes ≡ None)
   unfolding text_of
   Taking-limit h full =
       Consumes-if left0 left1 text (λ bytes. text_of bytes ≡ None) h.taken (λ rest.
       ap within_limit (h.scanned rest) ∙ too_long text (text_from (drop start text) rest) (λ p e. text-some (drop start text) rest p e) (h.number ∙ full))
 
-pub AtEnd-back : (a b : Option (List ℕ)) (bytes : List ℕ) → length bytes ≡ 0 → Consumes a b bytes → IsAtEnd b → IsAtEnd a
-AtEnd-back None b bytes none c end = tt
-AtEnd-back (Some xs) None bytes none c end = absurd c
-AtEnd-back (Some xs) (Some ys) bytes none c end = c ∙ ap (λ (l : List ℕ). bytes ++ l) end ∙ append-nil bytes ∙ nil_from_length bytes none
+  pub Endless-limit : Taking left0 left1 in0 in1 text start count → count ≡ 16777216 → IfSome left0 (λ bytes. IsEndless bytes left0 left1)
+  Endless-limit h full = endless_full text (h.number ∙ full) left0 left1 h.taken (Taking-limit h full)
 
 -- the one byte that was read
 pub single : (buf : List ℕ) (n : ℕ) → length buf ≡ 1 → n ≤ length buf → (n ≡ 0 → ⊥) → take n buf ≡ get_or buf 0 0 ∷ []

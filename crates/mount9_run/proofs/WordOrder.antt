@@ -4,7 +4,8 @@ use Rattle.std.specs.Prelude.{codes, option_map, option_and_then}
 use Rattle.std.specs.declared.option.Option.{Option}
 use Rattle.mount9_run.specs.Texts.{split_once}
 use Rattle.mount9_run.specs.Paths.{is_path}
-use Rattle.mount9_run.specs.Command.{Draft, once, text_in_form, number_in, with_key, with_word, with_words, finished, command, no_words, is_top}
+use Rattle.mount9_run.specs.Command.{Draft, once, text_in_form, number_in, with_key, with_word, with_words, finished, command, no_words}
+use Rattle.mount9_run.specs.Paths.{is_root}
 
 -- ---- one key's place in a draft
 
@@ -71,7 +72,7 @@ data Key : Type 0 where
 
 abbrev with_kind : Key → List ℕ → Draft → Option Draft
 with_kind target v d = take target_place (text_in_form is_path v) d
-with_kind root v d = take root_place (text_in_form is_top v) d
+with_kind root v d = take root_place (text_in_form is_root v) d
 with_kind msize v d = take msize_place (number_in 256 65560 v) d
 with_kind turns v d = take turns_place (number_in 1 8192 v) d
 with_kind ids v d = take ids_place (number_in 0 1000000 v) d

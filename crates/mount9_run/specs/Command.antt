@@ -1,12 +1,15 @@
 -- What the words of a command line say.
-use Rattle.std.specs.Prelude.{ℕ, List, [], ◌∷◌, Option, Some, None, is_some, if◌then◌else◌, Bool, codes, bytes_eq, option_map, option_and_then, unwrap_or, drop, slice_get, false}
+use Rattle.std.specs.Prelude.{ℕ, List, [], ◌∷◌, Option, Some, None, is_some, if◌then◌else◌, Bool}
+use Rattle.std.specs.Prelude.{codes, bytes_eq, option_map, option_and_then, unwrap_or, drop}
+use Rattle.std.specs.Prelude.{slice_get, false}
 use Rattle.std.specs.Option.{option_map_or}
 use Rattle.mount9_run.specs.Texts.{split_once}
-use Rattle.mount9_run.specs.Paths.{is_path}
+use Rattle.mount9_run.specs.Paths.{is_path, is_root}
 use Rattle.mount9_run.specs.Numbers.{number_of, in_range}
 use Rattle.mount9_run.specs.declared.command.TheConstants.{MSIZE, TURNS, FID_LIMIT}
 
--- what `serve` is to serve, and where; the greatest size of a 9P message, the most frames, and the most node ids and handles
+-- what `serve` is to serve, and where; the greatest size of a 9P message, the most frames, and the
+-- most node ids and handles
 pub record Serve : Type 0 where
   pub target : List ℕ
   pub root : List ℕ
@@ -37,17 +40,19 @@ text_in_form in_form value = if in_form value then Some value else None
 abbrev pub number_in : ℕ → ℕ → List ℕ → Option ℕ
 number_in low high value = in_range low high (number_of value)
 
-abbrev pub is_top : List ℕ → Bool
-is_top path = bytes_eq path (codes "/")
-
 -- one more key and its value
 abbrev pub with_key : Draft → List ℕ → List ℕ → Option Draft
 with_key d key value =
-    if bytes_eq key (codes "target") then option_map (λ v. record d { target = Some v }) (once d.target (text_in_form is_path value)) else
-    if bytes_eq key (codes "root") then option_map (λ v. record d { root = Some v }) (once d.root (text_in_form is_top value)) else
-    if bytes_eq key (codes "msize") then option_map (λ n. record d { msize = Some n }) (once d.msize (number_in 256 65560 value)) else
-    if bytes_eq key (codes "turns") then option_map (λ n. record d { turns = Some n }) (once d.turns (number_in 1 8192 value)) else
-    if bytes_eq key (codes "ids") then option_map (λ n. record d { ids = Some n }) (once d.ids (number_in 0 1000000 value)) else None
+    if bytes_eq key (codes "target") then option_map (λ v. record d { target = Some v })
+    (once d.target (text_in_form is_path value)) else
+    if bytes_eq key (codes "root") then option_map (λ v. record d { root = Some v })
+    (once d.root (text_in_form is_root value)) else
+    if bytes_eq key (codes "msize") then option_map (λ n. record d { msize = Some n })
+    (once d.msize (number_in 256 65560 value)) else
+    if bytes_eq key (codes "turns") then option_map (λ n. record d { turns = Some n })
+    (once d.turns (number_in 1 8192 value)) else
+    if bytes_eq key (codes "ids") then option_map (λ n. record d { ids = Some n })
+    (once d.ids (number_in 0 1000000 value)) else None
 
 -- one more word, which is `key=value`
 unfoldable pub with_word : Draft → List ℕ → Option Draft
@@ -59,7 +64,14 @@ with_words d (w ∷ ws) = option_and_then (λ e. with_words e ws) (with_word d w
 
 -- the command at these paths, with the numbers that didn't come as they stand by themselves
 abbrev pub completed : Draft → List ℕ → List ℕ → Serve
-completed d target root = record { target = target; root = root; msize = unwrap_or d.msize MSIZE; turns = unwrap_or d.turns TURNS; ids = unwrap_or d.ids FID_LIMIT }
+completed d target root =
+    record {
+      target = target;
+      root = root;
+      msize = unwrap_or d.msize MSIZE;
+      turns = unwrap_or d.turns TURNS;
+      ids = unwrap_or d.ids FID_LIMIT;
+    }
 
 -- the command, where neither path is missing
 abbrev pub finished : Draft → Option Serve
@@ -70,4 +82,5 @@ is_serve words = option_map_or (λ first. bytes_eq first (codes "serve")) (slice
 
 -- what the words command, where they are accepted
 unfoldable pub command : List (List ℕ) → Option Serve
-command words = if is_serve words then option_and_then finished (with_words no_words (drop 1 words)) else None
+command words =
+    if is_serve words then option_and_then finished (with_words no_words (drop 1 words)) else None

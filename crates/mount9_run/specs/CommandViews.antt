@@ -13,10 +13,22 @@ abbrev pub slot_view : Option (Vec ℕ Global) → Option (List ℕ)
 slot_view slot = option_map (λ (v : Vec ℕ Global). v.items) slot
 
 abbrev pub draft_view : DraftWords → Draft
-draft_view d = record { target = slot_view d.target; root = slot_view d.root; msize = d.msize; turns = d.turns; ids = d.ids }
+draft_view d = record {
+  target = slot_view d.target;
+  root = slot_view d.root;
+  msize = d.msize;
+  turns = d.turns;
+  ids = d.ids;
+}
 
 abbrev pub share_view : ShareWords → Serve
-share_view s = record { target = s.target.items; root = s.root.items; msize = s.msize; turns = s.turns; ids = s.ids }
+share_view s = record {
+  target = s.target.items;
+  root = s.root.items;
+  msize = s.msize;
+  turns = s.turns;
+  ids = s.ids;
+}
 
 abbrev pub serve_view : Command → Serve
 serve_view (command.Serve s) = share_view s

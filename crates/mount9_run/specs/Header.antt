@@ -1,7 +1,9 @@
 -- What a header says.
-use Rattle.std.specs.Prelude.{ℕ, Bool, List, [], ◌∷◌, ◌++◌, length, Option, Some, None, Result, Ok, Err, ◌==◌, if◌then◌else◌, nat_le, codes, bytes_eq, option_map}
+use Rattle.std.specs.Prelude.{ℕ, Bool, List, [], ◌∷◌, ◌++◌, length, Option, Some, None, Result, Ok}
+use Rattle.std.specs.Prelude.{Err, ◌==◌, if◌then◌else◌, nat_le, codes, bytes_eq, option_map}
 use Rattle.mount9_run.specs.Reading.{◌>>=◌, Place, check, line_at, lines_of, gathered}
-use Rattle.mount9_run.specs.HeaderLines.{stamp_at, limits_at, permit_at, present_at, top_at, record_at}
+use Rattle.mount9_run.specs.HeaderLines.{stamp_at, limits_at, permit_at, present_at, top_at}
+use Rattle.mount9_run.specs.HeaderRecords.{record_at}
 use Rattle.tree_model.specs.Tree.{Tree}
 use Rattle.tree_model.specs.Making.{new_tree}
 use Rattle.mount9_run.specs.declared.header.start.Start.{Start}
@@ -23,7 +25,8 @@ start_at at = do
   permitted ← permit_at l4.1.0 l5.0
   Ok (record { moment = moment; born = born; limits = limits; permitted = permitted }, l5.1)
 
--- the tree that is shared, whether mounting is permitted, and the directories that mounts may stand on
+-- the tree that is shared, whether mounting is permitted, and the directories that mounts may
+-- stand on
 pub record HeaderRead : Type 0 where
   pub tree : Tree
   pub permitted : Bool
@@ -56,7 +59,9 @@ onto b s = option_map (λ p. (b ∷ p.0, p.1)) s
 unfoldable pub text_from : List ℕ → List ℕ → Split
 text_from line [] = None
 text_from line (b ∷ bs) =
-    if b == 10 then (if bytes_eq line (codes "end") then Some (b ∷ [], bs) else onto b (text_from [] bs)) else onto b (text_from (line ++ b ∷ []) bs)
+    if b == 10
+    then (if bytes_eq line (codes "end") then Some (b ∷ [], bs) else onto b (text_from [] bs))
+    else onto b (text_from (line ++ b ∷ []) bs)
 
 abbrev pub within_limit : Split → Split
 within_limit None = None
@@ -74,7 +79,8 @@ abbrev pub header_by : Split → Result (HeaderRead × List ℕ) ℕ
 header_by None = Err 0
 header_by (Some p) = with_rest p.1 (header_of (lines_of p.0))
 
--- the header and what follows it, or the first refused line, 0 where no line `end` stands within the limit
+-- the header and what follows it, or the first refused line, 0 where no line `end` stands within
+-- the limit
 unfoldable pub header : List ℕ → Result (HeaderRead × List ℕ) ℕ
 header bytes = header_by (text_of bytes)
 

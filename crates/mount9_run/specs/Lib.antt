@@ -2,6 +2,7 @@ pub mod Command
 pub mod CommandViews
 pub mod Header
 pub mod HeaderLines
+pub mod HeaderRecords
 pub mod HeaderViews
 pub mod Numbers
 pub mod Paths
@@ -17,3 +18,4 @@ pub mod Outcome
 pub mod Running
 pub mod Statuses
 pub mod Causes
+pub mod Taken

@@ -1,5 +1,7 @@
 -- Numbers and modes as text.
-use Rattle.std.specs.Prelude.{◌≡◌, ℕ, ◌+◌, ◌-◌, ◌*◌, ◌<◌, ◌^◌, List, length, Option, Some, None, Result, Ok, ◌==◌, ◌&&◌, ◌||◌, not, nat_lt, slice_index, nat_le, if◌then◌else◌, Bool}
+use Rattle.std.specs.Prelude.{◌≡◌, ℕ, ◌+◌, ◌-◌, ◌*◌, ◌<◌, ◌^◌, List, length, Option, Some, None}
+use Rattle.std.specs.Prelude.{Result, Ok, ◌==◌, ◌&&◌, ◌||◌, not, nat_lt, slice_index, nat_le}
+use Rattle.std.specs.Prelude.{if◌then◌else◌, Bool}
 use Rattle.std.specs.List.{list_all}
 use Rattle.std.specs.Char.{is_ascii_digit}
 use Rattle.std.specs.Str.Parse.{digits_value}
@@ -7,7 +9,9 @@ use Rattle.mount9_run.specs.Reading.{◌>>=◌, or_refused, field_at}
 
 -- digits, the first of them 0 only alone
 abbrev pub is_number : List ℕ → Bool
-is_number text = nat_lt 0 (length text) && (list_all is_ascii_digit text && ((length text == 1) || not (slice_index text 0 == 48)))
+is_number text =
+    nat_lt 0 (length text)
+    && (list_all is_ascii_digit text && ((length text == 1) || not (slice_index text 0 == 48)))
 
 -- the number that is written so
 unfoldable pub number_of : List ℕ → Option ℕ
@@ -35,7 +39,8 @@ is_octal b = nat_le 48 b && nat_le b 55
 unfoldable pub mode_of : List ℕ → Option ℕ
 mode_of text =
     if (length text == 4) && list_all is_octal text
-    then Some (512 * (slice_index text 0 - 48) + 64 * (slice_index text 1 - 48) + 8 * (slice_index text 2 - 48) + (slice_index text 3 - 48)) else None
+    then Some (512 * (slice_index text 0 - 48) + 64 * (slice_index text 1 - 48)
+    + 8 * (slice_index text 2 - 48) + (slice_index text 3 - 48)) else None
 
 unfoldable pub mode_field : ℕ → List ℕ → Result (ℕ × List ℕ) ℕ
 mode_field n line = do

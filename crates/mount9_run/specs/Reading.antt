@@ -1,5 +1,6 @@
 -- Reading a header from left to right, where a refusal tells the number of its line.
-use Rattle.std.specs.Prelude.{◌≡◌, ℕ, ◌+◌, List, [], ◌∷◌, Option, Some, None, Result, Ok, Err, ◌==◌, if◌then◌else◌, bytes_eq, Bool, true, false, option_and_then}
+use Rattle.std.specs.Prelude.{◌≡◌, ℕ, ◌+◌, List, [], ◌∷◌, Option, Some, None, Result, Ok, Err}
+use Rattle.std.specs.Prelude.{◌==◌, if◌then◌else◌, bytes_eq, Bool, true, false, option_and_then}
 use Rattle.std.specs.List.{slice_split}
 use Rattle.mount9_run.specs.Texts.{split_once}
 use Rattle.mount9_run.specs.declared.header.error.HeaderError.{HeaderError}
@@ -27,7 +28,8 @@ field_at n line = or_refused n (split_once 32 line)
 
 -- what follows this word, where the line begins with it
 unfoldable pub after_word : List ℕ → List ℕ → Option (List ℕ)
-after_word word line = option_and_then (λ f. if bytes_eq f.0 word then Some f.1 else None) (split_once 32 line)
+after_word word line = option_and_then (λ f. if bytes_eq f.0 word then Some f.1 else None)
+    (split_once 32 line)
 
 -- the same, where no other line may stand here
 unfoldable pub keyword_at : List ℕ → ℕ → List ℕ → Result (List ℕ) ℕ
@@ -53,15 +55,19 @@ abbrev pub line_at : Place → Result (List ℕ × Place) ℕ
 line_at (n, []) = Err n
 line_at (n, l ∷ ls) = Ok (l, (n + 1, ls))
 
-abbrev pub gathered_by : {X : Type 0} → Result (Option X) ℕ → X × Place → (X → Result (X × Place) ℕ) → Result (X × Place) ℕ
+abbrev pub gathered_by : {X : Type 0} → Result (Option X) ℕ → X × Place
+    → (X → Result (X × Place) ℕ) → Result (X × Place) ℕ
 gathered_by (Err n) here more = Err n
 gathered_by (Ok None) here more = Ok here
 gathered_by (Ok (Some x)) here more = more x
 
--- what lines add to x one after another, up to the first that is of another kind, and the place of that one
-unfoldable pub gathered : {X : Type 0} → (ℕ → X → List ℕ → Result (Option X) ℕ) → X → ℕ → List (List ℕ) → Result (X × Place) ℕ
+-- what lines add to x one after another, up to the first that is of another kind, and the place of
+-- that one
+unfoldable pub gathered : {X : Type 0} → (ℕ → X → List ℕ → Result (Option X) ℕ) → X → ℕ
+    → List (List ℕ) → Result (X × Place) ℕ
 gathered with_line x n [] = Err n
-gathered with_line x n (l ∷ ls) = gathered_by (with_line n x l) (x, (n, l ∷ ls)) (λ y. gathered with_line y (n + 1) ls)
+gathered with_line x n (l ∷ ls) =
+    gathered_by (with_line n x l) (x, (n, l ∷ ls)) (λ y. gathered with_line y (n + 1) ls)
 
 -- ---- what code returns
 

@@ -8,7 +8,8 @@ use Rattle.tree_model.specs.Tree.Body.{File, Directory, Link}
 use Rattle.tree_model.specs.Attributes.{attr_of}
 use Rattle.mount9_run.specs.declared.report.verdict.Verdict.{Verdict}
 use Rattle.mount9_run.specs.Verdicts.{nine_frames_of}
-use Rattle.mount9_run.specs.ReportLines.{directory_line, entry_line, file_line, link_line, number_line, hex_lines, verdict_line}
+use Rattle.mount9_run.specs.ReportLines.{directory_line, entry_line, file_line, link_line}
+use Rattle.mount9_run.specs.ReportLines.{number_line, hex_lines, verdict_line}
 
 -- a directory's entries in the order of their cookies
 unfoldable pub entries_text : ℕ → List DirEntry → List ℕ
@@ -16,7 +17,8 @@ entries_text dir entries = flat_map (λ e. entry_line dir e.cookie e.ino e.name)
 
 abbrev pub body_text : Attr → Body → List ℕ
 body_text a (File bytes) = file_line a bytes
-body_text a (Directory entries next above) = directory_line a above next ++ entries_text a.ino entries
+body_text a (Directory entries next above) =
+    directory_line a above next ++ entries_text a.ino entries
 body_text a (Link target) = link_line a target
 
 unfoldable pub record_text : ℕ → Record → List ℕ
@@ -32,11 +34,15 @@ tree_text t = number_line (codes "tree") t.next ++ records_text (map.entries t.r
 
 -- the table of mounts and the number of 9P messages
 unfoldable pub closing : List ℕ → ℕ → List ℕ
-closing table nine = codes "mounts\n" ++ (table ++ (codes "end\n" ++ number_line (codes "nine") nine))
+closing table nine =
+    codes "mounts\n" ++ (table ++ (codes "end\n" ++ number_line (codes "nine") nine))
 
 unfoldable pub replies_text : List ℕ → List ℕ
 replies_text replies = codes "replies\n" ++ hex_lines replies
 
--- the whole text: the replies, how the run ended, the tree, the mounts and the number of 9P messages
+-- the whole text: the replies, how the run ended, the tree, the mounts and the number of 9P
+-- messages
 unfoldable pub report : List ℕ → Verdict → Tree → List ℕ → List ℕ
-report replies verdict t table = replies_text replies ++ (verdict_line verdict ++ (tree_text t ++ closing table (nine_frames_of verdict)))
+report replies verdict t table =
+    replies_text replies
+    ++ (verdict_line verdict ++ (tree_text t ++ closing table (nine_frames_of verdict)))

@@ -1,5 +1,6 @@
 -- The lines of a report, each by its kind.
-use Rattle.std.specs.Prelude.{ℕ, zero, suc, ◌-◌, List, [], ◌∷◌, ◌++◌, length, take, drop, replicate, fold, ◌==◌, if◌then◌else◌, codes}
+use Rattle.std.specs.Prelude.{ℕ, zero, suc, ◌-◌, List, [], ◌∷◌, ◌++◌, length, take, drop}
+use Rattle.std.specs.Prelude.{replicate, fold, ◌==◌, if◌then◌else◌, codes}
 use Rattle.std.specs.Fmt.{decimal}
 use Rattle.std.specs.Int.{div_ceil}
 use Rattle.hex.specs.Hex.{encode_lower}
@@ -23,11 +24,13 @@ line word fields = fold with_field word fields ++ 10 ∷ []
 
 -- four octal digits
 unfoldable pub mode_text : ℕ → List ℕ
-mode_text mode = octal_digit mode 512 ∷ octal_digit mode 64 ∷ octal_digit mode 8 ∷ octal_digit mode 1 ∷ []
+mode_text mode = octal_digit mode 512 ∷ octal_digit mode 64 ∷ octal_digit mode 8
+    ∷ octal_digit mode 1 ∷ []
 
 -- seconds, a dot and nine digits of nanoseconds
 unfoldable pub stamp_text : Stamp → List ℕ
-stamp_text s = decimal s.sec ++ (46 ∷ (replicate (9 - length (decimal s.nsec)) 48 ++ decimal s.nsec))
+stamp_text s =
+    decimal s.sec ++ (46 ∷ (replicate (9 - length (decimal s.nsec)) 48 ++ decimal s.nsec))
 
 -- hex in lower case, or - for nothing
 unfoldable pub hex_or_dash : List ℕ → List ℕ
@@ -36,17 +39,20 @@ hex_or_dash bytes = if length bytes == 0 then codes "-" else encode_lower bytes
 -- INO MODE UID GID LINKS A M C
 abbrev pub attr_fields : Attr → List (List ℕ)
 attr_fields a =
-    decimal a.ino ∷ mode_text a.mode ∷ decimal a.uid ∷ decimal a.gid ∷ decimal a.links ∷ stamp_text a.atime ∷ stamp_text a.mtime ∷ stamp_text a.ctime ∷ []
+    decimal a.ino ∷ mode_text a.mode ∷ decimal a.uid ∷ decimal a.gid ∷ decimal a.links
+    ∷ stamp_text a.atime ∷ stamp_text a.mtime ∷ stamp_text a.ctime ∷ []
 
 -- ---- lines of records
 
 -- `dir INO MODE UID GID LINKS A M C ABOVE NEXTCOOKIE`
 unfoldable pub directory_line : Attr → ℕ → ℕ → List ℕ
-directory_line a above next_cookie = line (codes "dir") (attr_fields a ++ decimal above ∷ decimal next_cookie ∷ [])
+directory_line a above next_cookie =
+    line (codes "dir") (attr_fields a ++ decimal above ∷ decimal next_cookie ∷ [])
 
 -- `in INO COOKIE CHILD NAME`
 unfoldable pub entry_line : ℕ → ℕ → ℕ → List ℕ → List ℕ
-entry_line dir cookie child name = line (codes "in") (decimal dir ∷ decimal cookie ∷ decimal child ∷ escaped name ∷ [])
+entry_line dir cookie child name =
+    line (codes "in") (decimal dir ∷ decimal cookie ∷ decimal child ∷ escaped name ∷ [])
 
 -- `file INO MODE UID GID LINKS A M C HEX`
 unfoldable pub file_line : Attr → List ℕ → List ℕ
@@ -93,5 +99,9 @@ key_number key n = key ++ decimal n
 
 -- `served flags=F handled=H`, or `stopped CAUSE handled=H`
 unfoldable pub verdict_line : Verdict → List ℕ
-verdict_line (Done served) = line (codes "served") (key_number (codes "flags=") served.flags ∷ key_number (codes "handled=") served.handled ∷ [])
-verdict_line (Halted stopped) = line (codes "stopped") (cause_fields stopped.cause ++ key_number (codes "handled=") stopped.handled ∷ [])
+verdict_line (Done served) =
+    line (codes "served") (key_number (codes "flags=") served.flags ∷ key_number (codes "handled=")
+    served.handled ∷ [])
+verdict_line (Halted stopped) =
+    line (codes "stopped")
+    (cause_fields stopped.cause ++ key_number (codes "handled=") stopped.handled ∷ [])

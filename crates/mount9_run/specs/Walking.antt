@@ -15,7 +15,8 @@ entries_in t dir = unwrap_or (entries_at t.records dir) []
 
 -- a directory's line, and those of its entries
 abbrev pub directory_text : Tree → Attr → List ℕ
-directory_text t a = directory_line a (above_of t a.ino) (next_cookie_of t a.ino) ++ entries_text a.ino (entries_in t a.ino)
+directory_text t a = directory_line a (above_of t a.ino) (next_cookie_of t a.ino)
+    ++ entries_text a.ino (entries_in t a.ino)
 
 -- the lines of the record with this number, none where there is none
 abbrev pub stored_text : Tree → ℕ → List ℕ

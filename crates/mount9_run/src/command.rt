@@ -1,11 +1,14 @@
 //! What the words of the command line say.
-ghost use Rattle.std.specs.Prelude.{◌≡◌, drop, bytes_eq, codes, ◌&&◌, option_map, option_and_then, Option};
-ghost use Rattle.mount9_run.specs.Command.{is_top, once, text_in_form, number_in, with_word, with_words, no_words, finished, is_serve, command};
-ghost use Rattle.mount9_run.specs.CommandViews.{slot_view, draft_view, share_view, serve_view, GivesWords};
-ghost use Rattle.mount9_run.specs.Paths.{is_path};
+ghost use Rattle.std.specs.Prelude.{◌≡◌, drop, bytes_eq, codes, ◌&&◌, option_map, option_and_then};
+ghost use Rattle.std.specs.Prelude.{Option};
+ghost use Rattle.mount9_run.specs.Command.{once, text_in_form, number_in, with_word, with_words};
+ghost use Rattle.mount9_run.specs.Command.{no_words, finished, is_serve, command};
+ghost use Rattle.mount9_run.specs.CommandViews.{slot_view, draft_view, share_view, serve_view};
+ghost use Rattle.mount9_run.specs.CommandViews.{GivesWords};
+ghost use Rattle.mount9_run.specs.Paths.{is_path, is_root};
 
 use crate::header::numbers::number_in;
-use crate::path::is_path;
+use crate::path::{is_path, is_root};
 use crate::text::split_once;
 use port_base::words::Words;
 use std::alloc::Global;
@@ -26,7 +29,7 @@ pub const FID_LIMIT: u32 = 1024;
 pub struct ShareWords {
     /// The path to mount on.
     pub target: Vec<u8>,
-    /// The directory that is shared.
+    /// The path of the directory that is shared.
     pub root: Vec<u8>,
     /// The greatest size of a 9P message, in bytes.
     pub msize: u32,
@@ -83,24 +86,35 @@ struct DraftWords {
     ids: Option<u32>,
 }
 
-fn is_top(path: &[u8]) -> bool
-    ensures { result ≡ is_top path.now }
+// A target, if it is in form.
+fn target_in_form(value: &[u8]) -> Option<&[u8]>
+    ensures { option_map (λ text. text.now) result ≡ text_in_form is_path value.now }
 {
-    path == b"/".as_slice()
+    if is_path(value) { Some(value) } else { None }
 }
 
-// Takes the value of a key that comes for the first time, if it is in form.
+// A root, if it is in form.
+fn root_in_form(value: &[u8]) -> Option<&[u8]>
+    ensures { option_map (λ text. text.now) result ≡ text_in_form is_root value.now }
+{
+    if is_root(value) { Some(value) } else { None }
+}
+
+// Takes the value of a key that comes for the first time, if there is one.
 fn take_text(
     alloc: Global,
     slot: &mut Option<Vec<u8>>,
-    in_form: bool,
-    value: &[u8],
+    value: Option<&[u8]>,
 ) -> Result<(), WordsError>
-    ensures { GivesWords (λ _. slot_view slot.new) result (option_map Some (once (slot_view slot.old) (text_in_form (λ _. in_form) value.now))) }
+    ensures { GivesWords (λ _. slot_view slot.new) result (option_map Some
+        (once (slot_view slot.old) (option_map (λ text. text.now) value.entry))) }
 {
-    if slot.is_some() || !in_form {
+    if slot.is_some() {
         return Err(WordsError::Words);
     }
+    let Some(value) = value else {
+        return Err(WordsError::Words);
+    };
     let Ok(value) = Vec::from_slice(alloc, value) else {
         return Err(WordsError::NoMemory);
     };
@@ -110,7 +124,8 @@ fn take_text(
 
 // Takes the number of a key that comes for the first time, if it is from `low` to `high`.
 fn take_number(slot: &mut Option<u32>, low: u32, high: u32, value: &[u8]) -> Result<(), WordsError>
-    ensures { GivesWords (λ _. slot.new) result (option_map Some (once slot.old (number_in low high value.now))) }
+    ensures { GivesWords (λ _. slot.new) result
+        (option_map Some (once slot.old (number_in low high value.now))) }
 {
     if slot.is_some() {
         return Err(WordsError::Words);
@@ -126,15 +141,16 @@ fn take_number(slot: &mut Option<u32>, low: u32, high: u32, value: &[u8]) -> Res
 
 #[tactic(auto, unfolding(crate::specs::Command::with_word))]
 fn take_word(alloc: Global, draft: &mut DraftWords, word: &[u8]) -> Result<(), WordsError>
-    ensures { GivesWords (λ _. draft_view draft.new) result (with_word (draft_view draft.old) word.now) }
+    ensures { GivesWords (λ _. draft_view draft.new) result
+        (with_word (draft_view draft.old) word.now) }
 {
     let Some((key, value)) = split_once(word, b'=') else {
         return Err(WordsError::Words);
     };
     if key == b"target".as_slice() {
-        take_text(alloc, &mut draft.target, is_path(value), value)
+        take_text(alloc, &mut draft.target, target_in_form(value))
     } else if key == b"root".as_slice() {
-        take_text(alloc, &mut draft.root, is_top(value), value)
+        take_text(alloc, &mut draft.root, root_in_form(value))
     } else if key == b"msize".as_slice() {
         take_number(&mut draft.msize, 256, 65560, value)
     } else if key == b"turns".as_slice() {
@@ -200,8 +216,9 @@ fn is_serve(words: &Words) -> bool
     }
 }
 
-/// What the words command: `serve`, and then in any order `target=PATH`, `root=/`, and if wanted `msize=N` (256 to
-/// 65560), `turns=N` (1 to 8192) and `ids=N` (0 to 1000000), each at most once.
+/// What the words command: `serve`, and then in any order `target=PATH`, `root=PATH`, and if
+/// wanted `msize=N` (256 to 65560), `turns=N` (1 to 8192) and `ids=N` (0 to 1000000), each at most
+/// once.
 #[tactic(auto, unfolding(crate::specs::Command::command))]
 pub fn read_words(alloc: Global, words: &Words) -> Result<Command, WordsError>
     ensures { GivesWords serve_view result (command words.now) }
@@ -248,7 +265,14 @@ mod tests {
             ("serve root=/", false),
             ("serve target=/mnt root=/ root=/", false),
             ("serve target=/mnt target=/mnt root=/", false),
-            ("serve target=/mnt root=/a", false),
+            ("serve target=/mnt root=/a", true),
+            ("serve target=/mnt root=/a/b", true),
+            ("serve target=/mnt root=a", false),
+            ("serve target=/mnt root=//", false),
+            ("serve target=/mnt root=/a/", false),
+            ("serve target=/mnt root=/a//b", false),
+            ("serve target=/mnt root=/a/..", false),
+            ("serve target=/mnt root=", false),
             ("serve target=mnt root=/", false),
             ("serve target=/mnt/ root=/", false),
             ("serve target=//mnt root=/", false),

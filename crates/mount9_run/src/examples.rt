@@ -1,10 +1,13 @@
-//! The definitions of this crate at examples. Each function makes no call: its contract is the example.
+//! The definitions of this crate at examples. Each function makes no call: its contract is the
+//! example.
 ghost use Rattle.std.specs.Prelude.{◌≡◌, ℕ, List, [], ◌∷◌, codes, Some, None, Ok, Err};
 ghost use Rattle.tree_model.specs.declared.attributes.Kind.{Kind};
 ghost use Rattle.tree_model.specs.declared.attributes.Stamp.{Stamp};
 ghost use Rattle.mount9_run.specs.Command.{command};
 ghost use Rattle.mount9_run.specs.Header.{header};
-ghost use Rattle.mount9_run.specs.HeaderLines.{present_at, file_at};
+ghost use Rattle.mount9_run.specs.HeaderLines.{present_at};
+ghost use Rattle.mount9_run.specs.HeaderRecords.{file_at};
+ghost use Rattle.mount9_run.specs.HeaderRecords.Item.{file};
 ghost use Rattle.mount9_run.specs.Outcome.{outcome};
 ghost use Rattle.mount9_run.specs.declared.run.Status.TheVariants as status;
 ghost use Rattle.mount9_run.specs.ReportLines.{entry_line, directory_line, stamp_text};
@@ -12,9 +15,28 @@ ghost use Rattle.mount9_run.specs.ReportLines.{entry_line, directory_line, stamp
 /// A share of the whole tree at `/mnt`, with and without numbers; a message size of 255 is refused.
 #[tactic(auto, using(crate::proofs::ByComputing::command_example, crate::proofs::ByComputing::numbers_example, crate::proofs::ByComputing::msize_refused))]
 pub fn a_share_at_mnt()
-    ensures plain { command (codes "serve" ∷ codes "target=/mnt" ∷ codes "root=/" ∷ []) ≡ Some (record { target = codes "/mnt"; root = codes "/"; msize = 65560; turns = 4096; ids = 1024 }) }
-    ensures numbers { command (codes "serve" ∷ codes "ids=0" ∷ codes "root=/" ∷ codes "msize=4352" ∷ codes "target=/" ∷ []) ≡ Some (record { target = codes "/"; root = codes "/"; msize = 4352; turns = 4096; ids = 0 }) }
-    ensures short { command (codes "serve" ∷ codes "target=/" ∷ codes "root=/" ∷ codes "msize=255" ∷ []) ≡ None }
+    ensures plain { command (codes "serve" ∷ codes "target=/mnt" ∷ codes "root=/" ∷ [])
+        ≡ Some
+        (record {
+          target = codes "/mnt";
+          root = codes "/";
+          msize = 65560;
+          turns = 4096;
+          ids =
+              1024;
+        }) }
+    ensures numbers { command (codes "serve" ∷ codes "ids=0" ∷ codes "root=/" ∷ codes "msize=4352"
+        ∷ codes "target=/" ∷ [])
+        ≡ Some (record {
+          target = codes "/";
+          root = codes "/";
+          msize = 4352;
+          turns = 4096;
+          ids =
+              0;
+        }) }
+    ensures short { command (codes "serve" ∷ codes "target=/" ∷ codes "root=/" ∷ codes "msize=255"
+        ∷ []) ≡ None }
 {}
 
 /// A header whose second line tells no nanoseconds is refused at that line.
@@ -50,13 +72,16 @@ pub fn a_path_with_an_escaped_letter()
 /// A file with a blank in its name.
 #[tactic(auto, using(crate::proofs::HeaderExamples::file_example))]
 pub fn a_file_with_an_escaped_blank()
-    ensures { file_at 7 (codes "file 0644 0 0 - /a\\040b") ≡ Ok (record { name = codes "a b"; file = record { mode = 420; uid = 0; gid = 0; bytes = [] } }) }
+    ensures { file_at 7 (codes "0644 0 0 - /a\\040b") ≡ Ok (record {
+      item = file (record { mode = 420; uid = 0; gid = 0; bytes = [] });
+      path = codes "/a b";
+    }) }
 {}
 
 /// A blank in a file's path has to be escaped.
 #[tactic(auto, using(crate::proofs::HeaderExamples::raw_blank_example))]
 pub fn a_file_with_a_raw_blank()
-    ensures { file_at 7 (codes "file 0644 0 0 - /a b") ≡ Err 7 }
+    ensures { file_at 7 (codes "0644 0 0 - /a b") ≡ Err 7 }
 {}
 
 /// The line of a directory's entry, with the blank in its name escaped.
@@ -68,7 +93,23 @@ pub fn an_entry_with_a_blank()
 /// The line of a directory.
 #[tactic(auto, using(crate::proofs::ByComputing::directory_example))]
 pub fn a_directory_of_one_entry()
-    ensures { (kind : Kind) (born : Stamp) → stamp_text born ≡ codes "1600000000.000000005" → directory_line (record { ino = 1; kind = kind; mode = 493; uid = 0; gid = 0; links = 2; size = 0; atime = born; mtime = born; ctime = born }) 1 2 ≡ codes "dir 1 0755 0 0 2 1600000000.000000005 1600000000.000000005 1600000000.000000005 1 2\n" }
+    ensures { (kind : Kind) (born : Stamp) → stamp_text born ≡ codes "1600000000.000000005"
+        → directory_line
+        (record {
+          ino = 1;
+          kind = kind;
+          mode = 493;
+          uid = 0;
+          gid = 0;
+          links = 2;
+          size = 0;
+          atime =
+              born;
+          mtime = born;
+          ctime = born;
+        }) 1 2
+        ≡ codes
+        "dir 1 0755 0 0 2 1600000000.000000005 1600000000.000000005 1600000000.000000005 1 2\n" }
 {}
 
 /// Nanoseconds have nine digits.
@@ -80,11 +121,13 @@ pub fn a_moment_of_five_nanoseconds()
 /// Words without a root are refused, whatever the input.
 #[tactic(auto, using(crate::proofs::ByComputing::words_outcome))]
 pub fn words_without_a_root()
-    ensures { (bytes : List ℕ) → outcome (codes "serve" ∷ codes "target=/mnt" ∷ []) bytes ≡ (status.Words, codes "words\n") }
+    ensures { (bytes : List ℕ) → outcome (codes "serve" ∷ codes "target=/mnt" ∷ []) bytes
+        ≡ (status.Words, codes "words\n") }
 {}
 
 /// A run on a header that is refused tells the line.
 #[tactic(auto, using(crate::proofs::ByComputing::header_outcome))]
 pub fn a_run_on_a_refused_header()
-    ensures { outcome (codes "serve" ∷ codes "target=/mnt" ∷ codes "root=/" ∷ []) (codes "mount9 1\nmoment 1700000000\nend\n") ≡ (status.Header, codes "header 2\n") }
+    ensures { outcome (codes "serve" ∷ codes "target=/mnt" ∷ codes "root=/" ∷ [])
+        (codes "mount9 1\nmoment 1700000000\nend\n") ≡ (status.Header, codes "header 2\n") }
 {}

@@ -7,16 +7,16 @@ ghost use Rattle.mount9_run.specs.Header.{first_tree, header_of, header_alone};
 ghost use Rattle.mount9_run.specs.HeaderViews.{header_view, IsFresh};
 
 pub mod error;
-mod files;
 mod lines;
 pub(crate) mod numbers;
 mod path;
 mod present;
+mod records;
 mod start;
 pub mod text;
+mod tree;
 
 use error::HeaderError;
-use files::file_lines;
 use lines::{Place, next_line};
 use port_base::memory::SliceSource;
 use port_base::words::Words;
@@ -24,10 +24,11 @@ use present::present_lines;
 use start::{Start, Top, start_lines, top_line};
 use std::alloc::Global;
 use text::{TextError, take_text};
+use tree::add_lines;
 use tree_host::TreeHost;
 
-/// What a header says: the tree that is shared, whether mounting is permitted, and the directories that
-/// mounts may stand on.
+/// What a header says: the tree that is shared, whether mounting is permitted, and the directories
+/// that mounts may stand on.
 #[derive(Drop)]
 pub struct Header {
     pub host: TreeHost,
@@ -71,7 +72,7 @@ pub fn read_text(alloc: Global, text: &[u8]) -> Result<Header, HeaderError>
     let (line, after) = next_line(at)?;
     let top = top_line(at.number, line)?;
     let mut host = new_host(alloc, &start, &top)?;
-    let _ = file_lines(alloc, &mut host, after)?;
+    let _ = add_lines(alloc, &mut host, after)?;
     Ok(Header {
         host,
         permitted: start.permitted,
@@ -178,7 +179,33 @@ mod tests {
                 "top 0755 0 0\nfile 0644 0 0 - /a\nfile 0644 0 0 - /a\nend\n",
                 Some(8),
             ),
-            ("top 0755 0 0\ndir 0755 0 0 /a\nend\n", Some(7)),
+            ("top 0755 0 0\nnode 0755 0 0 /a\nend\n", Some(7)),
+            (
+                "top 0755 0 0\ndir 0755 0 0 /a\nfile 0644 0 0 - /a/f\nend\n",
+                None,
+            ),
+            ("top 0755 0 0\ndir 0755 0 0 /a/\nend\n", Some(7)),
+            ("top 0755 0 0\ndir 0755 0 0 //a\nend\n", Some(7)),
+            (
+                "top 0755 0 0\nfile 0644 0 0 - /a\nfile 0644 0 0 - /a/f\nend\n",
+                Some(8),
+            ),
+            ("top 0755 0 0\nlink 0 0 a\\040b /l\nend\n", None),
+            ("top 0755 0 0\nlink 0 0  /l\nend\n", Some(7)),
+            (
+                "top 0755 0 0\nlink 0 0 /a /l\ndir 0755 0 0 /l/d\nend\n",
+                Some(8),
+            ),
+            ("top 0755 0 0\nfile 0644 0 0 - /a\nhard /a /b\nend\n", None),
+            (
+                "top 0755 0 0\nfile 0644 0 0 - /a\nhard /a /a\nend\n",
+                Some(8),
+            ),
+            (
+                "top 0755 0 0\nfile 0644 0 0 - /a\nhard /b /c\nend\n",
+                Some(8),
+            ),
+            ("top 0755 0 0\ndir 0755 0 0 /a\nhard /a /b\nend\n", Some(8)),
         ];
         for (lines, want) in cases {
             let text = format!(in rt.alloc(); "{START}{lines}")?;

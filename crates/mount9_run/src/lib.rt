@@ -5,6 +5,7 @@ pub mod command;
 mod examples;
 pub mod header;
 pub mod laws;
+mod mount;
 pub mod path;
 pub mod report;
 pub mod run;

@@ -1,7 +1,9 @@
 //! Paths of directories.
 ghost use Rattle.std.specs.Prelude.{◌≡◌, ◌==◌, ◌<◌, length};
 ghost use Rattle.std.specs.List.{list_any, list_all, slice_split};
-ghost use Rattle.mount9_run.specs.Paths.{is_part, is_rooted, is_path};
+ghost use Rattle.mount9_run.specs.Paths.{is_part, is_rooted, is_path, is_root};
+
+use port_base::paths::is_rooted_path;
 
 /// The greatest length of a path, in bytes.
 pub const PATH_LIMIT: usize = 4095;
@@ -30,7 +32,16 @@ fn is_rooted(path: &[u8]) -> bool
     !path.is_empty() && path[0] == b'/' && (path.len() == 1 || are_parts(&path[1..]))
 }
 
-/// Whether this is `/`, or `/` and parts joined by `/`: no part empty, `.` or `..`, no zero byte, at most 4095 bytes.
+/// Whether this is `/`, or `/` and names joined by single slashes, each without fault: at most
+/// 4095 bytes.
+pub fn is_root(path: &[u8]) -> bool
+    ensures { result ≡ is_root path.now }
+{
+    path.len() <= PATH_LIMIT && is_rooted_path(path)
+}
+
+/// Whether this is `/`, or `/` and parts joined by `/`: no part empty, `.` or `..`, no zero byte,
+/// at most 4095 bytes.
 #[tactic(auto, unfolding(crate::specs::Paths::is_path))]
 pub fn is_path(path: &[u8]) -> bool
     ensures { result ≡ is_path path.now }

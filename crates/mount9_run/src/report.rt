@@ -21,8 +21,9 @@ use verdict::Verdict;
 use walk::write_tree;
 use writing::{write_closing, write_verdict};
 
-/// Writes all lines of a report after the replies: how the run ended, the linked records of the host's tree, the
-/// table of mounts as it is printed, and the number of 9P messages. After an `Err` the sink was sent a front of it.
+/// Writes all lines of a report after the replies: how the run ended, the linked records of the
+/// host's tree, the table of mounts as it is printed, and the number of 9P messages. After an
+/// `Err` the sink was sent a front of it.
 pub fn write_report<K: Sink>(
     alloc: Global,
     host: &TreeHost,
@@ -33,7 +34,9 @@ pub fn write_report<K: Sink>(
     requires { IsReported verdict.now }
     ensures { Wrote (at_sink (K.sent sink.old) (K.faults sink.old) (K.kept sink.old))
         (at_sink (K.sent sink.new) (K.faults sink.new) (K.kept sink.new))
-        (verdict_line verdict.now ++ (tree_text (linked (tree host.now)) ++ closing mounts.now (nine_frames_of verdict.now))) result }
+        (verdict_line verdict.now
+        ++ (tree_text (linked (tree host.now)) ++ closing mounts.now (nine_frames_of verdict.now)))
+        result }
 {
     write_verdict(alloc, sink, verdict)?;
     write_tree(alloc, sink, host)?;

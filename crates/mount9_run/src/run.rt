@@ -1,6 +1,8 @@
 //! The top call: words and a stream in, a report out.
-ghost use Rattle.std.specs.Prelude.{◌≡◌, ◌⊎◌, ◌<◌, ◌≤◌, ◌^◌, ℕ, List, IfOk, IfSome, IsOk, IsTrue, None, Ok, [], codes};
+ghost use Rattle.std.specs.Prelude.{◌≡◌, ◌⊎◌, ◌<◌, ◌≤◌, ◌^◌, ℕ, List, IfOk, IfSome, IsOk, IsTrue};
+ghost use Rattle.std.specs.Prelude.{true, None, Ok, [], codes};
 ghost use Rattle.std.specs.Io.KnownBytes.{IsAtEnd};
+ghost use Rattle.port_base.specs.Paths.{is_rooted_path};
 ghost use Rattle.port_base.specs.Faults.{Faulted};
 ghost use Rattle.std.specs.FinMap as map;
 ghost use Rattle.tree_model.specs.Tree.{linked};
@@ -12,8 +14,10 @@ ghost use Rattle.mount9_run.specs.HeaderViews.{IsFresh, header_view};
 ghost use Rattle.mount9_run.specs.Wrote.{Wrote, at_sink};
 ghost use Rattle.mount9_run.specs.ReportLines.{number_line};
 ghost use Rattle.mount9_run.specs.Report.{report};
-ghost use Rattle.mount9_run.specs.Outcome.{share_settings, mount_table, is_present, mount_refused, refusal, served, run_of, refused_words, outcome};
-ghost use Rattle.mount9_run.specs.Running.{Ran, Tells, after_text};
+ghost use Rattle.mount9_run.specs.Outcome.{share_settings, mount_table, refusal, root_given};
+ghost use Rattle.mount9_run.specs.Outcome.{served, run_of, refused_words, outcome};
+ghost use Rattle.mount9_run.specs.Running.{IsTold, Ran, Tells, after_text};
+ghost use Rattle.mount9_run.specs.Taken.{Took, mounted_taken, served_taken, taken};
 ghost use Rattle.mount9_run.specs.Verdicts.{is_reported, nine_frames_of, IsReported};
 ghost use Rattle.mount9_run.specs.Serving.{Shares, reported, stopped_by, ending_of};
 ghost use Rattle.mount9_run.specs.Statuses.{Exits, IsWholeTree, SendsPlayReport};
@@ -26,6 +30,7 @@ use crate::command::{ShareWords, WordsError, read_words};
 use crate::header::error::HeaderError;
 use crate::header::text::{TextError, take_text};
 use crate::header::{Header, read_text};
+use crate::mount::mount_refused;
 use crate::report::blocks::write_in_blocks;
 use crate::report::verdict::{Served, Verdict};
 use crate::report::writing::{write_number_line, write_text};
@@ -33,9 +38,7 @@ use frame_pump::outcome::{BridgeError, Pumped, Stopped};
 use fuse_gate::gate::LEAST_MSIZE;
 use fuse_gate::pump::pump;
 use p9_server::{Config, Server};
-use port_base::errno::{ENOENT, EPERM};
 use port_base::memory::MemSink;
-use port_base::paths::same_path;
 use port_base::sink::{NoMemory, Sink, SinkFault};
 use port_base::source::Source;
 use port_base::words::Words;
@@ -50,7 +53,8 @@ pub const MOUNT_FLAGS: u64 = 6;
 pub enum Status {
     /// The input was read to its end, and every frame handled.
     Served,
-    /// Messages are too short, the mount or the attach was refused, or the input didn't end at a frame's end.
+    /// Messages are too short, the mount or the attach was refused, or the input didn't end at a
+    /// frame's end.
     Stopped,
     /// The words are refused.
     Words,
@@ -140,46 +144,18 @@ fn tell_report<K: Sink>(
     after_text(ending.status, written)
 }
 
-// Whether mounts may stand on a path: the top, or a path that the header names.
-fn is_present(target: &[u8], present: &Words) -> bool
-    ensures { result ≡ is_present target.now present.now }
-{
-    if same_path(target, b"/") {
-        return true;
-    }
-    'paths: for i in 0..present.len() {
-        let Some(path) = present.get(i) else {
-            unreachable!()
-        };
-        if same_path(target, path) {
-            return true;
-        }
-    }
-    false
-}
-
-// Why the target is not mounted on.
-fn mount_refused(target: &[u8], header: &Header) -> Option<u32>
-    ensures { result ≡ mount_refused target.now (header_view header.now) }
-{
-    if !is_present(target, &header.present) {
-        return Some(ENOENT);
-    }
-    if !header.permitted {
-        return Some(EPERM);
-    }
-    None
-}
-
 // How a share is set up.
 fn share_config(alloc: Global, share: &ShareWords) -> Result<Config, NoMemory>
-    requires { LEAST_MSIZE ≤ share.now.msize }
+    requires long { LEAST_MSIZE ≤ share.now.msize }
+    requires rooted { is_rooted_path share.now.root.items ≡ true }
     ensures settings { IfOk result (λ c. settings_of c ≡ share_settings (share_view share.now)) }
     ensures msize { IfOk result (λ c. c.msize ≡ share.now.msize) }
     ensures allowed { IfOk result (λ c. config_refused c.msize c.root.items ≡ None) }
 {
     let config = Config::standard(alloc)?;
+    let root = Vec::from_slice(alloc, &share.root).map_err(|_| NoMemory)?;
     Ok(Config {
+        root,
         msize: share.msize,
         fid_limit: share.ids,
         ..config
@@ -210,7 +186,12 @@ fn share<S: Source>(
     ensures ended { IsOk result.told → IsAtEnd (S.left input.new) }
     ensures input { S.kept input.new ≡ S.kept input.old }
     ensures lender { S.lender input.new ≡ S.lender input.old }
-    ensures shares { Shares (share_view words.now) (tree host) (S.left input.old) (S.faults input.old) (S.faults input.new) result.replies.bytes.items (tree result.host) result.told }
+    ensures shares { Shares (share_view words.now) (tree host) (S.left input.old)
+        (S.faults input.old) (S.faults input.new) result.replies.bytes.items (tree result.host)
+        result.told }
+    ensures takes { IsOk (ending_of result.told) → IfSome (S.left input.old) (λ bytes.
+        Took (served_taken (share_view words.now) (root_given (share_view words.now) (linked (tree host))) bytes)
+        (S.left input.old) (S.left input.new)) }
 {
     let Ok(mut server) = Server::with_config(alloc, host, config) else {
         unreachable!()
@@ -282,11 +263,18 @@ fn serve<S: Source, K: Sink>(
 ) -> Status
     requires fresh { IsFresh host }
     requires long { LEAST_MSIZE ≤ words.now.msize }
+    requires rooted { is_rooted_path words.now.root.items ≡ true }
     ensures ended { result ≡ status.Served → IsAtEnd (S.left input.new) }
     ensures input { S.kept input.new ≡ S.kept input.old }
     ensures lender { S.lender input.new ≡ S.lender input.old }
     ensures output { K.kept out.new ≡ K.kept out.old }
-    ensures ran { Ran (λ bytes. served (share_view words.now) (linked (tree host)) (cut words.now.turns bytes)) (S.left input.old) (K.sent out.old) (K.sent out.new) (S.faults input.old) (S.faults input.new) (K.faults out.old) (K.faults out.new) result }
+    ensures takes { IsTold result → IfSome (S.left input.old) (λ bytes.
+        Took (served_taken (share_view words.now) (root_given (share_view words.now) (linked (tree host))) bytes)
+        (S.left input.old) (S.left input.new)) }
+    ensures ran { Ran
+        (λ bytes. served (share_view words.now) (linked (tree host)) (cut words.now.turns bytes))
+        (S.left input.old) (K.sent out.old) (K.sent out.new) (S.faults input.old)
+        (S.faults input.new) (K.faults out.old) (K.faults out.new) result }
 {
     let Ok(config) = share_config(alloc, words) else {
         return Status::Memory;
@@ -324,12 +312,19 @@ fn mount<S: Source, K: Sink>(
     input: &mut S,
     out: &mut K,
 ) -> Status
-    requires { IsFresh header.host }
+    requires fresh { IsFresh header.host }
+    requires rooted { is_rooted_path words.now.root.items ≡ true }
     ensures ended { result ≡ status.Served → IsAtEnd (S.left input.new) }
     ensures input { S.kept input.new ≡ S.kept input.old }
     ensures lender { S.lender input.new ≡ S.lender input.old }
     ensures output { K.kept out.new ≡ K.kept out.old }
-    ensures ran { Ran (run_of (share_view words.now) (header_view header)) (S.left input.old) (K.sent out.old) (K.sent out.new) (S.faults input.old) (S.faults input.new) (K.faults out.old) (K.faults out.new) result }
+    ensures takes { IsTold result → IfSome (S.left input.old) (λ bytes.
+        Took (mounted_taken (share_view words.now) (tree header.host) bytes
+        (refusal (share_view words.now) (header_view header)))
+        (S.left input.old) (S.left input.new)) }
+    ensures ran { Ran (run_of (share_view words.now) (header_view header)) (S.left input.old)
+        (K.sent out.old) (K.sent out.new) (S.faults input.old) (S.faults input.new)
+        (K.faults out.old) (K.faults out.new) result }
 {
     if let Some(cause) = refusal(words, &header) {
         let ending = halted(Stopped {
@@ -344,12 +339,18 @@ fn mount<S: Source, K: Sink>(
 
 // Runs the program, and tells how by a word.
 fn answer<S: Source, K: Sink>(alloc: Global, words: &Words, input: &mut S, out: &mut K) -> Status
-    ensures ran { Ran (outcome words.now) (S.left input.old) (K.sent out.old) (K.sent out.new) (S.faults input.old) (S.faults input.new) (K.faults out.old) (K.faults out.new) result }
+    ensures ran { Ran (outcome words.now) (S.left input.old) (K.sent out.old) (K.sent out.new)
+        (S.faults input.old) (S.faults input.new) (K.faults out.old) (K.faults out.new) result }
     ensures unread { command words.now ≡ None → input.new ≡ input.old }
-    ensures refused { command words.now ≡ None → Ran refused_words (Some []) (K.sent out.old) (K.sent out.new) (S.faults input.old) (S.faults input.new) (K.faults out.old) (K.faults out.new) result }
-    ensures headed { result ≡ status.Served → IfSome (S.left input.old) (λ bytes. (h : HeaderRead) (rest : List ℕ) →
+    ensures refused { command words.now ≡ None → Ran refused_words (Some []) (K.sent out.old)
+        (K.sent out.new) (S.faults input.old) (S.faults input.new) (K.faults out.old)
+        (K.faults out.new) result }
+    ensures headed { result ≡ status.Served → IfSome (S.left input.old)
+        (λ bytes. (h : HeaderRead) (rest : List ℕ) →
         header bytes ≡ Ok (h, rest) → IsWholeTree h.tree) }
     ensures ended { result ≡ status.Served → IsAtEnd (S.left input.new) }
+    ensures takes { IsTold result → IfSome (S.left input.old) (λ bytes.
+        Took (taken words.now bytes) (S.left input.old) (S.left input.new)) }
     ensures input { S.kept input.new ≡ S.kept input.old }
     ensures lender { S.lender input.new ≡ S.lender input.old }
     ensures output { K.kept out.new ≡ K.kept out.old }
@@ -373,13 +374,14 @@ fn answer<S: Source, K: Sink>(alloc: Global, words: &Words, input: &mut S, out: 
     }
 }
 
-/// Runs the program: `words` is the command line, `input` a header and the request frames behind it. The
-/// answer is the exit status. What is written is the report, or `words` or `header N` where
-/// these are refused; out of memory or after a failed stream a front of it.
+/// Runs the program: `words` is the command line, `input` a header and the request frames behind
+/// it. The answer is the exit status. What is written is the report, or `words` or `header N`
+/// where these are refused; out of memory or after a failed stream a front of it.
 ///
-/// 0: the input was read to its end, and every frame was handled. 1: messages are too short, the mount or the
-/// attach was refused, or the input didn't end at a frame's end. 2: the words are refused, and nothing was
-/// read. 3: the header is refused. 4: out of memory. 5: the input failed. 6: the output failed.
+/// 0: the input was read to its end, and every frame was handled. 1: messages are too short, the
+/// mount or the attach was refused, or the input didn't end at a frame's end. 2: the words are
+/// refused, and nothing was read. 3: the header is refused. 4: out of memory. 5: the input failed.
+/// 6: the output failed.
 pub fn run<S: Source, K: Sink>(alloc: Global, words: &Words, input: &mut S, out: &mut K) -> u8
     ensures exits { Exits (outcome words.now) (S.left input.old) (K.sent out.old) (K.sent out.new)
         (S.faults input.old) (S.faults input.new) (K.faults out.old) (K.faults out.new) result }
@@ -389,9 +391,12 @@ pub fn run<S: Source, K: Sink>(alloc: Global, words: &Words, input: &mut S, out:
         (Faulted (S.faults input.old) (S.faults input.new) → ⊥) →
         (Faulted (K.faults out.old) (K.faults out.new) → ⊥) → (result ≡ 0) ⊎ (result ≡ 4)) }
     ensures unread { command words.now ≡ None → input.new ≡ input.old }
-    ensures refused { command words.now ≡ None → Exits refused_words (Some []) (K.sent out.old) (K.sent out.new)
+    ensures refused { command words.now ≡ None → Exits refused_words (Some []) (K.sent out.old)
+        (K.sent out.new)
         (S.faults input.old) (S.faults input.new) (K.faults out.old) (K.faults out.new) result }
     ensures ended { result ≡ 0 → IsAtEnd (S.left input.new) }
+    ensures takes { result ≤ 3 → IfSome (S.left input.old) (λ bytes.
+        Took (taken words.now bytes) (S.left input.old) (S.left input.new)) }
     ensures input { S.kept input.new ≡ S.kept input.old }
     ensures lender { S.lender input.new ≡ S.lender input.old }
     ensures output { K.kept out.new ≡ K.kept out.old }

@@ -108,7 +108,8 @@ fn a_file_is_opened_read_and_forgotten(rt: HostRuntime) -> Result<(), Fail> {
 #[test]
 fn runs_that_stop(rt: HostRuntime) -> Result<(), Fail> {
     let alloc = rt.alloc();
-    // The words, the bytes behind the header in hex, the replies and the ending, and the number of messages.
+    // The words, the bytes behind the header in hex, the replies and the ending, and the number of
+    // messages.
     let cases: [(&str, &[u8], &str, u32); 7] = [
         (
             "serve target=/mnt root=/ msize=4351",

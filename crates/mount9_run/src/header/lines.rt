@@ -1,7 +1,8 @@
 //! Lines and fields of a header.
 ghost use Rattle.std.specs.Prelude.{◌≡◌, ◌<◌, ◌+◌, ◌^◌, length, IfOk};
 ghost use Rattle.std.specs.Option.{option_map};
-ghost use Rattle.mount9_run.specs.Reading.{Gives, field_at, after_word, keyword_at, lines_of, line_at};
+ghost use Rattle.mount9_run.specs.Reading.{Gives, field_at, after_word, keyword_at, lines_of};
+ghost use Rattle.mount9_run.specs.Reading.{line_at};
 
 use crate::header::error::HeaderError;
 use crate::text::split_once;
@@ -16,7 +17,8 @@ pub struct Place<'a> {
 
 /// The next line, and the place after it.
 pub fn next_line<'a>(at: Place<'a>) -> Result<(&'a [u8], Place<'a>), HeaderError>
-    ensures value { Gives (λ x. (x.0.now, (x.1.number, lines_of x.1.rest.now))) result (line_at (at.entry.number, lines_of at.entry.rest.now)) }
+    ensures value { Gives (λ x. (x.0.now, (x.1.number, lines_of x.1.rest.now))) result
+        (line_at (at.entry.number, lines_of at.entry.rest.now)) }
     ensures shorter { IfOk result (λ x. length x.1.rest.now < length at.entry.rest.now) }
 {
     match split_once(at.rest, b'\n') {

@@ -1,9 +1,11 @@
 //! Numbers and modes of a header.
-ghost use Rattle.std.specs.Prelude.{◌≡◌, ◌<◌, ◌≤◌, ◌-◌, ◌^◌, length, IfOk, IfSome, IsTrue, EachIndex, slice_index};
+ghost use Rattle.std.specs.Prelude.{◌≡◌, ◌<◌, ◌≤◌, ◌-◌, ◌^◌, length, IfOk, IfSome, IsTrue};
+ghost use Rattle.std.specs.Prelude.{EachIndex, slice_index};
 ghost use Rattle.std.specs.List.{list_all};
 ghost use Rattle.std.specs.Char.{is_ascii_digit};
 ghost use Rattle.mount9_run.specs.Reading.{Gives};
-ghost use Rattle.mount9_run.specs.Numbers.{is_number, number_of, in_range, number_at, number_field, is_octal, mode_of, mode_field, CountsTo};
+ghost use Rattle.mount9_run.specs.Numbers.{is_number, number_of, in_range, number_at};
+ghost use Rattle.mount9_run.specs.Numbers.{number_field, is_octal, mode_of, mode_field, CountsTo};
 
 use crate::header::error::HeaderError;
 use crate::header::lines::field;
@@ -90,7 +92,8 @@ pub fn owner_field(at: u64, line: &[u8]) -> Result<(u32, &[u8]), HeaderError>
 
 fn are_octal(text: &[u8]) -> bool
     ensures value { result ≡ list_all is_octal text.now }
-    ensures each { IsTrue result → EachIndex text.now (λ k. (48 ≤ slice_index text.now k) × (slice_index text.now k ≤ 55)) }
+    ensures each { IsTrue result
+        → EachIndex text.now (λ k. (48 ≤ slice_index text.now k) × (slice_index text.now k ≤ 55)) }
 {
     text.iter().all(|b| *b >= b'0' && *b <= b'7')
 }

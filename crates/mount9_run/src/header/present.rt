@@ -35,7 +35,8 @@ fn take_present(
 
 /// The paths of these lines, and the place after them.
 pub fn present_lines<'a>(alloc: Global, start: Place<'a>) -> Result<(Words, Place<'a>), HeaderError>
-    ensures { Gives (λ x. (x.0, (x.1.number, lines_of x.1.rest.now))) result (gathered present_at [] start.entry.number (lines_of start.entry.rest.now)) }
+    ensures { Gives (λ x. (x.0, (x.1.number, lines_of x.1.rest.now))) result
+        (gathered present_at [] start.entry.number (lines_of start.entry.rest.now)) }
 {
     let mut present = Words::new(alloc);
     let mut at = start;

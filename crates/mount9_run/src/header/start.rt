@@ -10,8 +10,8 @@ use crate::header::lines::{Place, keyword, next_line};
 use crate::header::numbers::{mode_field, number, number_field, owner_field, small_number};
 use tree_model::{Limits, Stamp};
 
-/// The first lines: the moment of every change, the times of the header's records, what the tree may hold, and
-/// whether mounting is permitted.
+/// The first lines: the moment of every change, the times of the header's records, what the tree
+/// may hold, and whether mounting is permitted.
 #[derive(Clone, Copy, Debug)]
 pub struct Start {
     pub moment: Stamp,
@@ -88,8 +88,10 @@ pub fn top_line(at: u64, line: &[u8]) -> Result<Top, HeaderError>
 /// The first five lines, and the place after them.
 #[tactic(auto, unfolding(crate::specs::Header::start_at))]
 pub fn start_lines(at: Place<'_>) -> Result<(Start, Place<'_>), HeaderError>
-    ensures value { Gives (λ x. (x.0, (x.1.number, lines_of x.1.rest.now))) result (start_at (at.entry.number, lines_of at.entry.rest.now)) }
-    ensures good { IfOk result (λ x. IsGoodStamp x.0.moment × IsGoodStamp x.0.born × IsGoodLimits x.0.limits) }
+    ensures value { Gives (λ x. (x.0, (x.1.number, lines_of x.1.rest.now))) result
+        (start_at (at.entry.number, lines_of at.entry.rest.now)) }
+    ensures good { IfOk result (λ x. IsGoodStamp x.0.moment × IsGoodStamp x.0.born
+        × IsGoodLimits x.0.limits) }
 {
     let (l1, at2) = next_line(at)?;
     if l1 != b"mount9 1".as_slice() {

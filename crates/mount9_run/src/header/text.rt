@@ -44,7 +44,8 @@ fn scan(text: &mut Vec<u8>, start: usize, byte: u8) -> Result<Option<usize>, Tex
 
 /// Takes the bytes up to the first line `end`, and no byte after it.
 pub fn take_text<S: Source>(source: &mut S, text: &mut Vec<u8>) -> Result<(), TextError>
-    ensures takes { TakesText (S.left source.old) (S.left source.new) (S.faults source.old) (S.faults source.new) text.new.items result }
+    ensures takes { TakesText (S.left source.old) (S.left source.new) (S.faults source.old)
+        (S.faults source.new) text.new.items result }
     ensures kept { S.kept source.new ≡ S.kept source.old }
     ensures lender { S.lender source.new ≡ S.lender source.old }
 {

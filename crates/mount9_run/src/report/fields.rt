@@ -1,9 +1,10 @@
-//! Fields of a line of a report, in memory. Each call but the first of a line adds a space before its field. After
-//! an `Err` the line is of no use.
+//! Fields of a line of a report, in memory. Each call but the first of a line adds a space before
+//! its field. After an `Err` the line is of no use.
 ghost use Rattle.std.specs.Prelude.{◌≡◌, ◌++◌, ◌∷◌, [], OnOk, fold, replicate, ◌≤◌};
 ghost use Rattle.std.specs.Fmt.{decimal};
 ghost use Rattle.port_base.specs.Escapes.{octal_digit, escaped};
-ghost use Rattle.mount9_run.specs.ReportLines.{with_field, mode_text, stamp_text, attr_fields, key_number};
+ghost use Rattle.mount9_run.specs.ReportLines.{with_field, mode_text, stamp_text, attr_fields};
+ghost use Rattle.mount9_run.specs.ReportLines.{key_number};
 
 use port_base::buffer::push;
 use port_base::escapes::push_escaped;

@@ -2,7 +2,9 @@
 ghost use Rattle.std.specs.Prelude.{◌≡◌, ◌++◌, ◌∷◌, [], IsTrue, OnOk, fold};
 ghost use Rattle.hex.specs.Hex.{encode_lower};
 ghost use Rattle.mount9_run.specs.Verdicts.{is_reported, IsReported};
-ghost use Rattle.mount9_run.specs.ReportLines.{with_field, cause_fields, directory_line, entry_line, file_head, link_line, number_line, verdict_line};
+ghost use Rattle.mount9_run.specs.ReportLines.{with_field, cause_fields, directory_line};
+ghost use Rattle.mount9_run.specs.ReportLines.{entry_line, file_head, link_line, number_line};
+ghost use Rattle.mount9_run.specs.ReportLines.{verdict_line};
 
 use crate::report::fields::{push_attr, push_field, push_key_number, push_name, push_number};
 use crate::report::verdict::{BridgeError, Served, Stopped, Verdict};

@@ -1,4 +1,5 @@
-//! The lines of a tree, read from its host. After an `Err` the sink was sent a front of what the call writes.
+//! The lines of a tree, read from its host. After an `Err` the sink was sent a front of what the
+//! call writes.
 ghost use Rattle.std.specs.Prelude.{◌≡◌, OnOk, IsTrue, length};
 ghost use Rattle.std.specs.FinMap as map;
 ghost use Rattle.hex.specs.Hex.{encode_lower};
@@ -8,7 +9,8 @@ ghost use Rattle.tree_host.specs.TreeHosts.{tree};
 ghost use Rattle.mount9_run.specs.Wrote.{Wrote, at_sink};
 ghost use Rattle.mount9_run.specs.ReportLines.{file_line, hex_or_dash};
 ghost use Rattle.mount9_run.specs.Report.{entries_text, records_text, tree_text};
-ghost use Rattle.mount9_run.specs.Walking.{entries_in, directory_text, stored_text, linked_text, IsStored};
+ghost use Rattle.mount9_run.specs.Walking.{entries_in, directory_text, stored_text, linked_text};
+ghost use Rattle.mount9_run.specs.Walking.{IsStored};
 
 use crate::report::writing::{
     write_directory_line, write_entry_line, write_file_head, write_hex, write_link_line,

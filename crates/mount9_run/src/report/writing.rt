@@ -3,7 +3,8 @@ ghost use Rattle.std.specs.Prelude.{◌≡◌, ◌++◌, ◌∷◌, [], take, dr
 ghost use Rattle.hex.specs.Hex.{encode_lower};
 ghost use Rattle.mount9_run.specs.Verdicts.{IsReported};
 ghost use Rattle.mount9_run.specs.Wrote.{Wrote, at_sink};
-ghost use Rattle.mount9_run.specs.ReportLines.{directory_line, entry_line, file_head, link_line, number_line, hex_lines, verdict_line};
+ghost use Rattle.mount9_run.specs.ReportLines.{directory_line, entry_line, file_head, link_line};
+ghost use Rattle.mount9_run.specs.ReportLines.{number_line, hex_lines, verdict_line};
 ghost use Rattle.mount9_run.specs.Report.{replies_text, closing};
 
 use crate::report::lines::{
@@ -99,7 +100,8 @@ pub fn write_entry_line<K: Sink>(
     write_text(out, buffer)
 }
 
-/// Writes the front of a file's line, up to its bytes. The buffer's contents are of no use before and after.
+/// Writes the front of a file's line, up to its bytes. The buffer's contents are of no use before
+/// and after.
 pub fn write_file_head<K: Sink>(
     alloc: Global,
     out: &mut K,

@@ -13,4 +13,4 @@ returns-in-Ok-clause-value c =
 pub returns-in-Err-NoEnd-clause-value : goal.returns-in-Err-NoEnd-clause-value
 returns-in-Err-NoEnd-clause-value c =
     let t = rw c.in-Err-NoEnd.field-0-is at c.in-Err-NoEnd.ensures.takes.answer in
-    header_alone-none c.args.bytes.now (ap text_of (sym c.new-source.ensures) ∙ t.1)
+    header_alone-none c.args.bytes.now (ap text_of (sym c.new-source.ensures) ∙ t.1.none)

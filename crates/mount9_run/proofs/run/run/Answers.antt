@@ -1,6 +1,7 @@
 -- The number that a run exits with, and what it tells.
 use Rattle.std.proofs.Common.{sym, ◌∙◌}
 use Rattle.mount9_run.proofs.Exits.{served_by_code, Ran-played, Ran-valid}
+use Rattle.mount9_run.proofs.TakenInput.{told_by_code}
 use Rattle.mount9_run.proofs.run.run.Goals as goal
 
 pub returns-clause-exits : goal.returns-clause-exits
@@ -19,3 +20,6 @@ returns-clause-valid g c = Ran-valid c.args.words.now (g.S.Source.left c.args.in
 
 pub returns-clause-ended : goal.returns-clause-ended
 returns-clause-ended g c = λ zero. c.answer.ensures.ended (served_by_code c.answer.result (sym c.exit_code.ensures ∙ zero))
+
+pub returns-clause-takes : goal.returns-clause-takes
+returns-clause-takes g c = λ few. c.answer.ensures.takes (told_by_code c.answer.result c.exit_code.result c.exit_code.ensures few)

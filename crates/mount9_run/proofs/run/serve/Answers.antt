@@ -1,7 +1,10 @@
 -- The share's ending is reported, or not.
-use Rattle.std.proofs.Common.{sym, refl}
+use Rattle.std.proofs.Common.{Result, sym, refl, subst}
+use Rattle.std.specs.Prelude.{IsOk}
+use Rattle.mount9_run.specs.declared.run.Ending.{Ending}
+use Rattle.mount9_run.specs.declared.run.Status.{Status}
 use Rattle.mount9_run.specs.CommandViews.{share_view}
-use Rattle.mount9_run.proofs.Ends.{served_text, served_ending, unserved}
+use Rattle.mount9_run.proofs.Ends.{served_text, served_ending, unserved, untold}
 use Rattle.mount9_run.proofs.Told.{Ran-reported, Ran-unreported}
 use Rattle.mount9_run.proofs.run.serve.Goals as goal
 
@@ -17,3 +20,9 @@ returns-in-Ok-ending_of-clause-ended g c = λ served.
 
 pub returns-clause-ended : goal.returns-clause-ended
 returns-clause-ended g c = λ served. absurd (unserved _ c.in-Err.status (sym c.in-Err.ensures.by) served)
+
+pub returns-in-Ok-ending_of-clause-takes : goal.returns-in-Ok-ending_of-clause-takes
+returns-in-Ok-ending_of-clause-takes g c = λ told. c.share-told.ensures.takes (subst (λ (r : Result Ending Status). IsOk r) c.in-Ok-ending_of.ensures.by refl)
+
+pub returns-clause-takes : goal.returns-clause-takes
+returns-clause-takes g c = λ told. absurd (untold _ c.in-Err.status (sym c.in-Err.ensures.by) told)

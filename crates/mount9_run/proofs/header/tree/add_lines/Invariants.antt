@@ -2,9 +2,9 @@
 use Rattle.std.proofs.Common.{◌≡◌, length}
 use Rattle.tree_host.specs.TreeHosts.{tree}
 use Rattle.mount9_run.specs.Reading.{gathered, lines_of}
-use Rattle.mount9_run.specs.HeaderLines.{record_at}
+use Rattle.mount9_run.specs.HeaderRecords.{record_at}
 use Rattle.mount9_run.specs.HeaderViews.{ChangesTree}
-use Rattle.mount9_run.proofs.header.files.file_lines.Given as goal
+use Rattle.mount9_run.proofs.header.tree.add_lines.Given as goal
 
 abbrev pub invariant-lines : goal.invariant-lines
 invariant-lines l = record {
