@@ -7,6 +7,7 @@ use Rattle.port_base.specs.declared.oflag.TheConstants.{O_ACCMODE}
 use Rattle.port_base.specs.OpenFlags.{access}
 use Rattle.port_base.specs.Names.{name_fault}
 use Rattle.port_base.specs.declared.names.TheConstants.{NAME_LIMIT}
+use Rattle.p9_wire.specs.declared.protocol.TheConstants.{RREADLINK_HEADER_SIZE}
 use Rattle.tree_model.specs.Tree.{Tree, body_at, is_directory_at}
 use Rattle.tree_model.specs.Attributes.{stat_of, statfs_of}
 use Rattle.tree_model.specs.Attributing.{write_of}
@@ -48,13 +49,9 @@ fsync_told s fid = by_open_fid is_open (λ f. Ok tt) (map.get s.fids fid)
 
 -- ---- links
 
--- the bytes of Rreadlink before the target: size 4, type 1, tag 2 and the target's length 2
-abbrev pub READLINK_HEADER_SIZE : ℕ
-READLINK_HEADER_SIZE = 9
-
 -- a target that fits a frame, or its refusal
 abbrev pub fitting_target : ℕ → Result (List ℕ) ℕ → Result (List ℕ) ℕ
-fitting_target msize (Ok target) = if nat_lt msize (READLINK_HEADER_SIZE + length target)
+fitting_target msize (Ok target) = if nat_lt msize (RREADLINK_HEADER_SIZE + length target)
     then Err ENAMETOOLONG else Ok target
 fitting_target msize (Err e) = Err e
 

@@ -17,7 +17,8 @@ use Rattle.p9_rmsg.specs.Replies.{Reply}
 use Rattle.p9_rmsg.specs.Replies.Reply.{readlink as target}
 use Rattle.fid_model.specs.Fids.{Fids, Fid, ServerState, is_held as is_named}
 use Rattle.fid_model.specs.FidCalls.{by_fid}
-use Rattle.fid_model.specs.Files.{fitting_target, READLINK_HEADER_SIZE}
+use Rattle.p9_wire.specs.declared.protocol.TheConstants.{RREADLINK_HEADER_SIZE}
+use Rattle.fid_model.specs.Files.{fitting_target}
 use Rattle.p9_server.specs.Steps.{IsStep, server_state, ino_told}
 use Rattle.p9_server.proofs.Stepping.{step_no_memory}
 use Rattle.p9_server.proofs.Showing.{passed_on}
@@ -42,7 +43,7 @@ module _ (t : Tree) (fids : Fids) (msize : ℕ) (settings : Settings) (n : ℕ) 
   told_is : told ≡ fitting_target msize (readlink_of t ino)
   told_is = let f = by_known asked (get fids n) ino known in f.2 ∙ ap (λ (i : ℕ). fitting_target msize (readlink_of t i)) f.3
 
-  fitting : (text : List ℕ) (b : Bool) → readlink_of t ino ≡ Ok text → nat_lt msize (READLINK_HEADER_SIZE + length text) ≡ b → told ≡ cond {A = Result (List ℕ) ℕ} b (Err ENAMETOOLONG) (Ok text)
+  fitting : (text : List ℕ) (b : Bool) → readlink_of t ino ≡ Ok text → nat_lt msize (RREADLINK_HEADER_SIZE + length text) ≡ b → told ≡ cond {A = Result (List ℕ) ℕ} b (Err ENAMETOOLONG) (Ok text)
   fitting text b is long = told_is ∙ ap (fitting_target msize) is ∙ ap (λ b. cond {A = Result (List ℕ) ℕ} b (Err ENAMETOOLONG) (Ok text)) long
 
   -- the host tells none
@@ -51,10 +52,10 @@ module _ (t : Tree) (fids : Fids) (msize : ℕ) (settings : Settings) (n : ℕ) 
       (failed_step (readlink n) reply target before kept steady told refl after after_target f0 f1 (readlink_of t ino) (λ k none. told_is ∙ ap (fitting_target msize) none) refl e a c)
 
   module _ {A : Type 0} (reply : A → Reply) (text : List ℕ) (is : readlink_of t ino ≡ Ok text) (calm : f1 ≡ f0) where
-    pub long_step : nat_lt msize (READLINK_HEADER_SIZE + length text) ≡ true → IsStep (readlink n) reply before after steady f0 f1 (Err (Errno ENAMETOOLONG))
+    pub long_step : nat_lt msize (RREADLINK_HEADER_SIZE + length text) ≡ true → IsStep (readlink n) reply before after steady f0 f1 (Err (Errno ENAMETOOLONG))
     long_step long = refused_step (readlink n) reply target before kept steady told refl after after_target f0 f1 ENAMETOOLONG (fitting text true is long) calm
 
-    pub target_step : nat_lt msize (READLINK_HEADER_SIZE + length text) ≡ false → (a : A) → reply a ≡ target text → IsStep (readlink n) reply before after steady f0 f1 (Ok a)
+    pub target_step : nat_lt msize (RREADLINK_HEADER_SIZE + length text) ≡ false → (a : A) → reply a ≡ target text → IsStep (readlink n) reply before after steady f0 f1 (Ok a)
     target_step short a seen = told_step (readlink n) reply target before kept steady told refl after after_target f0 f1 a text (fitting text false is short) seen calm
 
     pub uncopied_step : IsStep (readlink n) reply before after steady f0 f1 (Err NoMemory)

@@ -3,14 +3,12 @@ ghost use Rattle.std.specs.Prelude.{◌≡◌, ◌∷◌, [], IfOk};
 ghost use Rattle.p9_server.specs.Configs.{config_refused};
 
 use crate::share::{ServerGidMap, ServerUidMap, Share};
+use p9_wire::protocol::MIN_MESSAGE_SIZE;
 use port_base::paths::is_rooted_path;
 use port_base::sink::NoMemory;
 use std::alloc::Global;
 use std::collections::BTreeMap;
 use std::fmt;
-
-/// The least greatest size of a frame, in bytes: each reply has room.
-pub const MIN_MSIZE: u32 = 256;
 
 /// The usual greatest size of a frame, in bytes.
 pub const STANDARD_MSIZE: u32 = 65560;
@@ -86,7 +84,7 @@ impl Config {
 pub fn config_refused(config: &Config) -> Option<ConfigError>
     ensures { result ≡ config_refused config.now.msize config.now.root.items }
 {
-    if config.msize < MIN_MSIZE {
+    if config.msize < MIN_MESSAGE_SIZE {
         return Some(ConfigError::MsizeTooSmall);
     }
     if !is_rooted_path(&config.root) {

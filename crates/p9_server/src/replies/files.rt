@@ -1,10 +1,11 @@
 //! The replies to messages about what a fid names.
 ghost use Rattle.std.specs.Prelude.{◌≡◌, ◌+◌, ◌≤◌, length, IfOk};
 ghost use Rattle.p9_wire.specs.Frames.{result_view};
+ghost use Rattle.p9_wire.specs.declared.protocol.TheConstants.{RREADLINK_HEADER_SIZE};
 ghost use Rattle.p9_rmsg.specs.Replies.{reply_of};
 ghost use Rattle.p9_rmsg.specs.Replies.Reply.{fsync, lcreate, readlink, setattr, write};
 ghost use Rattle.p9_wire.specs.Qids.{qid_of};
-ghost use Rattle.fid_model.specs.Files.{statfs_reply, READLINK_HEADER_SIZE};
+ghost use Rattle.fid_model.specs.Files.{statfs_reply};
 ghost use Rattle.p9_server.specs.Answering.{reply_told, IsShort, Fits};
 
 use super::refusal;
@@ -58,7 +59,7 @@ pub fn fsync_reply(step: Result<(), HostError>) -> Result<Rmessage, WireError>
 
 // The target of a link, in a frame of at most `msize` bytes.
 fn target_told(target: P9String, msize: u32) -> Rmessage
-    requires { READLINK_HEADER_SIZE + length target ≤ msize }
+    requires { RREADLINK_HEADER_SIZE + length target ≤ msize }
     ensures reply { reply_of result ≡ readlink target }
     ensures fits { Fits msize (reply_of result) }
 {
@@ -69,7 +70,7 @@ fn target_told(target: P9String, msize: u32) -> Rmessage
 /// The reply to Treadlink, in a frame of at most `msize` bytes.
 pub fn readlink_reply(step: Result<P9String, HostError>, msize: u32) -> Result<Rmessage, WireError>
     requires roomy { 256 ≤ msize }
-    requires fits { IfOk step (λ target. READLINK_HEADER_SIZE + length target ≤ msize) }
+    requires fits { IfOk step (λ target. RREADLINK_HEADER_SIZE + length target ≤ msize) }
     ensures reply { result_view reply_of result ≡ reply_told (λ target. readlink target) step }
     ensures fits { IfOk result (λ m. Fits msize (reply_of m)) }
 {

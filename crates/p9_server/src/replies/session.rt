@@ -3,7 +3,7 @@ ghost use Rattle.std.specs.Prelude.{◌≡◌, ◌+◌, ◌≤◌, length, IfOk}
 ghost use Rattle.p9_wire.specs.Frames.{result_view};
 ghost use Rattle.p9_rmsg.specs.Replies.{reply_of};
 ghost use Rattle.p9_rmsg.specs.Replies.Reply.{flush, version, lock, getlock};
-ghost use Rattle.fid_model.specs.Sessions.{GETLOCK_HEADER_SIZE};
+ghost use Rattle.p9_wire.specs.declared.protocol.TheConstants.{RGETLOCK_HEADER_SIZE};
 ghost use Rattle.p9_server.specs.Answering.{reply_told, IsShort, Fits};
 
 use super::refusal;
@@ -61,7 +61,7 @@ pub fn lock_reply(step: Result<Rlock, HostError>) -> Result<Rmessage, WireError>
 
 // The lock that stands in the way, in a frame of at most `msize` bytes.
 fn lock_told(found: Rgetlock, msize: u32) -> Rmessage
-    requires { GETLOCK_HEADER_SIZE + length found.client_id ≤ msize }
+    requires { RGETLOCK_HEADER_SIZE + length found.client_id ≤ msize }
     ensures reply { reply_of result ≡ getlock found.kind_ found.start found.length found.proc_id
         found.client_id }
     ensures fits { Fits msize (reply_of result) }
@@ -73,7 +73,7 @@ fn lock_told(found: Rgetlock, msize: u32) -> Rmessage
 /// The reply to Tgetlock, in a frame of at most `msize` bytes.
 pub fn getlock_reply(step: Result<Rgetlock, HostError>, msize: u32) -> Result<Rmessage, WireError>
     requires roomy { 256 ≤ msize }
-    requires fits { IfOk step (λ r. GETLOCK_HEADER_SIZE + length r.client_id ≤ msize) }
+    requires fits { IfOk step (λ r. RGETLOCK_HEADER_SIZE + length r.client_id ≤ msize) }
     ensures reply { result_view reply_of result
         ≡ reply_told (λ r. getlock r.kind_ r.start r.length r.proc_id r.client_id) step }
     ensures fits { IfOk result (λ m. Fits msize (reply_of m)) }

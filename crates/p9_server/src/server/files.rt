@@ -1,19 +1,18 @@
 //! Tstatfs, Tfsync and Treadlink: sizes, what was written, and the targets of links.
 ghost use Rattle.std.specs.Prelude.{◌≡◌, ◌+◌, ◌≤◌, length, IfOk};
+ghost use Rattle.p9_wire.specs.declared.protocol.TheConstants.{RREADLINK_HEADER_SIZE};
 ghost use Rattle.p9_tmsg.specs.Messages.Message.{statfs, fsync, readlink};
 ghost use Rattle.p9_rmsg.specs.Replies.Reply.{fsync as synced, readlink as target_told};
-ghost use Rattle.fid_model.specs.Files.{statfs_reply, READLINK_HEADER_SIZE};
+ghost use Rattle.fid_model.specs.Files.{statfs_reply};
 ghost use Rattle.p9_server.specs.Steps.{moment_of, server_state, Steps};
 
 use super::Server;
 use p9_tmsg::Tfsync;
+use p9_wire::protocol::RREADLINK_HEADER_SIZE;
 use p9_wire::text::P9String;
 use port_base::errno::ENAMETOOLONG;
 use tree_host::Host;
 use tree_model::{HostError, Statfs};
-
-/// The bytes of an Rreadlink before the target: size 4, type 1, tag 2 and the target's length 2.
-const RREADLINK_HEADER_SIZE: usize = 9;
 
 impl<H: Host> Server<H> {
     // How much the tree of a fid may have.
@@ -53,7 +52,7 @@ impl<H: Host> Server<H> {
             self.old.fids self.old.msize self.old.share self.old.asked)
             (moment_of (H.tree self.new.host) (H.calls self.new.host)
             self.new.fids self.new.msize self.new.share self.new.asked) result }
-        ensures fits { IfOk result (λ target. READLINK_HEADER_SIZE + length target
+        ensures fits { IfOk result (λ target. RREADLINK_HEADER_SIZE + length target
             ≤ self.old.msize) }
         ensures same { server_state (H.tree self.new.host)
             self.new.fids self.new.msize self.new.share ≡ server_state (H.tree self.old.host)
@@ -63,7 +62,7 @@ impl<H: Host> Server<H> {
     {
         let ino = self.ino_of(fid)?;
         let target = self.host.readlink(ino)?;
-        if (self.msize as usize) < RREADLINK_HEADER_SIZE + target.len() {
+        if (self.msize as usize) < RREADLINK_HEADER_SIZE as usize + target.len() {
             return Err(HostError::Errno(ENAMETOOLONG));
         }
         match P9String::new(self.alloc, &target) {

@@ -1,17 +1,18 @@
 //! Tversion, Tlock and Tgetlock: how a session begins, and its locks, which are always free.
 ghost use Rattle.std.specs.Prelude.{◌≡◌, ◌+◌, ◌≤◌, length, IfOk, IfErr};
 ghost use Rattle.std.specs.FinMap as map;
+ghost use Rattle.p9_wire.specs.declared.protocol.TheConstants.{RGETLOCK_HEADER_SIZE};
 ghost use Rattle.p9_tmsg.specs.Messages.Message.{version, lock, getlock};
 ghost use Rattle.p9_rmsg.specs.Replies.Reply.{version as agreed, lock as locked, getlock as free};
 ghost use Rattle.fid_model.specs.Fids.{is_open};
-ghost use Rattle.fid_model.specs.Sessions.{spoken, GETLOCK_HEADER_SIZE};
+ghost use Rattle.fid_model.specs.Sessions.{spoken};
 ghost use Rattle.p9_server.specs.Steps.{moment_of, Steps, open_told};
 
 use super::Server;
-use crate::config::MIN_MSIZE;
 use crate::fids::release_all;
 use p9_rmsg::{Rgetlock, Rlock, Rversion};
 use p9_tmsg::{Tgetlock, Tlock};
+use p9_wire::protocol::{MIN_MESSAGE_SIZE, RGETLOCK_HEADER_SIZE};
 use p9_wire::text::P9String;
 use port_base::errno::{EBADF, EINVAL, ENAMETOOLONG};
 use std::alloc::Global;
@@ -23,10 +24,6 @@ const PROTOCOL: &[u8] = b"9P2000.L";
 
 /// What is said where a client speaks another protocol.
 const UNKNOWN_PROTOCOL: &[u8] = b"unknown";
-
-/// The bytes of an Rgetlock before the client's name: size 4, type 1, tag 2, kind 1, start 8,
-/// length 8, process 4 and the name's length 2.
-const RGETLOCK_HEADER_SIZE: usize = 30;
 
 /// The status of a lock that is had (`P9_LOCK_SUCCESS`).
 const P9_LOCK_SUCCESS: u8 = 0;
@@ -61,7 +58,7 @@ impl<H: Host> Server<H> {
         ensures fixed { self.new.share ≡ self.old.share }
         ensures asked { self.new.asked ≡ self.old.asked }
     {
-        if msize < MIN_MSIZE {
+        if msize < MIN_MESSAGE_SIZE {
             return Err(HostError::Errno(EINVAL));
         }
         let version = spoken(self.alloc, protocol)?;
@@ -112,11 +109,11 @@ impl<H: Host> Server<H> {
             self.now.fids self.now.msize self.now.share self.now.asked)
             (moment_of (H.tree self.now.host) (H.calls self.now.host)
             self.now.fids self.now.msize self.now.share self.now.asked) result }
-        ensures fits { IfOk result (λ r. GETLOCK_HEADER_SIZE + length r.client_id
+        ensures fits { IfOk result (λ r. RGETLOCK_HEADER_SIZE + length r.client_id
             ≤ self.now.msize) }
     {
         self.open_ino(m.fid)?;
-        if (self.msize as usize) < RGETLOCK_HEADER_SIZE + m.client_id.len() {
+        if (self.msize as usize) < RGETLOCK_HEADER_SIZE as usize + m.client_id.len() {
             return Err(HostError::Errno(ENAMETOOLONG));
         }
         Ok(Rgetlock {
