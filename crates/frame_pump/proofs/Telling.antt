@@ -26,9 +26,13 @@ module _ (s0 s1 : Session) (stands : Type 0) (p0 p1 : Streams) (turns handled : 
   halt_stays cause.NoMemory h = memory_stays h.1
   halt_stays _ h = absurd h
 
-  pub Runs-complete : (sent : ℕ) → sent ≡ s1.sent → EndsQuietly s0 s1 stands p0 p1 turns handled done → Runs s0 s1 stands p0 p1 turns (Ok (record { handled = handled; nine_frames = sent }))
+  pub Runs-complete : (sent : ℕ) → sent ≡ s1.sent
+      → EndsQuietly s0 s1 stands p0 p1 turns handled done
+      → Runs s0 s1 stands p0 p1 turns (Ok (record { handled = handled; nine_frames = sent }))
   Runs-complete sent same h = record { stays = h.2.answered.stays; outcome = (same, h) }
 
-  pub Runs-stopped : (sent : ℕ) (e : BridgeError) → sent ≡ s1.sent → StopsBy s0 s1 stands p0 p1 turns handled e
-      → Runs s0 s1 stands p0 p1 turns (Err (record { cause = e; handled = handled; nine_frames = sent }))
+  pub Runs-stopped : (sent : ℕ) (e : BridgeError) → sent ≡ s1.sent
+      → StopsBy s0 s1 stands p0 p1 turns handled e
+      → Runs s0 s1 stands p0 p1 turns (Err (record
+          { cause = e; handled = handled; nine_frames = sent }))
   Runs-stopped sent e same h = record { stays = halt_stays e h; outcome = (same, h) }

@@ -1,5 +1,6 @@
 -- INIT.
-use Rattle.std.proofs.Common.{◌≡◌, ◌≢◌, ℕ, ◌<◌, ◌≤◌, Bool, true, false, not, ◌||◌, refl, ap, min, ◌⊎◌, ⊎_elim, Some, None, arith, nat_lt}
+use Rattle.std.proofs.Common.{◌≡◌, ◌≢◌, ℕ, ◌<◌, ◌≤◌, Bool, true, false, not, ◌||◌, refl, ap, min}
+use Rattle.std.proofs.Common.{◌⊎◌, ⊎_elim, Some, None, arith, nat_lt}
 use Rattle.std.specs.Prelude.{◌==◌}
 use Rattle.std.proofs.lemmas.Bool.Decides.{nat_tests}
 use Rattle.port_base.specs.declared.errno.TheConstants.{EPROTO}
@@ -19,22 +20,32 @@ use Rattle.fuse_gate.specs.declared.gate.Phase.TheVariants as phase
 use Rattle.fuse_gate.proofs.Serving.{made, served_after}
 
 module _ (major minor : ℕ) where
-  by_test : (b : Bool) → (not (major == 7) || nat_lt minor 23) ≡ b → init_refusal major minor ≡ refused_if b EPROTO
+  by_test : (b : Bool) → (not (major == 7) || nat_lt minor 23) ≡ b
+      → init_refusal major minor ≡ refused_if b EPROTO
   by_test b t = ap (λ (b : Bool). refused_if b EPROTO) t
 
-  pub init_refused : (major ≢ 7) ⊎ ((major ≡ 7) × (minor < 23)) → init_refusal major minor ≡ Some EPROTO
-  init_refused bad = by_test true (⊎_elim (λ h. grind (arith, nat_tests)) (λ h. grind (arith, nat_tests)) bad)
+  pub init_refused : (major ≢ 7) ⊎ ((major ≡ 7) × (minor < 23))
+      → init_refusal major minor ≡ Some EPROTO
+  init_refused bad = by_test true (⊎_elim (λ h. grind (arith, nat_tests))
+      (λ h. grind (arith, nat_tests)) bad)
 
   passes : major ≡ 7 → 23 ≤ minor → init_refusal major minor ≡ None
   passes seven enough = by_test false (grind (arith, nat_tests))
 
-  pub init_begun : {g : Gate} {n : Moment} → IsInStep g n.state → IsGoodServer n.state → (max_readahead least : ℕ) → major ≡ 7 → 23 ≤ minor → least ≡ min minor 31
-      → ServesRequest 0 (init major minor max_readahead 0) (g, n) (record g { phase = phase.Started }, n) (Granted least max_readahead)
+  pub init_begun : {g : Gate} {n : Moment} → IsInStep g n.state → IsGoodServer n.state
+      → (max_readahead least : ℕ) → major ≡ 7 → 23 ≤ minor → least ≡ min minor 31
+      → ServesRequest 0 (init major minor max_readahead 0) (g, n)
+          (record g { phase = phase.Started }, n) (Granted least max_readahead)
   init_begun {g} {n} st good max_readahead least seven enough lower =
       let m = machine_of g n.state in
       let started : MachineState = record m { phase = Started } in
-      served_after st good 0 (init major minor max_readahead 0) (passes seven enough) (record g { phase = phase.Started }, n) (Granted least max_readahead)
-      (made (init_effect m minor max_readahead) 0 (λ t. t ≡ n.state.tree) (g, n) (record g { phase = phase.Started }, n) (Granted least max_readahead) good
-      (record { fids = st.paired.fids; used = st.paired.used; counted = st.paired.counted; ids = st.paired.ids; known = st.paired.known; node_kinds = st.paired.node_kinds; handle_kinds = st.paired.handle_kinds })
+      served_after st good 0 (init major minor max_readahead 0) (passes seven enough)
+          (record g { phase = phase.Started }, n) (Granted least max_readahead)
+      (made (init_effect m minor max_readahead) 0 (λ t. t ≡ n.state.tree) (g, n)
+          (record g { phase = phase.Started }, n) (Granted least max_readahead) good
+      (record { fids = st.paired.fids; used = st.paired.used; counted = st.paired.counted; ids =
+          st.paired.ids; known = st.paired.known; node_kinds = st.paired.node_kinds; handle_kinds =
+          st.paired.handle_kinds })
       st.roomy refl (kept_good n.state.settings started (begins n.state.settings m st.good))
-      (ap (λ k. Granted k max_readahead) lower) refl (record { frames = omega arith; asked = omega arith }))
+      (ap (λ k. Granted k max_readahead) lower) refl
+          (record { frames = omega arith; asked = omega arith }))

@@ -19,18 +19,25 @@ module _ {g : Gate} {s : ServerState} (st : IsInStep g s) (ino : ℕ) where
   names_it e = e.1.ino == ino
 
   -- an entry that is found is the node that the index tells
-  indexed_by : (e : ℕ × MachineNode) → find names_it (entries (mapped node_of g.nodes)) ≡ Some e → (n : Node) × (get g.nodes e.0 ≡ Some n) × (node_of n ≡ e.1) × (n.ino ≡ ino) × (get g.ids ino ≡ Some e.0)
+  indexed_by : (e : ℕ × MachineNode) → find names_it (entries (mapped node_of g.nodes)) ≡ Some e
+      → (n : Node) × (get g.nodes e.0 ≡ Some n) × (node_of n ≡ e.1) × (n.ino ≡ ino)
+      × (get g.ids ino ≡ Some e.0)
   indexed_by e found =
       let there = first_entry names_it (mapped node_of g.nodes) e found in
       let m = mapped_from node_of g.nodes e.0 e.1 there.0 in
-      let same : m.0.ino ≡ ino = ap (λ (v : MachineNode). v.ino) m.2 ∙ eqb-true e.1.ino ino there.1 in
+      let same : m.0.ino ≡ ino = ap (λ (v : MachineNode). v.ino) m.2
+          ∙ eqb-true e.1.ino ino there.1 in
       (m.0, m.1, m.2, same, ap (get g.ids) (sym same) ∙ st.paired.known e.0 m.0 m.1)
 
-  pub known_found : (id : ℕ) (n : Node) → get g.ids ino ≡ Some id → get g.nodes id ≡ Some n → n.ino ≡ ino → node_found (machine_of g s) ino ≡ Some (id, node_of n)
-  known_found id n indexed at is = by_found (find names_it (entries (mapped node_of g.nodes))) refl where
-    by_found : (o : Option (ℕ × MachineNode)) → find names_it (entries (mapped node_of g.nodes)) ≡ o → o ≡ Some (id, node_of n)
+  pub known_found : (id : ℕ) (n : Node) → get g.ids ino ≡ Some id → get g.nodes id ≡ Some n
+      → n.ino ≡ ino → node_found (machine_of g s) ino ≡ Some (id, node_of n)
+  known_found id n indexed at is = by_found (find names_it (entries (mapped node_of g.nodes))) refl
+      where
+    by_found : (o : Option (ℕ × MachineNode)) → find names_it (entries (mapped node_of g.nodes)) ≡ o
+        → o ≡ Some (id, node_of n)
     by_found None none =
-        let misses = none_passes names_it (mapped node_of g.nodes) id (node_of n) none (mapped_at node_of g.nodes id n at) in
+        let misses = none_passes names_it (mapped node_of g.nodes) id (node_of n) none
+            (mapped_at node_of g.nodes id n at) in
         absurd (false≢true (sym misses ∙ eq-eqb n.ino ino is))
     by_found (Some e) found =
         let m = indexed_by e found in
@@ -44,6 +51,8 @@ module _ {g : Gate} {s : ServerState} (st : IsInStep g s) (ino : ℕ) where
   -- none is found where the index tells none
   pub unknown_found : get g.ids ino ≡ None → node_found (machine_of g s) ino ≡ None
   unknown_found indexed = by_found (find names_it (entries (mapped node_of g.nodes))) refl where
-    by_found : (o : Option (ℕ × MachineNode)) → find names_it (entries (mapped node_of g.nodes)) ≡ o → o ≡ None
+    by_found : (o : Option (ℕ × MachineNode)) → find names_it (entries (mapped node_of g.nodes)) ≡ o
+        → o ≡ None
     by_found None none = refl
-    by_found (Some e) found = absurd (let m = indexed_by e found in let clash : Some e.0 ≡ None = sym m.4 ∙ indexed in cc)
+    by_found (Some e) found = absurd (let m = indexed_by e found in let clash : Some e.0 ≡ None =
+        sym m.4 ∙ indexed in cc)

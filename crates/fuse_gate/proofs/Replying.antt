@@ -1,5 +1,6 @@
 -- How long replies are, and that they are short.
-use Rattle.std.proofs.Common.{◌≡◌, ℕ, ◌+◌, ◌≤◌, [], length, List, take, drop, min, Option, Some, None, Result, Ok, Err, sym, ap, ◌∙◌, subst, arith, refl, ⊎_elim}
+use Rattle.std.proofs.Common.{◌≡◌, ℕ, ◌+◌, ◌≤◌, [], length, List, take, drop, min, Option, Some}
+use Rattle.std.proofs.Common.{None, Result, Ok, Err, sym, ap, ◌∙◌, subst, arith, refl, ⊎_elim}
 use Rattle.std.specs.FinMap.{get}
 use Rattle.std.proofs.lemmas.List.{length-append, length-take}
 use Rattle.tree_model.specs.Tree.{Body, body_at}
@@ -9,15 +10,20 @@ use Rattle.tree_model.specs.Opening.{body_answer, open_check_of, read_body}
 use Rattle.tree_model.specs.Settings.{Settings}
 use Rattle.tree_model.specs.declared.attributes.Attr.{Attr}
 use Rattle.fuse_wire.specs.Head.{head_of}
-use Rattle.fuse_wire.specs.Request.{Request, init, lookup, getattr, open_file, read, flush, release, forget, batch_forget}
-use Rattle.fuse_wire.specs.Reply.{u32s, u64s, reply_head, reply, init_body, entry_body, attr_body, opened_body}
+use Rattle.fuse_wire.specs.Request.{Request, init, lookup, getattr, open_file, read, flush, release}
+use Rattle.fuse_wire.specs.Request.{forget, batch_forget}
+use Rattle.fuse_wire.specs.Reply.{u32s, u64s, reply_head, reply, init_body, entry_body, attr_body}
+use Rattle.fuse_wire.specs.Reply.{opened_body}
 use Rattle.fuse_wire.specs.declared.protocol.TheConstants.{MAX_READ}
-use Rattle.fuse_wire.proofs.Sizes.{length-init_body, length-entry_body, length-attr_body, length-opened_body}
+use Rattle.fuse_wire.proofs.Sizes.{length-init_body, length-entry_body, length-attr_body}
+use Rattle.fuse_wire.proofs.Sizes.{length-opened_body}
 use Rattle.tree_machine.specs.State.{MachineState}
 use Rattle.tree_machine.specs.Replies.{Reply, reply_bytes}
-use Rattle.tree_machine.specs.Replies.Reply.{Refused, Granted, Entry, Attributes, Opened, Bytes, Done}
+use Rattle.tree_machine.specs.Replies.Reply.{Refused, Granted, Entry, Attributes, Opened, Bytes}
+use Rattle.tree_machine.specs.Replies.Reply.{Done}
 use Rattle.tree_machine.specs.Refusals.{refused_or}
-use Rattle.tree_machine.specs.Core.{node_ino, handle_ino, node_of, node_for, entry_reply, shown_at, looked_up, getattr_ino, attr_reply, opened, bytes_reply}
+use Rattle.tree_machine.specs.Core.{node_ino, handle_ino, node_of, node_for, entry_reply, shown_at}
+use Rattle.tree_machine.specs.Core.{looked_up, getattr_ino, attr_reply, opened, bytes_reply}
 use Rattle.tree_machine.specs.Requests.{refusal_before, effect_of, answer_of}
 use Rattle.tree_machine.specs.Step.{request_in_turn}
 use Rattle.fid_model.specs.Moments.{Moment}
@@ -31,9 +37,11 @@ unfolding reply_head u32s u64s
 length-head unique errno size = refl
 
 -- a reply is a head of 16 bytes and its body
-length-reply : (unique errno : ℕ) (body : List ℕ) → length (reply unique errno body) ≡ 16 + length body
+length-reply : (unique errno : ℕ) (body : List ℕ)
+    → length (reply unique errno body) ≡ 16 + length body
 unfolding reply
-length-reply unique errno body = length-append (reply_head unique errno (length body)) body ∙ ap (λ n. n + length body) (length-head unique errno (length body))
+length-reply unique errno body = length-append (reply_head unique errno (length body)) body
+    ∙ ap (λ n. n + length body) (length-head unique errno (length body))
 
 -- how many bytes stand behind the head
 abbrev pub body_size : Reply → ℕ
@@ -47,23 +55,34 @@ body_size Done = 0
 
 pub written_size : (unique : ℕ) (r : Reply) → length (reply_bytes unique r) ≡ 16 + body_size r
 written_size unique (Refused errno) = length-reply unique errno []
-written_size unique (Granted minor max_readahead) = length-reply unique 0 (init_body minor max_readahead) ∙ ap (λ n. 16 + n) (length-init_body minor max_readahead)
-written_size unique (Entry node attr) = length-reply unique 0 (entry_body node attr) ∙ ap (λ n. 16 + n) (length-entry_body node attr)
-written_size unique (Attributes attr) = length-reply unique 0 (attr_body attr) ∙ ap (λ n. 16 + n) (length-attr_body attr)
-written_size unique (Opened handle) = length-reply unique 0 (opened_body handle) ∙ ap (λ n. 16 + n) (length-opened_body handle)
+written_size unique (Granted minor max_readahead) =
+    length-reply unique 0 (init_body minor max_readahead)
+    ∙ ap (λ n. 16 + n) (length-init_body minor max_readahead)
+written_size unique (Entry node attr) = length-reply unique 0 (entry_body node attr)
+    ∙ ap (λ n. 16 + n) (length-entry_body node attr)
+written_size unique (Attributes attr) = length-reply unique 0 (attr_body attr)
+    ∙ ap (λ n. 16 + n) (length-attr_body attr)
+written_size unique (Opened handle) = length-reply unique 0 (opened_body handle)
+    ∙ ap (λ n. 16 + n) (length-opened_body handle)
 written_size unique (Bytes bytes) = length-reply unique 0 bytes
 written_size unique Done = length-reply unique 0 []
 
-pub sized : (r : Reply) (body : ℕ) → body ≡ body_size r → (unique : ℕ) → 16 + body ≡ length (reply_bytes unique r)
+pub sized : (r : Reply) (body : ℕ) → body ≡ body_size r → (unique : ℕ)
+    → 16 + body ≡ length (reply_bytes unique r)
 sized r body is unique = ap (λ n. 16 + n) is ∙ sym (written_size unique r)
 
 -- there is room for what was reserved
-pub room : (unique before capacity : ℕ) (r0 : GateReply) → before + length (reply_bytes unique (reply_of r0)) ≤ capacity → (r : GateReply) → r0 ≡ r → before + (16 + body_size (reply_of r)) ≤ capacity
-room unique before capacity r0 h r is = subst (λ n. before + n ≤ capacity) (ap (λ (x : GateReply). length (reply_bytes unique (reply_of x))) is ∙ written_size unique (reply_of r)) h
+pub room : (unique before capacity : ℕ) (r0 : GateReply)
+    → before + length (reply_bytes unique (reply_of r0)) ≤ capacity → (r : GateReply) → r0 ≡ r
+    → before + (16 + body_size (reply_of r)) ≤ capacity
+room unique before capacity r0 h r is = subst (λ n. before + n ≤ capacity)
+    (ap (λ (x : GateReply). length (reply_bytes unique (reply_of x))) is
+    ∙ written_size unique (reply_of r)) h
 
 -- ---- no reply of the machine has more bytes of a file than one request reads
 
-refused_or_short : (m : MachineState) (o : Option ℕ) (effect : Reply × MachineState) → IsShort effect.0 → IsShort (refused_or m o effect).0
+refused_or_short : (m : MachineState) (o : Option ℕ) (effect : Reply × MachineState)
+    → IsShort effect.0 → IsShort (refused_or m o effect).0
 refused_or_short m None effect short = short
 refused_or_short m (Some e) effect short = tt
 
@@ -72,44 +91,55 @@ entry_short node (Ok a) = tt
 entry_short node (Err e) = tt
 
 looked_up_short : (s : Settings) (m : MachineState) (r : Result ℕ ℕ) → IsShort (looked_up s m r).0
-looked_up_short s m (Ok ino) = entry_short (node_for m ino (node_of m ino)).0 (shown_at s m.tree ino)
+looked_up_short s m (Ok ino) = entry_short (node_for m ino (node_of m ino)).0
+    (shown_at s m.tree ino)
 looked_up_short s m (Err e) = tt
 
 attr_short : (r : Result Attr ℕ) → IsShort (attr_reply r)
 attr_short (Ok a) = tt
 attr_short (Err e) = tt
 
-opened_short : (m : MachineState) (ino flags : ℕ) (r : Result (Unit {0}) ℕ) → IsShort (opened m ino flags r).0
+opened_short : (m : MachineState) (ino flags : ℕ) (r : Result (Unit {0}) ℕ)
+    → IsShort (opened m ino flags r).0
 opened_short m ino flags (Ok u) = tt
 opened_short m ino flags (Err e) = tt
 
 part_short : (size : ℕ) (rest : List ℕ) → length (take (min size MAX_READ) rest) ≤ MAX_READ
 part_short size rest = let long = length-take (min size MAX_READ) rest in omega (arith, long)
 
-bytes_short : (offset size : ℕ) (b : Option Body) → IsShort (bytes_reply (body_answer (read_body offset (min size MAX_READ)) b))
+bytes_short : (offset size : ℕ) (b : Option Body)
+    → IsShort (bytes_reply (body_answer (read_body offset (min size MAX_READ)) b))
 bytes_short offset size None = tt
 bytes_short offset size (Some (File bytes)) = part_short size (drop offset bytes)
 bytes_short offset size (Some (Directory es next above)) = tt
 bytes_short offset size (Some (Link target)) = tt
 
-effect_short : (s : Settings) (m : MachineState) (node : ℕ) (r : Request) → IsShort (effect_of s m node r).0
+effect_short : (s : Settings) (m : MachineState) (node : ℕ) (r : Request)
+    → IsShort (effect_of s m node r).0
 effect_short s m node (init major minor max_readahead flags) = tt
-effect_short s m node (lookup name) = looked_up_short s m (find s.casefold m.tree (node_ino (get m.nodes node)) name)
+effect_short s m node (lookup name) = looked_up_short s m
+    (find s.casefold m.tree (node_ino (get m.nodes node)) name)
 effect_short s m node (getattr handle) = attr_short (shown_at s m.tree (getattr_ino m node handle))
-effect_short s m node (open_file flags) = let ino = node_ino (get m.nodes node) in opened_short m ino flags (open_check_of m.tree ino flags)
-effect_short s m node (read fh offset size flags lock) = bytes_short offset size (body_at m.tree.records (handle_ino (get m.handles fh)))
+effect_short s m node (open_file flags) = let ino =
+    node_ino (get m.nodes node) in opened_short m ino flags (open_check_of m.tree ino flags)
+effect_short s m node (read fh offset size flags lock) =
+    bytes_short offset size (body_at m.tree.records (handle_ino (get m.handles fh)))
 effect_short s m node (flush fh) = tt
 effect_short s m node (release fh) = tt
 effect_short s m node (forget number) = tt
 effect_short s m node (batch_forget pairs) = tt
 
-answer_short : (s : Settings) (m : MachineState) (node : ℕ) (r : Result Request ℕ) → IsShort (answer_of s m node r).0
+answer_short : (s : Settings) (m : MachineState) (node : ℕ) (r : Result Request ℕ)
+    → IsShort (answer_of s m node r).0
 answer_short s m node (Err e) = tt
-answer_short s m node (Ok r) = refused_or_short m (refusal_before s m node r) (effect_of s m node r) (effect_short s m node r)
+answer_short s m node (Ok r) = refused_or_short m (refusal_before s m node r) (effect_of s m node r)
+    (effect_short s m node r)
 
 -- what a frame was answered
-pub served_short : (frame : List ℕ) (old new : Gate × Moment) (reply : Reply) → ServesFrame frame old new reply → IsShort reply
+pub served_short : (frame : List ℕ) (old new : Gate × Moment) (reply : Reply)
+    → ServesFrame frame old new reply → IsShort reply
 served_short frame old new reply served = ⊎_elim
-    (λ told. subst IsShort (sym told.0) (answer_short old.1.state.settings (machine_at old) (head_of frame).nodeid (request_in_turn (machine_at old).phase frame)))
+    (λ told. subst IsShort (sym told.0) (answer_short old.1.state.settings (machine_at old)
+        (head_of frame).nodeid (request_in_turn (machine_at old).phase frame)))
     (λ hurt. subst IsShort (sym hurt.1) tt)
     served.outcome

@@ -4,26 +4,34 @@ use Rattle.std.specs.Prelude.{codes}
 use Rattle.std.specs.Fmt.{digits}
 use Rattle.port_base.specs.Quoting.{quoted, quoted_byte}
 use Rattle.libmount.specs.Builders.{apply_to_flags}
-use Rattle.libmount.specs.BuilderTexts.{bind_text, escaped_dir, names_of, options_text, overlay_options, overlay_text, relocation_text, remount_text, tmpfs_options, tmpfs_text}
-use Rattle.libmount.specs.WorkedBuilders.{all_flags, in_memory, no_flags, read_only, two_layers, writable}
+use Rattle.libmount.specs.BuilderTexts.{bind_text, escaped_dir, names_of, options_text}
+use Rattle.libmount.specs.BuilderTexts.{overlay_options, overlay_text, relocation_text}
+use Rattle.libmount.specs.BuilderTexts.{remount_text, tmpfs_options, tmpfs_text}
+use Rattle.libmount.specs.WorkedBuilders.{all_flags, in_memory, no_flags, read_only, two_layers}
+use Rattle.libmount.specs.WorkedBuilders.{writable}
 
-pub bind_printed : bind_text (record { source = codes "/a"; target = codes "/b"; recursive = true; readonly = true }) ≡ codes "recursive bind mount \"/a\" -> \"/b\""
+pub bind_printed : bind_text (record { source = codes "/a"; target = codes "/b"; recursive =
+    true; readonly = true }) ≡ codes "recursive bind mount \"/a\" -> \"/b\""
 unfolding bind_text quoted quoted_byte
 bind_printed = refl
 
-pub relocation_printed : relocation_text (record { source = codes "/a"; target = codes "/b" }) ≡ codes "move \"/a\" -> \"/b\""
+pub relocation_printed : relocation_text (record { source = codes "/a"; target = codes "/b" })
+    ≡ codes "move \"/a\" -> \"/b\""
 unfolding relocation_text quoted quoted_byte
 relocation_printed = refl
 
-pub tmpfs_printed : tmpfs_text in_memory ≡ codes "tmpfs size=1048576,nr_inodes=1024,mode=01777,uid=1000,gid=1000 -> \"/tmp\""
+pub tmpfs_printed : tmpfs_text in_memory ≡ codes
+    "tmpfs size=1048576,nr_inodes=1024,mode=01777,uid=1000,gid=1000 -> \"/tmp\""
 unfolding tmpfs_text tmpfs_options options_text quoted quoted_byte digits
 tmpfs_printed = refl
 
-pub tmpfs_printed_bare : tmpfs_text (record { target = codes "/tmp"; size = None; nr_inodes = None; mode = None; uid = None; gid = None }) ≡ codes "tmpfs  -> \"/tmp\""
+pub tmpfs_printed_bare : tmpfs_text (record { target = codes "/tmp"; size = None; nr_inodes =
+    None; mode = None; uid = None; gid = None }) ≡ codes "tmpfs  -> \"/tmp\""
 unfolding tmpfs_text tmpfs_options options_text quoted quoted_byte
 tmpfs_printed_bare = refl
 
-pub overlay_printed : overlay_text writable ≡ codes "overlayfs \"/l\",upperdir=\"/w/u\",workdir=\"/w\" -> \"/t\""
+pub overlay_printed : overlay_text writable ≡ codes
+    "overlayfs \"/l\",upperdir=\"/w/u\",workdir=\"/w\" -> \"/t\""
 unfolding overlay_text quoted quoted_byte
 overlay_printed = refl
 

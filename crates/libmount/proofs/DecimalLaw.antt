@@ -1,5 +1,6 @@
 -- A number's decimal text is read as that number.
-use Rattle.std.proofs.Common.{◌≡◌, ℕ, ◌+◌, ◌/◌, ◌%◌, ◌≤◌, ◌<◌, ◌^◌, true, false, List, [], ◌∷◌, ◌++◌, length, Ok, refl, ap, ◌∙◌, arith, length-append}
+use Rattle.std.proofs.Common.{◌≡◌, ℕ, ◌+◌, ◌/◌, ◌%◌, ◌≤◌, ◌<◌, ◌^◌, true, false, List, [], ◌∷◌}
+use Rattle.std.proofs.Common.{◌++◌, length, Ok, refl, ap, ◌∙◌, arith, length-append}
 use Rattle.std.specs.Prelude.{◌==◌}
 use Rattle.std.specs.Fmt.{decimal}
 use Rattle.std.specs.List.{fold, take_while}
@@ -7,7 +8,8 @@ use Rattle.std.proofs.lemmas.Bool.Decides.{nat_tests}
 use Rattle.std.proofs.lemmas.Fmt.{decimal_by_steps}
 use Rattle.std.proofs.lemmas.List.Sums.{fold-append}
 use Rattle.libmount.specs.Numbers.{decimal_value, digits_value, is_digit, number_of, with_digit}
-use Rattle.libmount.proofs.NumberLemmas.{digits_value-whole, front-yes, judged, judged-ok, suc-eq-zero}
+use Rattle.libmount.proofs.NumberLemmas.{digits_value-whole, front-yes, judged, judged-ok}
+use Rattle.libmount.proofs.NumberLemmas.{suc-eq-zero}
 
 abbrev pub AreDigits : List ℕ → Type 0
 AreDigits [] = Unit {0}
@@ -33,11 +35,13 @@ digit-below d h = grind (arith, nat_tests)
 spells-one : (n : ℕ) → n < 10 → Spells n ((48 + n) ∷ [])
 spells-one n h = record { digits = (digit-below n h, tt); some = omega arith; value = omega arith }
 
-spells-more : (n : ℕ) (ds : List ℕ) → 10 ≤ n → Spells (n / 10) ds → Spells n (ds ++ ((48 + n % 10) ∷ []))
+spells-more : (n : ℕ) (ds : List ℕ) → 10 ≤ n → Spells (n / 10) ds
+    → Spells n (ds ++ ((48 + n % 10) ∷ []))
 spells-more n ds h k = record {
   digits = AreDigits-push ds (48 + n % 10) k.digits (digit-below (n % 10) (omega arith));
   some = omega (arith, length-append ds ((48 + n % 10) ∷ []));
-  value = fold-append with_digit 0 ds ((48 + n % 10) ∷ []) ∙ ap (λ (v : ℕ). with_digit v (48 + n % 10)) k.value ∙ omega arith;
+  value = fold-append with_digit 0 ds ((48 + n % 10) ∷ [])
+      ∙ ap (λ (v : ℕ). with_digit v (48 + n % 10)) k.value ∙ omega arith;
 }
 
 spells-decimal : (n : ℕ) → n < 2 ^ 64 → Spells n (decimal n)
@@ -47,8 +51,10 @@ module _ (n : ℕ) (fits : n < 2 ^ 64) where
   digits_value-spelled : (text : List ℕ) → Spells n text → digits_value text ≡ Ok n
   digits_value-spelled text h =
       digits_value-whole text h.some
-      ∙ ap (λ (front : List ℕ). judged (fold with_digit 0 front) (length front) (length text)) (front-all text h.digits)
-      ∙ judged-ok (decimal_value text) (length text) (length text) (omega (arith, h.value)) (omega arith)
+      ∙ ap (λ (front : List ℕ). judged (fold with_digit 0 front) (length front) (length text))
+          (front-all text h.digits)
+      ∙ judged-ok (decimal_value text) (length text) (length text) (omega (arith, h.value))
+          (omega arith)
       ∙ ap (λ (v : ℕ). Ok v) h.value
 
   no-plus : (d : ℕ) → is_digit d ≡ true → (d == 43) ≡ false
@@ -57,7 +63,8 @@ module _ (n : ℕ) (fits : n < 2 ^ 64) where
   number_of-spelled : (text : List ℕ) → Spells n text → number_of text ≡ Ok n
   unfolding number_of
   number_of-spelled [] h = absurd (omega (arith, h.some))
-  number_of-spelled (d ∷ ds) h = rw (suc-eq-zero (length ds), no-plus d h.digits.0) (digits_value-spelled (d ∷ ds) h)
+  number_of-spelled (d ∷ ds) h = rw (suc-eq-zero (length ds), no-plus d h.digits.0)
+      (digits_value-spelled (d ∷ ds) h)
 
   number_of-plus-spelled : (text : List ℕ) → Spells n text → number_of (43 ∷ text) ≡ Ok n
   unfolding number_of

@@ -1,5 +1,6 @@
 -- A part of a part is a part.
-use Rattle.std.proofs.Common.{◌≡◌, ℕ, ◌+◌, ◌-◌, ◌≤◌, List, length, take, drop, Some, None, Result, Ok, Err, refl, sym, ap, ◌∙◌, arith, take_all}
+use Rattle.std.proofs.Common.{◌≡◌, ℕ, ◌+◌, ◌-◌, ◌≤◌, List, length, take, drop, Some, None, Result}
+use Rattle.std.proofs.Common.{Ok, Err, refl, sym, ap, ◌∙◌, arith, take_all}
 use Rattle.std.specs.declared.option.Option.{Option}
 use Rattle.std.specs.Prelude.{IfSome}
 use Rattle.std.specs.Borrow.{Bor}
@@ -12,7 +13,8 @@ use Rattle.libmount.specs.Parsers.{ItemLiesIn, ItemLiesInRest}
 use Rattle.libmount.specs.Slices.{FieldLiesIn, LiesIn, LiesInRest, RowLiesIn, StaysIn}
 
 -- bytes of a front of a list, from a place on
-front-part : (n m k : ℕ) (xs : List ℕ) → k + n ≤ m → take n (drop k (take m xs)) ≡ take n (drop k xs)
+front-part : (n m k : ℕ) (xs : List ℕ) → k + n ≤ m
+    → take n (drop k (take m xs)) ≡ take n (drop k xs)
 front-part n m k xs fits =
     ap (λ (j : ℕ). take n (drop k (take j xs))) (let e : m ≡ k + (m - k) = omega arith in e)
     ∙ ap (take n) (drop-take k (m - k) xs) ∙ take-take n (m - k) (drop k xs) (omega arith)
@@ -31,7 +33,8 @@ module _ (a b c : Bor (List ℕ)) where
   }
 
 pub LiesIn-refl : (a : Bor (List ℕ)) → LiesIn a a
-LiesIn-refl a = record { start = 0; block = refl; address = omega arith; within = omega arith; bytes = sym (take_all (length a.now) a.now (omega arith)) }
+LiesIn-refl a = record { start = 0; block = refl; address = omega arith; within =
+    omega arith; bytes = sym (take_all (length a.now) a.now (omega arith)) }
 
 module _ (a b : Bor (List ℕ)) (h : LiesIn a b) where
   pub FieldLiesIn-trans : (field : Field) → FieldLiesIn b field → FieldLiesIn a field
@@ -49,7 +52,8 @@ module _ (a b : Bor (List ℕ)) (h : LiesIn a b) where
     super_options = FieldLiesIn-trans m.super_options k.super_options;
   }
 
-  pub found-trans : (found : Option MountPoint) → IfSome found (RowLiesIn b) → IfSome found (RowLiesIn a)
+  pub found-trans : (found : Option MountPoint) → IfSome found (RowLiesIn b)
+      → IfSome found (RowLiesIn a)
   found-trans None k = tt
   found-trans (Some m) k = RowLiesIn-trans m k
 
@@ -63,20 +67,25 @@ StaysIn-trans a None (Some z) h k = absurd k
 StaysIn-trans None (Some y) (Some z) h k = absurd h
 StaysIn-trans (Some x) (Some y) (Some z) h k = LiesIn-trans x y z h k
 
-pub LiesInRest-trans : (a b : Option (Bor (List ℕ))) (c : Bor (List ℕ)) → StaysIn a b → LiesInRest b c → LiesInRest a c
+pub LiesInRest-trans : (a b : Option (Bor (List ℕ))) (c : Bor (List ℕ)) → StaysIn a b
+    → LiesInRest b c → LiesInRest a c
 LiesInRest-trans a None c h k = absurd k
 LiesInRest-trans None (Some y) c h k = absurd h
 LiesInRest-trans (Some x) (Some y) c h k = LiesIn-trans x y c h k
 
 -- what lies in a line lies in the text that the line was taken from
-pub Item-trans : (a b : Option (Bor (List ℕ))) (line : Bor (List ℕ)) (item : Result MountPoint ParseError) → StaysIn a b → LiesInRest b line → ItemLiesIn line item → ItemLiesInRest a item
+pub Item-trans : (a b : Option (Bor (List ℕ))) (line : Bor (List ℕ))
+    (item : Result MountPoint ParseError) → StaysIn a b → LiesInRest b line → ItemLiesIn line item
+    → ItemLiesInRest a item
 Item-trans a None line item h k i = absurd k
 Item-trans None (Some y) line item h k i = absurd h
-Item-trans (Some x) (Some y) line (Ok m) h k i = RowLiesIn-trans x line (LiesIn-trans x y line h k) m i
+Item-trans (Some x) (Some y) line (Ok m) h k i =
+    RowLiesIn-trans x line (LiesIn-trans x y line h k) m i
 Item-trans (Some x) (Some y) line (Err e) h k i = tt
 
 -- what lies in the text that is left later lies in the text that was left before
-pub ItemLiesInRest-trans : (a b : Option (Bor (List ℕ))) (item : Result MountPoint ParseError) → StaysIn a b → ItemLiesInRest b item → ItemLiesInRest a item
+pub ItemLiesInRest-trans : (a b : Option (Bor (List ℕ))) (item : Result MountPoint ParseError)
+    → StaysIn a b → ItemLiesInRest b item → ItemLiesInRest a item
 ItemLiesInRest-trans a None item h i = absurd i
 ItemLiesInRest-trans None (Some y) item h i = absurd h
 ItemLiesInRest-trans (Some x) (Some y) (Ok m) h i = RowLiesIn-trans x y h m i

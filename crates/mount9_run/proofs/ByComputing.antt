@@ -5,7 +5,8 @@ use Rattle.std.specs.Fmt.{digits}
 use Rattle.port_base.specs.Escapes.{escaped}
 use Rattle.tree_model.specs.declared.attributes.Kind.{Kind}
 use Rattle.tree_model.specs.declared.attributes.Stamp.{Stamp}
-use Rattle.mount9_run.specs.ReportLines.{entry_line, directory_line, number_line, stamp_text, mode_text}
+use Rattle.mount9_run.specs.ReportLines.{entry_line, directory_line, number_line, stamp_text}
+use Rattle.mount9_run.specs.ReportLines.{mode_text}
 use Rattle.mount9_run.specs.Texts.{split_once}
 use Rattle.mount9_run.specs.Paths.{is_path}
 use Rattle.mount9_run.specs.Header.{header, text_of, text_from, header_of, start_at}
@@ -16,20 +17,25 @@ use Rattle.mount9_run.specs.Command.{with_word, with_words, command}
 use Rattle.mount9_run.specs.Outcome.{outcome}
 use Rattle.mount9_run.specs.declared.run.Status.TheVariants as status
 
-pub command_example : command (codes "serve" ∷ codes "target=/mnt" ∷ codes "root=/" ∷ []) ≡ Some (record { target = codes "/mnt"; root = codes "/"; msize = 65560; turns = 4096; ids = 1024 })
+pub command_example : command (codes "serve" ∷ codes "target=/mnt" ∷ codes "root=/" ∷ []) ≡ Some
+    (record { target = codes "/mnt"; root = codes "/"; msize = 65560; turns = 4096; ids = 1024 })
 unfolding command with_words with_word split_once is_path
 command_example = refl
 
-pub numbers_example : command (codes "serve" ∷ codes "ids=0" ∷ codes "root=/" ∷ codes "msize=4352" ∷ codes "target=/" ∷ []) ≡ Some (record { target = codes "/"; root = codes "/"; msize = 4352; turns = 4096; ids = 0 })
+pub numbers_example : command (codes "serve" ∷ codes "ids=0" ∷ codes "root=/" ∷ codes "msize=4352"
+    ∷ codes "target=/" ∷ []) ≡ Some (record { target = codes "/"; root = codes "/"; msize =
+    4352; turns = 4096; ids = 0 })
 unfolding command with_words with_word split_once is_path number_of
 numbers_example = refl
 
-pub msize_refused : command (codes "serve" ∷ codes "target=/" ∷ codes "root=/" ∷ codes "msize=255" ∷ []) ≡ None
+pub msize_refused : command (codes "serve" ∷ codes "target=/" ∷ codes "root=/" ∷ codes "msize=255"
+    ∷ []) ≡ None
 unfolding command with_words with_word split_once is_path number_of
 msize_refused = refl
 
 pub header_example : header (codes "mount9 1\nmoment 1700000000\nend\n") ≡ Err 2
-unfolding header text_of text_from header_of lines_of start_at stamp_at keyword_at after_word field_at split_once number_field
+unfolding header text_of text_from header_of lines_of start_at stamp_at keyword_at after_word
+    field_at split_once number_field
 header_example = refl
 
 pub endless_example : header (codes "mount9 1\nending\nend") ≡ Err 0
@@ -40,20 +46,26 @@ pub entry_example : entry_line 1 1 2 (codes "my file") ≡ codes "in 1 1 2 my\\0
 unfolding entry_line escaped digits
 entry_example = refl
 
-pub stamp_example : stamp_text (record { sec = 1600000000; nsec = 5 }) ≡ codes "1600000000.000000005"
+pub stamp_example : stamp_text (record { sec = 1600000000; nsec = 5 }) ≡ codes
+    "1600000000.000000005"
 unfolding stamp_text digits
 stamp_example = refl
 
-pub directory_example : (kind : Kind) (born : Stamp) → stamp_text born ≡ codes "1600000000.000000005"
-    → directory_line (record { ino = 1; kind = kind; mode = 493; uid = 0; gid = 0; links = 2; size = 0; atime = born; mtime = born; ctime = born }) 1 2
+pub directory_example : (kind : Kind) (born : Stamp)
+    → stamp_text born ≡ codes "1600000000.000000005"
+    → directory_line (record { ino = 1; kind = kind; mode = 493; uid = 0; gid = 0; links = 2; size =
+        0; atime = born; mtime = born; ctime = born }) 1 2
     ≡ codes "dir 1 0755 0 0 2 1600000000.000000005 1600000000.000000005 1600000000.000000005 1 2\n"
 unfolding directory_line mode_text digits
 directory_example kind born h = rw h refl
 
-pub words_outcome : (bytes : List ℕ) → outcome (codes "serve" ∷ codes "target=/mnt" ∷ []) bytes ≡ (status.Words, codes "words\n")
+pub words_outcome : (bytes : List ℕ) → outcome (codes "serve" ∷ codes "target=/mnt" ∷ []) bytes
+    ≡ (status.Words, codes "words\n")
 unfolding command with_words with_word split_once is_path
 words_outcome bytes = refl
 
-pub header_outcome : outcome (codes "serve" ∷ codes "target=/mnt" ∷ codes "root=/" ∷ []) (codes "mount9 1\nmoment 1700000000\nend\n") ≡ (status.Header, codes "header 2\n")
-unfolding command with_words with_word split_once is_path header text_of text_from header_of lines_of start_at stamp_at keyword_at after_word field_at number_field number_line digits
+pub header_outcome : outcome (codes "serve" ∷ codes "target=/mnt" ∷ codes "root=/" ∷ [])
+    (codes "mount9 1\nmoment 1700000000\nend\n") ≡ (status.Header, codes "header 2\n")
+unfolding command with_words with_word split_once is_path header text_of text_from header_of
+    lines_of start_at stamp_at keyword_at after_word field_at number_field number_line digits
 header_outcome = refl

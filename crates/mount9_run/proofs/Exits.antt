@@ -1,5 +1,6 @@
 -- A run by the number that it exits with.
-use Rattle.std.proofs.Common.{◌≡◌, ⊎_elim, ◌⊎◌, inl, inr, ℕ, ◌-◌, ◌^◌, min, List, [], length, IfSome, Some, None, Ok, refl, sym, ap, ◌∙◌, subst, arith}
+use Rattle.std.proofs.Common.{◌≡◌, ⊎_elim, ◌⊎◌, inl, inr, ℕ, ◌-◌, ◌^◌, min, List, [], length}
+use Rattle.std.proofs.Common.{IfSome, Some, None, Ok, refl, sym, ap, ◌∙◌, subst, arith}
 use Rattle.std.specs.declared.option.Option.{Option}
 use Rattle.port_base.specs.Faults.{Faulted}
 use Rattle.tree_model.specs.Tree.{Tree, linked}
@@ -14,12 +15,14 @@ use Rattle.tree_machine.proofs.Begun.{begun_good}
 use Rattle.fuse_gate.proofs.Attachings.{linked_twice}
 use Rattle.mount9_run.specs.Header.{HeaderRead, header}
 use Rattle.mount9_run.specs.Report.{report}
-use Rattle.mount9_run.specs.Outcome.{Outcome, outcome, share_settings, piece, mount_table, verdict_of}
+use Rattle.mount9_run.specs.Outcome.{Outcome, outcome, share_settings, piece, mount_table}
+use Rattle.mount9_run.specs.Outcome.{verdict_of}
 use Rattle.mount9_run.specs.Causes.{IsAccepted, IsValidInput}
 use Rattle.mount9_run.specs.Running.{RanBy, Ran}
 use Rattle.mount9_run.specs.Statuses.{exit_code, IsWholeTree, IsPlayReport, SendsPlayReport}
 use Rattle.mount9_run.specs.declared.run.Status.{Status}
-use Rattle.mount9_run.specs.declared.run.Status.TheVariants.{Served, Stopped, Words, Header, Memory, Input, Output}
+use Rattle.mount9_run.specs.declared.run.Status.TheVariants.{Served, Stopped, Words, Header, Memory}
+use Rattle.mount9_run.specs.declared.run.Status.TheVariants.{Input, Output}
 use Rattle.mount9_run.proofs.Causes.{served_outcome, served_exactly, answers_alike}
 
 pub served_by_code : (s : Status) → exit_code s ≡ 0 → s ≡ Served
@@ -33,11 +36,13 @@ served_by_code Output is = absurd (omega (arith, is))
 
 -- what holds of each input with a header, holds where the input tells its bytes
 abbrev pub Headed : Option (List ℕ) → Type 0
-Headed left = IfSome left (λ bytes. (h : HeaderRead) (rest : List ℕ) → header bytes ≡ Ok (h, rest) → IsWholeTree h.tree)
+Headed left = IfSome left (λ bytes. (h : HeaderRead) (rest : List ℕ) → header bytes ≡ Ok (h, rest)
+    → IsWholeTree h.tree)
 
 -- ---- the text of valid input
 
-module _ (words : List (List ℕ)) (bytes : List ℕ) (v : IsValidInput words bytes) (w : IsWholeTree v.accepted.described.tree) where
+module _ (words : List (List ℕ)) (bytes : List ℕ) (v : IsValidInput words bytes)
+    (w : IsWholeTree v.accepted.described.tree) where
   a : IsAccepted words bytes
   a = v.accepted
 
@@ -54,21 +59,28 @@ module _ (words : List (List ℕ)) (bytes : List ℕ) (v : IsValidInput words by
   unfolding a t base
   found = ap (λ (x : Tree). root_of x (share_settings a.serve).root) (sym w.whole) ∙ v.found
 
-  final : linked (play (share_settings a.serve) t base c.frames).1 ≡ (play (share_settings a.serve) t base c.frames).1
+  final : linked (play (share_settings a.serve) t base c.frames).1
+      ≡ (play (share_settings a.serve) t base c.frames).1
   unfolding a t c base
-  final = linked_twice _ (play_good (share_settings a.serve) (begun t base) c.frames (begun_good (share_settings a.serve) t base w.good found v.some)).tree
+  final = linked_twice _ (play_good (share_settings a.serve) (begun t base) c.frames
+      (begun_good (share_settings a.serve) t base w.good found v.some)).tree
 
   text : (outcome words bytes).1 ≡ report (play (share_settings a.serve) t base c.frames).0
-      (verdict_of done (length c.frames) (min (total (piece a.serve) (share_settings a.serve) t base c.frames) (2 ^ 64 - 1)))
+      (verdict_of done (length c.frames) (min
+          (total (piece a.serve) (share_settings a.serve) t base c.frames) (2 ^ 64 - 1)))
       (play (share_settings a.serve) t base c.frames).1 mount_table
   unfolding a t c base
   text =
       ap (λ (o : Outcome). o.1) (served_outcome words bytes v)
       ∙ (λ j. report (play (share_settings a.serve) (w.whole j) base c.frames).0
-      (verdict_of (v.whole j) (length c.frames) (min (total (piece a.serve) (share_settings a.serve) (w.whole j) base c.frames) (2 ^ 64 - 1)))
+      (verdict_of (v.whole j) (length c.frames)
+          (min (total (piece a.serve) (share_settings a.serve) (w.whole j) base c.frames)
+          (2 ^ 64 - 1)))
       (linked (play (share_settings a.serve) (w.whole j) base c.frames).1) mount_table)
       ∙ ap (λ (x : Tree). report (play (share_settings a.serve) t base c.frames).0
-      (verdict_of done (length c.frames) (min (total (piece a.serve) (share_settings a.serve) t base c.frames) (2 ^ 64 - 1))) x mount_table) final
+      (verdict_of done (length c.frames) (min
+          (total (piece a.serve) (share_settings a.serve) t base c.frames) (2 ^ 64 - 1))) x
+          mount_table) final
 
   play_report : IsPlayReport words bytes (outcome words bytes).1
   unfolding a t c base
@@ -88,20 +100,27 @@ module _ (words : List (List ℕ)) (bytes : List ℕ) (v : IsValidInput words by
 
 -- ---- a run that was served sent it
 
-pub Ran-played : (words : List (List ℕ)) (left s0 s1 : Option (List ℕ)) (in0 in1 out0 out1 : ℕ) (s : Status) → s ≡ Served → Headed left
-    → Ran (outcome words) left s0 s1 in0 in1 out0 out1 s → IfSome left (λ bytes. SendsPlayReport words bytes s0 s1)
+pub Ran-played : (words : List (List ℕ)) (left s0 s1 : Option (List ℕ)) (in0 in1 out0 out1 : ℕ)
+    (s : Status) → s ≡ Served → Headed left
+    → Ran (outcome words) left s0 s1 in0 in1 out0 out1 s
+        → IfSome left (λ bytes. SendsPlayReport words bytes s0 s1)
 Ran-played words None s0 s1 in0 in1 out0 out1 s is headed ran = tt
 Ran-played words (Some bytes) s0 s1 in0 in1 out0 out1 s is headed ran =
-    let by : RanBy (outcome words) (Some bytes) s0 s1 in0 in1 out0 out1 Served = subst (RanBy (outcome words) (Some bytes) s0 s1 in0 in1 out0 out1) is ran.answer in
+    let by : RanBy (outcome words) (Some bytes) s0 s1 in0 in1 out0 out1 Served =
+        subst (RanBy (outcome words) (Some bytes) s0 s1 in0 in1 out0 out1) is ran.answer in
     let v : IsValidInput words bytes = (served_exactly words bytes).0 by.2.0 in
-    ((outcome words bytes).1, by.2.1, play_report words bytes v (headed v.accepted.described v.accepted.rest v.accepted.headed))
+    ((outcome words bytes).1, by.2.1, play_report words bytes v
+        (headed v.accepted.described v.accepted.rest v.accepted.headed))
 
 -- ---- valid input without a fault is served, or there is no memory
 
-pub Ran-valid : (words : List (List ℕ)) (left s0 s1 : Option (List ℕ)) (in0 in1 out0 out1 code : ℕ) (s : Status) → code ≡ exit_code s
+pub Ran-valid : (words : List (List ℕ)) (left s0 s1 : Option (List ℕ)) (in0 in1 out0 out1 code : ℕ)
+    (s : Status) → code ≡ exit_code s
     → Ran (outcome words) left s0 s1 in0 in1 out0 out1 s
-    → IfSome left (λ bytes. IsValidInput words bytes → (Faulted in0 in1 → ⊥) → (Faulted out0 out1 → ⊥) → (code ≡ 0) ⊎ (code ≡ 4))
+    → IfSome left (λ bytes. IsValidInput words bytes → (Faulted in0 in1 → ⊥)
+        → (Faulted out0 out1 → ⊥) → (code ≡ 0) ⊎ (code ≡ 4))
 Ran-valid words None s0 s1 in0 in1 out0 out1 code s is ran = tt
 Ran-valid words (Some bytes) s0 s1 in0 in1 out0 out1 code s is ran = λ v quiet_in quiet_out.
-    ⊎_elim (λ e. inl (is ∙ ap exit_code (e ∙ (served_exactly words bytes).1 v))) (λ e. inr (is ∙ ap exit_code e))
+    ⊎_elim (λ e. inl (is ∙ ap exit_code (e ∙ (served_exactly words bytes).1 v)))
+        (λ e. inr (is ∙ ap exit_code e))
     (answers_alike words bytes s0 s1 in0 in1 out0 out1 quiet_in quiet_out s ran)

@@ -1,5 +1,6 @@
 -- Paths with escapes at examples.
-use Rattle.std.proofs.Common.{◌≡◌, ℕ, lit<, ◌<◌, zero, suc, List, [], ◌∷◌, Bool, true, cond, not, Option, Some, None, Result, Ok, Err, refl, ap, if◌then◌else◌}
+use Rattle.std.proofs.Common.{◌≡◌, ℕ, lit<, ◌<◌, zero, suc, List, [], ◌∷◌, Bool, true, cond, not}
+use Rattle.std.proofs.Common.{Option, Some, None, Result, Ok, Err, refl, ap, if◌then◌else◌}
 use Rattle.std.specs.Prelude.{codes, is_none, slice_index, ◌&&◌}
 use Rattle.std.specs.Str.{is_utf8}
 use Rattle.std.proofs.lemmas.Str.{IsUtf8-from_ascii, is_utf8-from_IsUtf8}
@@ -10,7 +11,8 @@ use Rattle.mount9_run.specs.Reading.{◌>>=◌, check, or_refused, after_word, f
 use Rattle.mount9_run.specs.Numbers.{number_at, number_field, number_of, mode_field, mode_of}
 use Rattle.port_base.specs.Escapes.{unescaped}
 use Rattle.mount9_run.specs.HeaderLines.{present_at}
-use Rattle.mount9_run.specs.HeaderRecords.{RecordLine, file_at, is_record_path, record_path_at, bytes_of, bytes_field}
+use Rattle.mount9_run.specs.HeaderRecords.{RecordLine, file_at, is_record_path, record_path_at}
+use Rattle.mount9_run.specs.HeaderRecords.{bytes_of, bytes_field}
 use Rattle.mount9_run.specs.HeaderRecords.Item.{file}
 
 pub blank_example : present_at 6 [] (codes "present /a\\040b") ≡ Ok (Some (codes "/a b" ∷ []))
@@ -26,7 +28,8 @@ unfolding present_at after_word split_once unescaped is_path
 other_byte_example = refl
 
 pub raw_blank_example : file_at 7 (codes "0644 0 0 - /a b") ≡ Err 7
-unfolding file_at record_path_at field_at split_once mode_field mode_of number_at number_field number_of bytes_field bytes_of unescaped
+unfolding file_at record_path_at field_at split_once mode_field mode_of number_at number_field
+    number_of bytes_field bytes_of unescaped
 raw_blank_example = refl
 
 -- ---- a file with a blank in its name
@@ -51,8 +54,12 @@ abbrev whole : Unit {0} → Result (List ℕ) ℕ
 whole ok = Ok (codes "/a b")
 
 abbrev lined : List ℕ → Result RecordLine ℕ
-lined path = Ok (record { item = file (record { mode = 420; uid = 0; gid = 0; bytes = [] }); path = path })
+lined path = Ok (record { item = file (record { mode = 420; uid = 0; gid = 0; bytes = [] }); path =
+    path })
 
-pub file_example : file_at 7 (codes "0644 0 0 - /a\\040b") ≡ Ok (record { item = file (record { mode = 420; uid = 0; gid = 0; bytes = [] }); path = codes "/a b" })
-unfolding file_at field_at split_once mode_field mode_of number_at number_field number_of bytes_field bytes_of unescaped record_path_at
+pub file_example : file_at 7 (codes "0644 0 0 - /a\\040b") ≡ Ok
+    (record { item = file (record { mode = 420; uid = 0; gid = 0; bytes = [] }); path =
+    codes "/a b" })
+unfolding file_at field_at split_once mode_field mode_of number_at number_field number_of
+    bytes_field bytes_of unescaped record_path_at
 file_example = ap (λ (b : Bool). (check 7 b >>= whole) >>= lined) its_path

@@ -1,5 +1,6 @@
 -- A name without a fault is a text of a message.
-use Rattle.std.proofs.Common.{◌≡◌, ℕ, ◌≤◌, ◌<◌, ◌^◌, Bool, true, false, cond, not, List, [], ◌∷◌, length, Some, None, Option, refl, arith}
+use Rattle.std.proofs.Common.{◌≡◌, ℕ, ◌≤◌, ◌<◌, ◌^◌, Bool, true, false, cond, not, List, [], ◌∷◌}
+use Rattle.std.proofs.Common.{length, Some, None, Option, refl, arith}
 use Rattle.std.specs.Prelude.{◌==◌, ◌||◌}
 use Rattle.std.specs.List.{list_any}
 use Rattle.std.specs.Str.{is_utf8}
@@ -31,7 +32,8 @@ no_zero (b ∷ bs) h =
     let zero : (b == 0) ≡ false = (or_false (b == 47) (b == 0) here.0).1 in
     rw zero (no_zero bs here.1)
 
-pub name_is_text : (name : List ℕ) → name_fault name ≡ None → (length name ≤ 255) × (is_text name ≡ true)
+pub name_is_text : (name : List ℕ) → name_fault name ≡ None → (length name ≤ 255)
+    × (is_text name ≡ true)
 unfolding is_text
 name_is_text name h =
     let a = cond_none _ _ _ h in
@@ -43,7 +45,9 @@ name_is_text name h =
     let utf8 = not_false (is_utf8 name) d.1 in
     (ltb-false _ _ b.0, rw (utf8, zero) refl)
 
-pub walk_askable : (s : ServerState) (fid newfid : ℕ) (name : List ℕ) → IsRoomy s → fid < 2 ^ 32 → newfid < 2 ^ 32 → name_fault name ≡ None → IsAskable s (walk fid newfid (name ∷ []))
+pub walk_askable : (s : ServerState) (fid newfid : ℕ) (name : List ℕ) → IsRoomy s → fid < 2 ^ 32
+    → newfid < 2 ^ 32 → name_fault name ≡ None → IsAskable s (walk fid newfid (name ∷ []))
 walk_askable s fid newfid name roomy a b named =
     let text = name_is_text name named in
-    record { spells = (a, (b, (omega arith, ((omega (arith, text.0), text.1), tt)))); readable = tt; bounded = tt; short = omega (arith, text.0, roomy.enough, length-append name []) }
+    record { spells = (a, (b, (omega arith, ((omega (arith, text.0), text.1), tt)))); readable =
+        tt; bounded = tt; short = omega (arith, text.0, roomy.enough, length-append name []) }

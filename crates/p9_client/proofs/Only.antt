@@ -9,34 +9,41 @@ use Rattle.p9_rmsg.specs.declared.message.Rlopen.{Rlopen}
 use Rattle.p9_rmsg.specs.declared.message.Rread.{Rread}
 use Rattle.p9_rmsg.specs.declared.message.Rwalk.{Rwalk}
 use Rattle.p9_rmsg.specs.Replies.{reply_of}
-use Rattle.p9_client.specs.Views.{attach_view, walk_one_view, copy_view, open_view, attributes_view, read_view}
+use Rattle.p9_client.specs.Views.{attach_view, walk_one_view, copy_view, open_view, attributes_view}
+use Rattle.p9_client.specs.Views.{read_view}
 
-pub only_attach : (x : Rmessage) → ((y : Rattach) → x ≢ variant.Attach y) → ((y : Rlerror) → x ≢ variant.Lerror y) → attach_view (reply_of x) ≡ None
+pub only_attach : (x : Rmessage) → ((y : Rattach) → x ≢ variant.Attach y)
+    → ((y : Rlerror) → x ≢ variant.Lerror y) → attach_view (reply_of x) ≡ None
 only_attach (variant.Attach y) own error = absurd (own y refl)
 only_attach (variant.Lerror y) own error = absurd (error y refl)
 only_attach _ own error = refl
 
-pub only_walk : (x : Rmessage) → ((y : Rwalk) → x ≢ variant.Walk y) → ((y : Rlerror) → x ≢ variant.Lerror y) → walk_one_view (reply_of x) ≡ None
+pub only_walk : (x : Rmessage) → ((y : Rwalk) → x ≢ variant.Walk y)
+    → ((y : Rlerror) → x ≢ variant.Lerror y) → walk_one_view (reply_of x) ≡ None
 only_walk (variant.Walk y) own error = absurd (own y refl)
 only_walk (variant.Lerror y) own error = absurd (error y refl)
 only_walk _ own error = refl
 
-pub only_copy : (x : Rmessage) → ((y : Rwalk) → x ≢ variant.Walk y) → ((y : Rlerror) → x ≢ variant.Lerror y) → copy_view (reply_of x) ≡ None
+pub only_copy : (x : Rmessage) → ((y : Rwalk) → x ≢ variant.Walk y)
+    → ((y : Rlerror) → x ≢ variant.Lerror y) → copy_view (reply_of x) ≡ None
 only_copy (variant.Walk y) own error = absurd (own y refl)
 only_copy (variant.Lerror y) own error = absurd (error y refl)
 only_copy _ own error = refl
 
-pub only_open : (x : Rmessage) → ((y : Rlopen) → x ≢ variant.Lopen y) → ((y : Rlerror) → x ≢ variant.Lerror y) → open_view (reply_of x) ≡ None
+pub only_open : (x : Rmessage) → ((y : Rlopen) → x ≢ variant.Lopen y)
+    → ((y : Rlerror) → x ≢ variant.Lerror y) → open_view (reply_of x) ≡ None
 only_open (variant.Lopen y) own error = absurd (own y refl)
 only_open (variant.Lerror y) own error = absurd (error y refl)
 only_open _ own error = refl
 
-pub only_attributes : (x : Rmessage) → ((y : Rgetattr) → x ≢ variant.GetAttr y) → ((y : Rlerror) → x ≢ variant.Lerror y) → attributes_view (reply_of x) ≡ None
+pub only_attributes : (x : Rmessage) → ((y : Rgetattr) → x ≢ variant.GetAttr y)
+    → ((y : Rlerror) → x ≢ variant.Lerror y) → attributes_view (reply_of x) ≡ None
 only_attributes (variant.GetAttr y) own error = absurd (own y refl)
 only_attributes (variant.Lerror y) own error = absurd (error y refl)
 only_attributes _ own error = refl
 
-pub only_read : (x : Rmessage) → ((y : Rread) → x ≢ variant.Read y) → ((y : Rlerror) → x ≢ variant.Lerror y) → read_view (reply_of x) ≡ None
+pub only_read : (x : Rmessage) → ((y : Rread) → x ≢ variant.Read y)
+    → ((y : Rlerror) → x ≢ variant.Lerror y) → read_view (reply_of x) ≡ None
 only_read (variant.Read y) own error = absurd (own y refl)
 only_read (variant.Lerror y) own error = absurd (error y refl)
 only_read _ own error = refl

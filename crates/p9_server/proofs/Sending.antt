@@ -12,14 +12,17 @@ frame_length : (kind tag : ℕ) (body : List ℕ) → length (frame kind tag bod
 unfolding frame
 frame_length kind tag body = omega arith
 
-pub reply_length : (tag : ℕ) (r : Reply) → length (reply_frame tag r) ≡ 7 + length (reply_spelling r)
+pub reply_length : (tag : ℕ) (r : Reply) → length (reply_frame tag r) ≡ 7 + length
+    (reply_spelling r)
 reply_length tag r = frame_length (reply_kind r) tag (reply_spelling r)
 
 -- after a reserve there is room
-pub never_without_room : (tag : ℕ) (r : Reply) (s0 s1 : Option (List ℕ)) (r0 r1 f0 f1 : ℕ) (fault : SinkFault) → 7 + length (reply_spelling r) ≤ r0 → fault ≡ sink.NoMemory
+pub never_without_room : (tag : ℕ) (r : Reply) (s0 s1 : Option (List ℕ)) (r0 r1 f0 f1 : ℕ)
+    (fault : SinkFault) → 7 + length (reply_spelling r) ≤ r0 → fault ≡ sink.NoMemory
     → Sends {T = Unit {0}} (reply_frame tag r) s0 s1 r0 r1 f0 f1 (Err fault) → ⊥
 never_without_room tag r s0 s1 r0 r1 f0 f1 fault room is sends =
-    let none = subst (λ (e : SinkFault). Sends {T = Unit {0}} (reply_frame tag r) s0 s1 r0 r1 f0 f1 (Err e)) is sends in
+    let none = subst (λ (e : SinkFault). Sends {T = Unit {0}} (reply_frame tag r) s0 s1 r0 r1 f0 f1
+        (Err e)) is sends in
     let less = none.1 in
     let all = reply_length tag r in
     omega arith

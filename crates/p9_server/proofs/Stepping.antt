@@ -29,20 +29,32 @@ same_part s m s1 same = front_part s m s1.tree (unchanged_left s m s1 same).1
 pub not_steady : (steady : Bool) (f0 f1 : ℕ) → steady ≡ false → Steadily steady f0 f1
 not_steady steady f0 f1 is on = absurd (false≢true (sym is ∙ on))
 
-module _ {A : Type 0} (m : Message) (reply : A → Reply) (s0 s1 : ServerState) (steady : Bool) (f0 f1 : ℕ) where
-  pub step_ok : (a : A) → pair (reply a) s1 ≡ answer s0 m → f1 ≡ f0 → IsStep m reply s0 s1 steady f0 f1 (Ok a)
+module _ {A : Type 0} (m : Message) (reply : A → Reply) (s0 s1 : ServerState) (steady : Bool)
+    (f0 f1 : ℕ) where
+  pub step_ok : (a : A) → pair (reply a) s1 ≡ answer s0 m → f1 ≡ f0
+      → IsStep m reply s0 s1 steady f0 f1 (Ok a)
   step_ok a same count = record { answer = inl same; rises = omega arith; steadily = λ on. count }
 
-  pub step_errno : (e : ℕ) → pair (lerror e) s1 ≡ answer s0 m → f1 ≡ f0 → IsStep m reply s0 s1 steady f0 f1 (Err (Errno e))
-  step_errno e same count = record { answer = inl same; rises = omega arith; steadily = λ on. count }
+  pub step_errno : (e : ℕ) → pair (lerror e) s1 ≡ answer s0 m → f1 ≡ f0
+      → IsStep m reply s0 s1 steady f0 f1 (Err (Errno e))
+  step_errno e same count = record { answer = inl same; rises = omega arith; steadily =
+      λ on. count }
 
   -- a refusal that leaves the state
-  pub step_refused : (e : ℕ) → core s0 m ≡ pair (lerror e) s0 → IsKept s0.tree.records (is_held s0.fids) → s1 ≡ s0 → f1 ≡ f0 → IsStep m reply s0 s1 steady f0 f1 (Err (Errno e))
+  pub step_refused : (e : ℕ) → core s0 m ≡ pair (lerror e) s0
+      → IsKept s0.tree.records (is_held s0.fids) → s1 ≡ s0 → f1 ≡ f0
+      → IsStep m reply s0 s1 steady f0 f1 (Err (Errno e))
   step_refused e told kept same count =
-      step_errno e ((λ j. pair (lerror e) (same j)) ∙ (λ j. pair (lerror e) (sym (kept_state_kept s0 kept) j)) ∙ sym (ap (λ (x : Reply × ServerState). pair x.0 (kept_state x.1)) told)) count
+      step_errno e ((λ j. pair (lerror e) (same j))
+          ∙ (λ j. pair (lerror e) (sym (kept_state_kept s0 kept) j))
+          ∙ sym (ap (λ (x : Reply × ServerState). pair x.0 (kept_state x.1)) told)) count
 
-  pub step_fault : IsHurtReply s0 m (lerror EIO) → s1 ≡ s0 → Faulted f0 f1 → steady ≡ false → IsStep m reply s0 s1 steady f0 f1 (Err Fault)
-  step_fault hurt same fault loose = record { answer = inr (fault.1, hurt, same_alone s0 s1 same, same_part s0 m s1 same); rises = fault.0; steadily = not_steady steady f0 f1 loose }
+  pub step_fault : IsHurtReply s0 m (lerror EIO) → s1 ≡ s0 → Faulted f0 f1 → steady ≡ false
+      → IsStep m reply s0 s1 steady f0 f1 (Err Fault)
+  step_fault hurt same fault loose = record { answer =
+      inr (fault.1, hurt, same_alone s0 s1 same, same_part s0 m s1 same); rises =
+      fault.0; steadily = not_steady steady f0 f1 loose }
 
   pub step_no_memory : s1 ≡ s0 → f1 ≡ f0 → IsStep m reply s0 s1 steady f0 f1 (Err NoMemory)
-  step_no_memory same count = record { answer = unchanged_left s0 m s1 same; rises = omega arith; steadily = λ on. count }
+  step_no_memory same count = record { answer = unchanged_left s0 m s1 same; rises =
+      omega arith; steadily = λ on. count }

@@ -1,5 +1,6 @@
 -- The definitions at examples.
-use Rattle.std.proofs.Common.{◌≡◌, ℕ, zero, suc, ◌<◌, lit<, List, [], ◌∷◌, ◌++◌, ◌^◌, ◌-◌, Bool, true, false, cond, not, Option, Some, None, refl, ap}
+use Rattle.std.proofs.Common.{◌≡◌, ℕ, zero, suc, ◌<◌, lit<, List, [], ◌∷◌, ◌++◌, ◌^◌, ◌-◌, Bool}
+use Rattle.std.proofs.Common.{true, false, cond, not, Option, Some, None, refl, ap}
 use Rattle.std.specs.Prelude.{codes, replicate, slice_index}
 use Rattle.std.specs.List.{AllByRecursion}
 use Rattle.std.specs.Str.{is_utf8}
@@ -37,17 +38,20 @@ ascii_at [] h i = lit< tt
 ascii_at (b ∷ bs) h zero = h.0
 ascii_at (b ∷ bs) h (suc i) = ascii_at bs h.1 i
 
-of_text : (name : List ℕ) → is_utf8 name ≡ true → cond {A = Option ℕ} (not (is_utf8 name)) (Some 22) None ≡ None
+of_text : (name : List ℕ) → is_utf8 name ≡ true
+    → cond {A = Option ℕ} (not (is_utf8 name)) (Some 22) None ≡ None
 of_text name is = ap (λ (b : Bool). cond {A = Option ℕ} (not b) (Some 22) None) is
 
 ascii_text : (name : List ℕ) → AllByRecursion (λ b. b < 128) name → is_utf8 name ≡ true
 ascii_text name small = is_utf8-from_IsUtf8 name (IsUtf8-from_ascii name (ascii_at name small))
 
 pub name_word : name_fault (codes "hello") ≡ None
-name_word = of_text (codes "hello") (ascii_text (codes "hello") (lit< tt, (lit< tt, (lit< tt, (lit< tt, (lit< tt, tt))))))
+name_word = of_text (codes "hello") (ascii_text (codes "hello")
+    (lit< tt, (lit< tt, (lit< tt, (lit< tt, (lit< tt, tt))))))
 
 pub name_three_dots : name_fault (codes "...") ≡ None
-name_three_dots = of_text (codes "...") (ascii_text (codes "...") (lit< tt, (lit< tt, (lit< tt, tt))))
+name_three_dots = of_text (codes "...") (ascii_text (codes "...")
+    (lit< tt, (lit< tt, (lit< tt, tt))))
 
 -- ---- paths
 

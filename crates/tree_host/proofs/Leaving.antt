@@ -13,7 +13,9 @@ use Rattle.tree_host.specs.Holds.{Holds, is_held}
 use Rattle.tree_host.specs.Host.{IsHeldIn}
 use Rattle.tree_host.specs.Kept.{tree_from}
 
-module _ (t : Tree) (h : Holds) (g : IsGoodTree t) (s : IsHeldIn t h) (dir : ℕ) (name : List ℕ) (ino : ℕ) (is : lookup_of t dir name ≡ Ok ino) (empty : is_empty_at (body_at t.records ino) ≡ true) where
+module _ (t : Tree) (h : Holds) (g : IsGoodTree t) (s : IsHeldIn t h) (dir : ℕ) (name : List ℕ)
+    (ino : ℕ) (is : lookup_of t dir name ≡ Ok ino)
+    (empty : is_empty_at (body_at t.records ino) ≡ true) where
   abbrev left : Tree
   left = without_entry t dir name ino
 
@@ -23,15 +25,20 @@ module _ (t : Tree) (h : Holds) (g : IsGoodTree t) (s : IsHeldIn t h) (dir : ℕ
   module _ (rs : Records) (made : rs ≡ swept (is_held h) left.records ino) where
     pub unlinked_tree : rs ≡ (keep (is_held h) left).records
     unlinked_tree =
-        made ∙ sym (kept_is_swept (good_is_counted left (is_held h) left_good (without_stored t g dir name ino is empty (is_held h) s.stored)) ino (without_kept t g dir name ino is empty (is_held h) s.kept))
+        made ∙ sym (kept_is_swept (good_is_counted left (is_held h) left_good
+            (without_stored t g dir name ino is empty (is_held h) s.stored)) ino
+            (without_kept t g dir name ino is empty (is_held h) s.kept))
 
     pub gone_good : IsGoodTree (tree_from rs t.next t.limits t.moment)
-    gone_good = subst (λ (rs : Records). IsGoodTree (tree_from rs t.next t.limits t.moment)) (sym unlinked_tree) (keep_good left left_good (is_held h))
+    gone_good = subst (λ (rs : Records). IsGoodTree (tree_from rs t.next t.limits t.moment))
+        (sym unlinked_tree) (keep_good left left_good (is_held h))
 
     pub gone_held : IsHeldIn (tree_from rs t.next t.limits t.moment) h
-    gone_held = subst (λ (rs : Records). IsHeldIn (tree_from rs t.next t.limits t.moment) h) (sym unlinked_tree) (record {
+    gone_held = subst (λ (rs : Records). IsHeldIn (tree_from rs t.next t.limits t.moment) h)
+        (sym unlinked_tree) (record {
       kept = keep_kept left left_good (is_held h);
-      stored = keep_stored left left_good (is_held h) (without_stored t g dir name ino is empty (is_held h) s.stored);
+      stored = keep_stored left left_good (is_held h)
+          (without_stored t g dir name ino is empty (is_held h) s.stored);
       positive = s.positive;
     })
 
@@ -39,5 +46,8 @@ module _ (t : Tree) (h : Holds) (g : IsGoodTree t) (s : IsHeldIn t h) (dir : ℕ
     gone_tree = ap (λ (rs : Records). tree_from rs t.next t.limits t.moment) unlinked_tree
 
 -- what is told of a name that was found and went
-pub told_gone : (held : ℕ → Bool) (t u : Tree) (dir : ℕ) (name : List ℕ) (r : Result ℕ ℕ) (ino : ℕ) → r ≡ Ok ino → u ≡ keep held (without_entry t dir name ino) → removed_at held t dir name r ≡ Ok (tt, u)
-told_gone held t u dir name r ino is made = ap (removed_at held t dir name) is ∙ ap (λ (u : Tree). Ok (tt, u)) (sym made)
+pub told_gone : (held : ℕ → Bool) (t u : Tree) (dir : ℕ) (name : List ℕ) (r : Result ℕ ℕ) (ino : ℕ)
+    → r ≡ Ok ino → u ≡ keep held (without_entry t dir name ino)
+    → removed_at held t dir name r ≡ Ok (tt, u)
+told_gone held t u dir name r ino is made = ap (removed_at held t dir name) is
+    ∙ ap (λ (u : Tree). Ok (tt, u)) (sym made)

@@ -1,5 +1,6 @@
 -- What a host goes by, on a small tree: it follows by computation from what its maps have.
-use Rattle.std.proofs.Common.{◌≡◌, ℕ, ◌+◌, ◌-◌, false, cond, List, [], ◌∷◌, ap, ◌∙◌, Result, Ok, Err, arith, nat_lt}
+use Rattle.std.proofs.Common.{◌≡◌, ℕ, ◌+◌, ◌-◌, false, cond, List, [], ◌∷◌, ap, ◌∙◌, Result, Ok}
+use Rattle.std.proofs.Common.{Err, arith, nat_lt}
 use Rattle.std.specs.Prelude.{codes, unwrap_or}
 use Rattle.std.specs.Ordering.{nat_cmp}
 use Rattle.std.specs.FinMap.{insert, remove, empty, get-empty}
@@ -9,7 +10,9 @@ use Rattle.tree_model.specs.Placing.{with_record, with_link, directory_record}
 use Rattle.tree_model.specs.Attributing.{with_changed}
 use Rattle.tree_model.specs.Finding.{directory_or_not}
 use Rattle.tree_model.proofs.Maps.{inserted, insert_keeps, removed}
-use Rattle.tree_model.proofs.Sampling.{found, looked_up, file_at, b_missing, body_of_top, body_of_file, placed_in_top, named_in_top, top_not_named, too_long as file_too_long}
+use Rattle.tree_model.proofs.Sampling.{found, looked_up, file_at, b_missing, body_of_top}
+use Rattle.tree_model.proofs.Sampling.{body_of_file, placed_in_top, named_in_top, top_not_named}
+use Rattle.tree_model.proofs.Sampling.{too_long as file_too_long}
 use Rattle.tree_model.proofs.Telling.{mode_set}
 use Rattle.tree_host.specs.Holds.{Holds, hold_count, is_held, held_more, held_less}
 use Rattle.tree_host.specs.Walking.{walk_of, walk_parts, part_end}
@@ -40,13 +43,16 @@ abbrev left : Holds → ℕ → Holds
 left h n = cond (nat_lt 1 n) (insert h 2 (n - 1)) (remove h 2)
 
 pub one_left : hold_count (held_less (held_more once 2) 2) 2 ≡ 1
-one_left = ap (λ n. hold_count (left (held_more once 2) n) 2) held_twice ∙ ap (λ o. unwrap_or o 0) (inserted (held_more once 2) 2 1)
+one_left = ap (λ n. hold_count (left (held_more once 2) n) 2) held_twice
+    ∙ ap (λ o. unwrap_or o 0) (inserted (held_more once 2) 2 1)
 
 pub none_left : is_held (held_less once 2) 2 ≡ false
-none_left = ap (λ n. is_held (left once n) 2) held_once ∙ ap (λ o. nat_lt 0 (unwrap_or o 0)) (removed once 2)
+none_left = ap (λ n. is_held (left once n) 2) held_once
+    ∙ ap (λ o. nat_lt 0 (unwrap_or o 0)) (removed once 2)
 
 pub not_held : is_held once 3 ≡ false
-not_held = ap (λ o. nat_lt 0 (unwrap_or o 0)) (insert_keeps empty 2 (hold_count empty 2 + 1) 3 (omega arith) ∙ get-empty {X = ℕ} nat_cmp 3)
+not_held = ap (λ o. nat_lt 0 (unwrap_or o 0))
+    (insert_keeps empty 2 (hold_count empty 2 + 1) 3 (omega arith) ∙ get-empty {X = ℕ} nat_cmp 3)
 
 -- ---- walks
 
@@ -63,20 +69,24 @@ pub to_none : walk_of sample.records (codes "/b") ≡ Err ENOENT
 to_none = ap (rest []) b_missing
 
 pub below_file : walk_of sample.records (codes "/hello/b") ≡ Err ENOTDIR
-below_file = ap (rest (codes "b" ∷ [])) found ∙ ap (λ o. part_end sample.records (looked_up false (codes "b") o)) file_at
+below_file = ap (rest (codes "b" ∷ [])) found
+    ∙ ap (λ o. part_end sample.records (looked_up false (codes "b") o)) file_at
 
 -- ---- changes and additions
 
-pub mode_changed : change_of (Mode 384) sample 2 ≡ Ok (tt, with_changed (changed_by (Mode 384) born) 2 sample)
+pub mode_changed : change_of (Mode 384) sample 2 ≡ Ok
+    (tt, with_changed (changed_by (Mode 384) born) 2 sample)
 mode_changed = mode_set
 
 pub too_long : change_of (Len 9) sample 2 ≡ Err EFBIG
 too_long = file_too_long
 
-pub directory_added : add_of born sample 1 (codes "d") (Dir 493 0 0) ≡ Ok (3, with_record sample 1 (codes "d") (directory_record born 493 0 0 1))
+pub directory_added : add_of born sample 1 (codes "d") (Dir 493 0 0) ≡ Ok
+    (3, with_record sample 1 (codes "d") (directory_record born 493 0 0 1))
 directory_added = placed_in_top (codes "d") (directory_record born 493 0 0 1)
 
-pub name_added : add_of born sample 1 (codes "b") (Hard 2) ≡ Ok (2, with_link sample 1 (codes "b") 2)
+pub name_added : add_of born sample 1 (codes "b") (Hard 2) ≡ Ok
+    (2, with_link sample 1 (codes "b") 2)
 name_added = named_in_top (codes "b")
 
 pub name_there : add_of born sample 1 hello (Hard 2) ≡ Err EEXIST

@@ -1,5 +1,7 @@
 -- The state in which a run begins is good.
-use Rattle.std.proofs.Common.{◌≡◌, ℕ, ◌+◌, ◌<◌, ◌≤◌, Bool, true, false, cond, List, [], ◌∷◌, refl, sym, ap, ◌∙◌, subst, Option, Some, None, Result, Ok, Err, arith, IsSome, ⊎_elim, option_map, is_some}
+use Rattle.std.proofs.Common.{◌≡◌, ℕ, ◌+◌, ◌<◌, ◌≤◌, Bool, true, false, cond, List, [], ◌∷◌, refl}
+use Rattle.std.proofs.Common.{sym, ap, ◌∙◌, subst, Option, Some, None, Result, Ok, Err, arith}
+use Rattle.std.proofs.Common.{IsSome, ⊎_elim, option_map, is_some}
 use Rattle.std.proofs.lemmas.Bool.{cases_eq}
 use Rattle.std.specs.Ordering.{nat_cmp}
 use Rattle.std.specs.Cmp.{nat_cmp_total}
@@ -14,19 +16,26 @@ use Rattle.fuse_wire.specs.declared.protocol.TheConstants.{FUSE_ROOT_ID}
 use Rattle.tree_machine.specs.State.{Node, Handle, begun}
 use Rattle.tree_machine.specs.Good.{IsGoodMachine}
 
-ends_at_directory : (t : Tree) (at : Result ℕ ℕ) (root : ℕ) → walk_end t at ≡ Ok root → is_directory_at (body_at t.records root) ≡ true
+ends_at_directory : (t : Tree) (at : Result ℕ ℕ) (root : ℕ) → walk_end t at ≡ Ok root
+    → is_directory_at (body_at t.records root) ≡ true
 ends_at_directory t (Err e) root h = absurd cc
 ends_at_directory t (Ok i) root h = by_test (is_directory_at (body_at t.records i)) refl h where
-  by_test : (b : Bool) → is_directory_at (body_at t.records i) ≡ b → cond {A = Result ℕ ℕ} b (Ok i) (Err 20) ≡ Ok root → is_directory_at (body_at t.records root) ≡ true
-  by_test true is e = let same : i ≡ root = cc in subst (λ k. is_directory_at (body_at t.records k) ≡ true) same is
+  by_test : (b : Bool) → is_directory_at (body_at t.records i) ≡ b
+      → cond {A = Result ℕ ℕ} b (Ok i) (Err 20) ≡ Ok root
+      → is_directory_at (body_at t.records root) ≡ true
+  by_test true is e = let same : i ≡ root = cc in subst
+      (λ k. is_directory_at (body_at t.records k) ≡ true) same is
   by_test false is e = absurd cc
 
 -- what a path leads to is a directory
-pub root_is_directory : (t : Tree) (names : List (List ℕ)) (at : Result ℕ ℕ) (root : ℕ) → walk_on t at names ≡ Ok root → is_directory_at (body_at t.records root) ≡ true
+pub root_is_directory : (t : Tree) (names : List (List ℕ)) (at : Result ℕ ℕ) (root : ℕ)
+    → walk_on t at names ≡ Ok root → is_directory_at (body_at t.records root) ≡ true
 root_is_directory t [] at root h = ends_at_directory t at root h
-root_is_directory t (name ∷ names) at root h = root_is_directory t names (walk_step t name at) root h
+root_is_directory t (name ∷ names) at root h =
+    root_is_directory t names (walk_step t name at) root h
 
-pub stored_by : (o : Option Record) → is_directory_at (option_map (λ (r : Record). r.body) o) ≡ true → IsSome o
+pub stored_by : (o : Option Record) → is_directory_at (option_map (λ (r : Record). r.body) o) ≡ true
+    → IsSome o
 stored_by None h = h
 stored_by (Some r) h = refl
 
@@ -34,10 +43,14 @@ module _ (s : Settings) (t : Tree) (root : ℕ) where
   abbrev pub root_node : Node
   root_node = record { ino = root; count = 1 }
 
-  pub one_node : (q : ℕ) (n : Node) → get (begun t root).nodes q ≡ Some n → (q ≡ FUSE_ROOT_ID) × (root_node ≡ n)
+  pub one_node : (q : ℕ) (n : Node) → get (begun t root).nodes q ≡ Some n → (q ≡ FUSE_ROOT_ID)
+      × (root_node ≡ n)
   one_node q n at = ⊎_elim
-      (λ equal. (equal, (let one : Some root_node ≡ Some n = sym (inserted empty FUSE_ROOT_ID root_node) ∙ subst (λ k. get (begun t root).nodes k ≡ Some n) equal at in cc)))
-      (λ ne. absurd (let none : None ≡ Some n = sym (get-empty {X = Node} nat_cmp q) ∙ sym (insert_keeps empty FUSE_ROOT_ID root_node q ne) ∙ at in cc))
+      (λ equal. (equal, (let one : Some root_node ≡ Some n =
+          sym (inserted empty FUSE_ROOT_ID root_node)
+          ∙ subst (λ k. get (begun t root).nodes k ≡ Some n) equal at in cc)))
+      (λ ne. absurd (let none : None ≡ Some n = sym (get-empty {X = Node} nat_cmp q)
+          ∙ sym (insert_keeps empty FUSE_ROOT_ID root_node q ne) ∙ at in cc))
       (cases_eq q FUSE_ROOT_ID)
 
   no_handle : (q : ℕ) → get (begun t root).handles q ≡ None
@@ -45,13 +58,19 @@ module _ (s : Settings) (t : Tree) (root : ℕ) where
 
   one_long : len (begun t root).nodes + len (begun t root).handles ≡ 1
   one_long =
-      let nodes : len (begun t root).nodes ≡ 1 = len-insert nat_cmp_total empty FUSE_ROOT_ID root_node ∙ ap (λ (o : Option Node). cond (is_some o) (len (empty {X = Node} {R = nat_cmp})) (len (empty {X = Node} {R = nat_cmp}) + 1)) (get-empty {X = Node} nat_cmp FUSE_ROOT_ID) ∙ ap (λ k. k + 1) (len-empty nat_cmp Node) in
+      let nodes : len (begun t root).nodes ≡ 1 =
+          len-insert nat_cmp_total empty FUSE_ROOT_ID root_node
+          ∙ ap (λ (o : Option Node). cond (is_some o) (len (empty {X = Node} {R = nat_cmp}))
+          (len (empty {X = Node} {R = nat_cmp}) + 1)) (get-empty {X = Node} nat_cmp FUSE_ROOT_ID)
+          ∙ ap (λ k. k + 1) (len-empty nat_cmp Node) in
       let handles : len (begun t root).handles ≡ 0 = len-empty nat_cmp Handle in
       omega (arith, nodes, handles)
 
-  pub begun_good : IsGoodTree t → root_of t s.root ≡ Ok root → 1 ≤ s.limit → IsGoodMachine s (begun t root)
+  pub begun_good : IsGoodTree t → root_of t s.root ≡ Ok root → 1 ≤ s.limit
+      → IsGoodMachine s (begun t root)
   begun_good good found room =
-      let had : IsSome (get t.records root) = stored_by (get t.records root) (root_is_directory t s.root (Ok TOP) root found) in
+      let had : IsSome (get t.records root) =
+          stored_by (get t.records root) (root_is_directory t s.root (Ok TOP) root found) in
       record {
         tree = good;
         root = subst IsSome (sym (inserted empty FUSE_ROOT_ID root_node)) refl;

@@ -1,5 +1,6 @@
 -- OPEN leaves a good state, and is refused by a core request's rule where it is one.
-use Rattle.std.proofs.Common.{◌≡◌, ℕ, ◌+◌, ◌≤◌, Bool, true, false, cond, not, ◌||◌, ◌&&◌, [], ◌∷◌, refl, Option, Some, None, Result, Ok, Err, arith}
+use Rattle.std.proofs.Common.{◌≡◌, ℕ, ◌+◌, ◌≤◌, Bool, true, false, cond, not, ◌||◌, ◌&&◌, [], ◌∷◌}
+use Rattle.std.proofs.Common.{refl, Option, Some, None, Result, Ok, Err, arith}
 use Rattle.std.specs.Prelude.{◌==◌}
 use Rattle.std.proofs.lemmas.Bool.Decides.{nat_tests}
 use borrow.Author.Tests.{eqb-true}
@@ -8,10 +9,13 @@ use Rattle.port_base.specs.OpenFlags.{access, has_flag}
 use Rattle.tree_model.specs.Tree.{Body, body_at, is_directory_at}
 use Rattle.tree_model.specs.Tree.Body.{File, Directory, Link}
 use Rattle.tree_model.specs.Attributes.{kind_of}
-use Rattle.tree_model.specs.Opening.{body_answer, unless, open_refused, open_check_of, opens_to_change}
+use Rattle.tree_model.specs.Opening.{body_answer, unless, open_refused, open_check_of}
+use Rattle.tree_model.specs.Opening.{opens_to_change}
 use Rattle.tree_model.specs.Settings.{Settings}
-use Rattle.port_base.specs.declared.errno.TheConstants.{EEXIST, EINVAL, EISDIR, ELOOP, ENFILE, ENOSYS, ENOTDIR, ESTALE}
-use Rattle.port_base.specs.declared.oflag.TheConstants.{O_ACCMODE, O_APPEND, O_CREAT, O_DIRECTORY, O_EXCL, O_RDONLY, O_RDWR, O_TRUNC, O_WRONLY}
+use Rattle.port_base.specs.declared.errno.TheConstants.{EEXIST, EINVAL, EISDIR, ELOOP, ENFILE}
+use Rattle.port_base.specs.declared.errno.TheConstants.{ENOSYS, ENOTDIR, ESTALE}
+use Rattle.port_base.specs.declared.oflag.TheConstants.{O_ACCMODE, O_APPEND, O_CREAT, O_DIRECTORY}
+use Rattle.port_base.specs.declared.oflag.TheConstants.{O_EXCL, O_RDONLY, O_RDWR, O_TRUNC, O_WRONLY}
 use Rattle.tree_machine.specs.State.{MachineState, Node, Handle, is_at_limit}
 use Rattle.tree_machine.specs.Refusals.{refused_if, refused_unknown, first_refusal}
 use Rattle.tree_machine.specs.Core.{node_ino, opened, open_refusal, link_check}
@@ -25,26 +29,35 @@ both : (a b : Bool) → (a && b) ≡ true → (a ≡ true) × (b ≡ true)
 both true b h = (refl, h)
 both false b h = absurd cc
 
-link_refused : (a b : Bool) (x y z : ℕ) → unless (cond a (Some x) (cond b (Some y) (Some z))) ≡ Ok tt → ⊥
+link_refused : (a b : Bool) (x y z : ℕ) → unless (cond a (Some x) (cond b (Some y) (Some z))) ≡ Ok
+    tt → ⊥
 link_refused true b x y z h = cc
 link_refused false true x y z h = cc
 link_refused false false x y z h = cc
 
 -- what is opened, and is no directory, is a file
-pub opened_is_file : (o : Option Body) (flags : ℕ) (h : Handle) → is_directory_at o ≡ false → body_answer (λ b. unless (open_refused flags (kind_of b))) o ≡ Ok tt → IsOpenable o h
+pub opened_is_file : (o : Option Body) (flags : ℕ) (h : Handle) → is_directory_at o ≡ false
+    → body_answer (λ b. unless (open_refused flags (kind_of b))) o ≡ Ok tt → IsOpenable o h
 opened_is_file None flags h plain ok = cc
 opened_is_file (Some (File bytes)) flags h plain ok = tt
 opened_is_file (Some (Directory es next above)) flags h plain ok = absurd cc
-opened_is_file (Some (Link target)) flags h plain ok = link_refused (access flags == 3) (has_flag O_CREAT flags && has_flag O_EXCL flags) EINVAL EEXIST ELOOP ok
+opened_is_file (Some (Link target)) flags h plain ok =
+    link_refused (access flags == 3) (has_flag O_CREAT flags && has_flag O_EXCL flags) EINVAL EEXIST
+    ELOOP ok
 
 -- opened to be read, each body is refused as a link is
-file_opened : (a c e d : Bool) → a ≡ false → c ≡ false → d ≡ false → unless (cond a (Some EINVAL) (cond (c && e) (Some EEXIST) (cond d (Some ENOTDIR) None))) ≡ Ok tt
+file_opened : (a c e d : Bool) → a ≡ false → c ≡ false → d ≡ false
+    → unless (cond a (Some EINVAL) (cond (c && e) (Some EEXIST) (cond d (Some ENOTDIR) None))) ≡ Ok
+    tt
 file_opened a c e d no_access no_create no_directory = rw (no_access, no_create, no_directory) refl
 
-directory_opened : (a c e w : Bool) → a ≡ false → c ≡ false → w ≡ false → unless (cond a (Some EINVAL) (cond (c && e) (Some EEXIST) (cond w (Some EISDIR) None))) ≡ Ok tt
+directory_opened : (a c e w : Bool) → a ≡ false → c ≡ false → w ≡ false
+    → unless (cond a (Some EINVAL) (cond (c && e) (Some EEXIST) (cond w (Some EISDIR) None))) ≡ Ok
+    tt
 directory_opened a c e w no_access no_create no_change = rw (no_access, no_create, no_change) refl
 
-link_opened : (a c e : Bool) → a ≡ false → c ≡ false → unless (cond a (Some EINVAL) (cond (c && e) (Some EEXIST) (Some ELOOP))) ≡ Err ELOOP
+link_opened : (a c e : Bool) → a ≡ false → c ≡ false
+    → unless (cond a (Some EINVAL) (cond (c && e) (Some EEXIST) (Some ELOOP))) ≡ Err ELOOP
 link_opened a c e no_access no_create = rw (no_access, no_create) refl
 
 pub record ToRead (flags : ℕ) : Type 0 where
@@ -55,9 +68,12 @@ pub record ToRead (flags : ℕ) : Type 0 where
 
 pub to_read : (flags : ℕ) → opens_to_read flags ≡ true → ToRead flags
 to_read flags h =
-    let parts = both (access flags == O_RDONLY) (not (has_flag O_CREAT flags || has_flag O_TRUNC flags || has_flag O_DIRECTORY flags)) h in
-    let none = no_three (has_flag O_CREAT flags) (has_flag O_TRUNC flags) (has_flag O_DIRECTORY flags) parts.1 in
-    record { access = eqb-true (access flags) O_RDONLY parts.0; create = none.0; truncate = none.1; directory = none.2 }
+    let parts = both (access flags == O_RDONLY)
+        (not (has_flag O_CREAT flags || has_flag O_TRUNC flags || has_flag O_DIRECTORY flags)) h in
+    let none = no_three (has_flag O_CREAT flags) (has_flag O_TRUNC flags)
+        (has_flag O_DIRECTORY flags) parts.1 in
+    record { access = eqb-true (access flags) O_RDONLY parts.0; create = none.0; truncate =
+        none.1; directory = none.2 }
   where
     no_three : (c t d : Bool) → not (c || t || d) ≡ true → (c ≡ false) × (t ≡ false) × (d ≡ false)
     no_three false false false h = (refl, refl, refl)
@@ -68,42 +84,65 @@ to_read flags h =
 other : (flags k : ℕ) → access flags ≡ 0 → 1 ≤ k → (access flags == k) ≡ false
 other flags k zero_is some = grind (arith, nat_tests)
 
-pub checked_alike : (flags : ℕ) → opens_to_read flags ≡ true → (o : Option Body) → body_answer (λ b. unless (open_refused flags (kind_of b))) o ≡ link_check o
+pub checked_alike : (flags : ℕ) → opens_to_read flags ≡ true → (o : Option Body)
+    → body_answer (λ b. unless (open_refused flags (kind_of b))) o ≡ link_check o
 checked_alike flags h None = refl
 checked_alike flags h (Some (File bytes)) =
     let r = to_read flags h in
-    file_opened (access flags == O_ACCMODE) (has_flag O_CREAT flags) (has_flag O_EXCL flags) (has_flag O_DIRECTORY flags) (other flags 3 r.access (omega arith)) r.create r.directory
+    file_opened (access flags == O_ACCMODE) (has_flag O_CREAT flags) (has_flag O_EXCL flags)
+        (has_flag O_DIRECTORY flags) (other flags 3 r.access (omega arith)) r.create r.directory
 checked_alike flags h (Some (Directory es next above)) =
     let r = to_read flags h in
-    directory_opened (access flags == O_ACCMODE) (has_flag O_CREAT flags) (has_flag O_EXCL flags) (opens_to_change flags) (other flags 3 r.access (omega arith)) r.create
-    (no_change (access flags == O_WRONLY) (access flags == O_RDWR) (has_flag O_TRUNC flags) (has_flag O_CREAT flags) (other flags 1 r.access (omega arith)) (other flags 2 r.access (omega arith)) r.truncate r.create)
+    directory_opened (access flags == O_ACCMODE) (has_flag O_CREAT flags) (has_flag O_EXCL flags)
+        (opens_to_change flags) (other flags 3 r.access (omega arith)) r.create
+    (no_change (access flags == O_WRONLY) (access flags == O_RDWR) (has_flag O_TRUNC flags)
+        (has_flag O_CREAT flags) (other flags 1 r.access (omega arith))
+        (other flags 2 r.access (omega arith)) r.truncate r.create)
   where
-    no_change : (w b t c : Bool) → w ≡ false → b ≡ false → t ≡ false → c ≡ false → (w || b || t || c) ≡ false
+    no_change : (w b t c : Bool) → w ≡ false → b ≡ false → t ≡ false → c ≡ false
+        → (w || b || t || c) ≡ false
     no_change w b t c no_w no_b no_t no_c = rw (no_w, no_b, no_t, no_c) refl
 checked_alike flags h (Some (Link target)) =
     let r = to_read flags h in
-    link_opened (access flags == O_ACCMODE) (has_flag O_CREAT flags) (has_flag O_EXCL flags) (other flags 3 r.access (omega arith)) r.create
+    link_opened (access flags == O_ACCMODE) (has_flag O_CREAT flags) (has_flag O_EXCL flags)
+        (other flags 3 r.access (omega arith)) r.create
 
 module _ (s : Settings) (m : MachineState) (g : IsGoodMachine s m) where
-  pub opened_good : (flags ino : ℕ) → access flags ≡ 0 → is_at_limit s m ≡ false → is_directory_at (body_at m.tree.records ino) ≡ false
-      → (r : Result (Unit {0}) ℕ) → open_check_of m.tree ino flags ≡ r → Gives s (opened m ino flags r)
+  pub opened_good : (flags ino : ℕ) → access flags ≡ 0 → is_at_limit s m ≡ false
+      → is_directory_at (body_at m.tree.records ino) ≡ false
+      → (r : Result (Unit {0}) ℕ) → open_check_of m.tree ino flags ≡ r
+          → Gives s (opened m ino flags r)
   opened_good flags ino to_read open_limit plain (Err e) told = kept_good s m g
   opened_good flags ino to_read open_limit plain (Ok tt) told =
-      let v : Handle = record { ino = ino; access = access flags; append = has_flag O_APPEND flags } in
+      let v : Handle = record { ino = ino; access = access flags; append = has_flag O_APPEND flags }
+          in
       kept_good s (record m { handles = insert m.handles m.next v; next = m.next + 1 })
-      (handle_drawn s m g v (omega (arith, to_read)) (opened_is_file (body_at m.tree.records ino) flags v plain told) open_limit)
+      (handle_drawn s m g v (omega (arith, to_read))
+          (opened_is_file (body_at m.tree.records ino) flags v plain told) open_limit)
 
-  pub open_good : (flags : ℕ) (o : Option Node) → first_refusal (refused_if (not (opens_to_read flags)) ENOSYS ∷ open_refusal s m o ∷ []) ≡ None
+  pub open_good : (flags : ℕ) (o : Option Node)
+      → first_refusal (refused_if (not (opens_to_read flags)) ENOSYS ∷ open_refusal s m o ∷ [])
+      ≡ None
       → Gives s (opened m (node_ino o) flags (open_check_of m.tree (node_ino o) flags))
   open_good flags o none =
-      let served = passes (refused_if (not (opens_to_read flags)) ENOSYS) (open_refusal s m o ∷ []) none in
+      let served = passes (refused_if (not (opens_to_read flags)) ENOSYS) (open_refusal s m o ∷ [])
+          none in
       let rest = passes (open_refusal s m o) [] served.1 in
-      let known = passes (refused_unknown o ESTALE) (refused_if (is_at_limit s m) ENFILE ∷ refused_if (is_directory_at (body_at m.tree.records (node_ino o))) EISDIR ∷ []) rest.0 in
-      let below = passes (refused_if (is_at_limit s m) ENFILE) (refused_if (is_directory_at (body_at m.tree.records (node_ino o))) EISDIR ∷ []) known.1 in
-      let plain = passes (refused_if (is_directory_at (body_at m.tree.records (node_ino o))) EISDIR) [] below.1 in
-      let read = is_true (opens_to_read flags) (fails (not (opens_to_read flags)) ENOSYS served.0) in
-      opened_good flags (node_ino o) (to_read flags read).access (fails (is_at_limit s m) ENFILE below.0)
-      (fails (is_directory_at (body_at m.tree.records (node_ino o))) EISDIR plain.0) (open_check_of m.tree (node_ino o) flags) refl
+      let known = passes (refused_unknown o ESTALE)
+          (refused_if (is_at_limit s m) ENFILE
+          ∷ refused_if (is_directory_at (body_at m.tree.records (node_ino o))) EISDIR ∷ []) rest.0
+          in
+      let below = passes (refused_if (is_at_limit s m) ENFILE)
+          (refused_if (is_directory_at (body_at m.tree.records (node_ino o))) EISDIR ∷ []) known.1
+          in
+      let plain = passes (refused_if (is_directory_at (body_at m.tree.records (node_ino o))) EISDIR)
+          [] below.1 in
+      let read = is_true (opens_to_read flags) (fails (not (opens_to_read flags)) ENOSYS served.0)
+          in
+      opened_good flags (node_ino o) (to_read flags read).access
+          (fails (is_at_limit s m) ENFILE below.0)
+      (fails (is_directory_at (body_at m.tree.records (node_ino o))) EISDIR plain.0)
+          (open_check_of m.tree (node_ino o) flags) refl
     where
       is_true : (b : Bool) → not b ≡ false → b ≡ true
       is_true true h = refl

@@ -1,5 +1,6 @@
 -- The pairs of a batch, one after another.
-use Rattle.std.proofs.Common.{◌≡◌, ℕ, ◌-◌, ◌<◌, ◌≤◌, List, [], ◌∷◌, length, take, drop, sym, ap, ◌∙◌, arith}
+use Rattle.std.proofs.Common.{◌≡◌, ℕ, ◌-◌, ◌<◌, ◌≤◌, List, [], ◌∷◌, length, take, drop, sym, ap}
+use Rattle.std.proofs.Common.{◌∙◌, arith}
 use Rattle.std.specs.Prelude.{◌/◌, map as each}
 use Rattle.std.specs.Simd.{first_chunks}
 use Rattle.std.proofs.lemmas.List.{length-drop}
@@ -13,7 +14,10 @@ no_pair bytes short =
     let none : length bytes / 16 ≡ 0 = div-eq_of_lt short in
     ap (λ k. each pair_of (first_chunks 16 k bytes)) none
 
-pub one_pair : (bytes : List ℕ) → 16 ≤ length bytes → pairs_of bytes ≡ pair_of (take 16 bytes) ∷ pairs_of (drop 16 bytes)
+pub one_pair : (bytes : List ℕ) → 16 ≤ length bytes → pairs_of bytes ≡ pair_of (take 16 bytes)
+    ∷ pairs_of (drop 16 bytes)
 one_pair bytes long =
-    ap (λ k. each pair_of (first_chunks 16 k bytes)) (div_more (length bytes) 16 (omega arith) long ∙ add-one ((length bytes - 16) / 16))
-    ∙ ap (λ (n : ℕ). pair_of (take 16 bytes) ∷ each pair_of (first_chunks 16 (n / 16) (drop 16 bytes))) (sym (length-drop 16 bytes))
+    ap (λ k. each pair_of (first_chunks 16 k bytes))
+        (div_more (length bytes) 16 (omega arith) long ∙ add-one ((length bytes - 16) / 16))
+    ∙ ap (λ (n : ℕ). pair_of (take 16 bytes) ∷ each pair_of
+        (first_chunks 16 (n / 16) (drop 16 bytes))) (sym (length-drop 16 bytes))

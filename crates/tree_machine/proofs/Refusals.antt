@@ -2,7 +2,8 @@
 use Rattle.std.proofs.Common.{◌≡◌, ℕ, Bool, true, false, List, ◌∷◌, refl, Option, Some, None}
 use Rattle.tree_machine.specs.Refusals.{refused_if, first_refusal}
 
-pub passes : (o : Option ℕ) (more : List (Option ℕ)) → first_refusal (o ∷ more) ≡ None → (o ≡ None) × (first_refusal more ≡ None)
+pub passes : (o : Option ℕ) (more : List (Option ℕ)) → first_refusal (o ∷ more) ≡ None → (o ≡ None)
+    × (first_refusal more ≡ None)
 passes None more none = (refl, none)
 passes (Some e) more none = absurd cc
 

@@ -3,7 +3,8 @@ use Rattle.std.proofs.Common.{◌≡◌, ℕ, List, [], ◌∷◌, None, Result,
 use Rattle.std.specs.FinMap.{get, remove}
 use Rattle.tree_model.specs.Settings.{Settings}
 use Rattle.fuse_wire.specs.Head.{head_of}
-use Rattle.fuse_wire.specs.Request.{Request, init, lookup, getattr, open_file, read, flush, release, forget, batch_forget}
+use Rattle.fuse_wire.specs.Request.{Request, init, lookup, getattr, open_file, read, flush, release}
+use Rattle.fuse_wire.specs.Request.{forget, batch_forget}
 use Rattle.tree_machine.specs.State.{MachineState}
 use Rattle.tree_machine.specs.State.Phase.{Started}
 use Rattle.tree_machine.specs.Requests.{refusal_before, effect_of, answer_of}
@@ -25,32 +26,44 @@ module _ (s : Settings) where
     begins = record {
       tree = g.tree;
       root = g.root;
-      nodes = λ id n at. let old = g.nodes id n at in record { positive = old.positive; drawn = old.drawn; counted = old.counted; stored = old.stored };
-      handles = λ id h at. let old = g.handles id h at in record { positive = old.positive; drawn = old.drawn; access = old.access; openable = old.openable };
+      nodes = λ id n at. let old = g.nodes id n at in record
+          { positive = old.positive; drawn = old.drawn; counted = old.counted; stored =
+          old.stored };
+      handles = λ id h at. let old = g.handles id h at in record
+          { positive = old.positive; drawn = old.drawn; access = old.access; openable =
+          old.openable };
       apart = g.apart;
       once = g.once;
       next = g.next;
       within = g.within;
     }
 
-    effect_good : (node : ℕ) (r : Request) → refusal_before s m node r ≡ None → Gives s (effect_of s m node r)
-    effect_good node (init major minor max_readahead flags) none = kept_good s (record m { phase = Started }) begins
+    effect_good : (node : ℕ) (r : Request) → refusal_before s m node r ≡ None
+        → Gives s (effect_of s m node r)
+    effect_good node (init major minor max_readahead flags) none =
+        kept_good s (record m { phase = Started }) begins
     effect_good node (lookup name) none = lookup_good s m g name (get m.nodes node) none
     effect_good node (getattr handle) none = kept_good s m g
     effect_good node (open_file flags) none = open_good s m g flags (get m.nodes node) none
     effect_good node (read fh offset size flags lock) none = kept_good s m g
     effect_good node (flush fh) none = kept_good s m g
-    effect_good node (release fh) none = kept_good s (record m { handles = remove m.handles fh }) (handle_gone s m g fh)
-    effect_good node (forget number) none = kept_good s (forgotten m node number) (forgotten_good s m g node number)
-    effect_good node (batch_forget pairs) none = kept_good s (all_forgotten m (pairs_of pairs)) (all_forgotten_good s m g (pairs_of pairs))
+    effect_good node (release fh) none = kept_good s (record m { handles = remove m.handles fh })
+        (handle_gone s m g fh)
+    effect_good node (forget number) none = kept_good s (forgotten m node number)
+        (forgotten_good s m g node number)
+    effect_good node (batch_forget pairs) none =
+        kept_good s (all_forgotten m (pairs_of pairs)) (all_forgotten_good s m g (pairs_of pairs))
 
     pub answer_good : (node : ℕ) (r : Result Request ℕ) → Gives s (answer_of s m node r)
     answer_good node (Err e) = kept_good s m g
-    answer_good node (Ok r) = refused_or_good s m g (refusal_before s m node r) (effect_of s m node r) (effect_good node r)
+    answer_good node (Ok r) = refused_or_good s m g (refusal_before s m node r)
+        (effect_of s m node r) (effect_good node r)
 
-  pub step_good : (m : MachineState) (frame : List ℕ) → IsGoodMachine s m → IsGoodMachine s (step s m frame).1
+  pub step_good : (m : MachineState) (frame : List ℕ) → IsGoodMachine s m
+      → IsGoodMachine s (step s m frame).1
   step_good m frame g = answer_good m g (head_of frame).nodeid (request_in_turn m.phase frame)
 
-  pub play_good : (m : MachineState) (frames : List (List ℕ)) → IsGoodMachine s m → IsGoodMachine s (play_from s m frames).1
+  pub play_good : (m : MachineState) (frames : List (List ℕ)) → IsGoodMachine s m
+      → IsGoodMachine s (play_from s m frames).1
   play_good m [] g = g
   play_good m (f ∷ fs) g = play_good (step s m f).1 fs (step_good m f g)

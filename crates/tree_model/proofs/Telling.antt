@@ -1,5 +1,6 @@
 -- What is told of a small tree, and the modes, owners and times that are set in it.
-use Rattle.std.proofs.Common.{◌≡◌, ℕ, true, [], ◌∷◌, ap, ◌∙◌, Option, Some, None, Result, Ok, Err, arith}
+use Rattle.std.proofs.Common.{◌≡◌, ℕ, true, [], ◌∷◌, ap, ◌∙◌, Option, Some, None, Result, Ok, Err}
+use Rattle.std.proofs.Common.{arith}
 use Rattle.std.specs.Prelude.{codes, option_map, unwrap_or}
 use Rattle.std.specs.Ordering.{nat_cmp}
 use Rattle.std.specs.FinMap.{insert, empty, get-empty}
@@ -9,10 +10,13 @@ use Rattle.tree_model.specs.Finding.{find, root_of, directory_or_not, walk_end}
 use Rattle.tree_model.specs.Reading.{above, above_of, next_cookie_of}
 use Rattle.tree_model.specs.Making.{next_cookie, unless_refused}
 use Rattle.tree_model.specs.Settings.{mapped}
-use Rattle.tree_model.specs.Attributing.{refused_at, refused_for_link, never, with_changed, set_mode_of, remoded, set_owner_of, owned_by, touch_ctime_of, restamped}
+use Rattle.tree_model.specs.Attributing.{refused_at, refused_for_link, never, with_changed}
+use Rattle.tree_model.specs.Attributing.{set_mode_of, remoded, set_owner_of, owned_by}
+use Rattle.tree_model.specs.Attributing.{touch_ctime_of, restamped}
 use Rattle.tree_model.specs.Samples.{born, hello, sample}
 use Rattle.tree_model.proofs.Maps.{inserted}
-use Rattle.tree_model.proofs.Sampling.{looked_up, top_at, nothing_else, found, body_of_top, body_of_file, b_missing}
+use Rattle.tree_model.proofs.Sampling.{looked_up, top_at, nothing_else, found, body_of_top}
+use Rattle.tree_model.proofs.Sampling.{body_of_file, b_missing}
 
 -- ---- names
 
@@ -49,7 +53,8 @@ owner_stays = ap (λ (o : Option ℕ). unwrap_or o 5) (get-empty {X = ℕ} nat_c
 
 -- nothing stands at inode 3
 none_there : body_at sample.records 3 ≡ None
-none_there = ap (option_map (λ (r : Record). r.body)) (nothing_else 3 (λ h. absurd (omega (arith, h))) (λ h. absurd (omega (arith, h))))
+none_there = ap (option_map (λ (r : Record). r.body))
+    (nothing_else 3 (λ h. absurd (omega (arith, h))) (λ h. absurd (omega (arith, h))))
 
 -- a change of an inode, by what stands there and refuses it
 abbrev set : (Record → Record) → ℕ → (Body → Option ℕ) → Option Body → Result (Unit {0} × Tree) ℕ
@@ -61,7 +66,8 @@ mode_set = ap (set (remoded 384 born) 2 refused_for_link) body_of_file
 pub mode_missing : set_mode_of sample 3 384 ≡ Err ENOENT
 mode_missing = ap (set (remoded 384 born) 3 refused_for_link) none_there
 
-pub owner_set : set_owner_of sample 2 None (Some 8) ≡ Ok (tt, with_changed (owned_by None (Some 8) born) 2 sample)
+pub owner_set : set_owner_of sample 2 None (Some 8) ≡ Ok
+    (tt, with_changed (owned_by None (Some 8) born) 2 sample)
 owner_set = ap (set (owned_by None (Some 8) born) 2 never) body_of_file
 
 pub owner_missing : set_owner_of sample 3 None None ≡ Err ENOENT

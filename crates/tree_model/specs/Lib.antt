@@ -15,3 +15,4 @@ pub mod Unlinking
 pub mod Creating
 pub mod Renaming
 pub mod Chains
+pub mod Pages

@@ -8,5 +8,6 @@ use Rattle.libmount.specs.Rows.{fields_of, optional_at, row, row_of, text_at}
 use Rattle.libmount.proofs.laws.worked_row.Goals as goal
 
 pub returns : goal.returns
-unfolding cut has_escape decoded digits_value number_at number_field number_of field_at fields_of optional_at row row_of text_at
+unfolding cut has_escape decoded digits_value number_at number_field number_of field_at fields_of
+    optional_at row row_of text_at
 returns c = refl

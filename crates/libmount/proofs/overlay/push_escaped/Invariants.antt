@@ -4,4 +4,5 @@ use Rattle.libmount.specs.BuilderTexts.{escaped_byte}
 use Rattle.libmount.proofs.overlay.push_escaped.Given as goal
 
 abbrev pub invariant-loop-byte : goal.invariant-loop-byte
-invariant-loop-byte l = l.out.items ≡ l.initial.out.items ++ flat_map escaped_byte (take l.byte-index l.path)
+invariant-loop-byte l = l.out.items ≡ l.initial.out.items
+    ++ flat_map escaped_byte (take l.byte-index l.path)

@@ -6,7 +6,8 @@ use Rattle.libmount.specs.Parts.{parts}
 use Rattle.libmount.proofs.remount.flags_from.Given as goal
 
 abbrev pub invariant-lines : goal.invariant-lines
-invariant-lines l = flags_in l.path l.content ≡ or_none (slice_get (verdicts l.path (option_copied l.rest)) 0)
+invariant-lines l = flags_in l.path l.content ≡ or_none
+    (slice_get (verdicts l.path (option_copied l.rest)) 0)
 
 abbrev pub decreases-lines : goal.decreases-lines
 decreases-lines l = length (parts line_feed (option_copied l.rest))

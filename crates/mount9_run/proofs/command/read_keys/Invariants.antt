@@ -5,4 +5,5 @@ use Rattle.mount9_run.specs.CommandViews.{draft_view}
 use Rattle.mount9_run.proofs.command.read_keys.Given as goal
 
 abbrev pub invariant-words : goal.invariant-words
-invariant-words l = with_words no_words (drop 1 l.words) ≡ with_words (draft_view l.draft) (drop l.i l.words)
+invariant-words l = with_words no_words (drop 1 l.words) ≡ with_words (draft_view l.draft)
+    (drop l.i l.words)

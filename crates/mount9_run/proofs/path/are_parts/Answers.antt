@@ -6,4 +6,6 @@ use Rattle.mount9_run.specs.Paths.{is_part}
 use Rattle.mount9_run.proofs.path.are_parts.Goals as goal
 
 pub returns : goal.returns
-returns c = all_from_yields_List is_part _ _ _ c.all.ensures.ran (YieldsList-from_slice_split _ _ c.args.path.now c.split.ensures.rest c.split.ensures.done c.split.ensures.closure (λ x r q k. search (rules, tests))) (λ x b q k. search (rules, tests))
+returns c = all_from_yields_List is_part _ _ _ c.all.ensures.ran
+    (YieldsList-from_slice_split _ _ c.args.path.now c.split.ensures.rest c.split.ensures.done
+    c.split.ensures.closure (λ x r q k. search (rules, tests))) (λ x b q k. search (rules, tests))

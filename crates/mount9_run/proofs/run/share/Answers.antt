@@ -17,7 +17,10 @@ returns-clause-shares g c =
     let h = c.pump-told.ensures.pumps in
     let at = c.in-Ok.ensures.host in
     let last = c.into_host-host.result in
-    subst (λ (x : TreeHost). Shares (share_view c.args.words.now) (tree x) (g.S.Source.left c.args.input.now) (g.S.Source.faults c.args.input.now) (g.S.Source.faults c.pump-told.new.input) c.pump-told.new.out.bytes.items (tree last) c.pump-told.result) at
+    subst (λ (x : TreeHost). Shares (share_view c.args.words.now) (tree x)
+        (g.S.Source.left c.args.input.now) (g.S.Source.faults c.args.input.now)
+        (g.S.Source.faults c.pump-told.new.input) c.pump-told.new.out.bytes.items (tree last)
+        c.pump-told.result) at
     (Shares-from (share_view c.args.words.now) _ _
     (ap (λ (s : ServerState). s.settings) c.in-Ok.ensures.state ∙ c.requires.settings)
     (ap (λ (s : ServerState). s.msize) c.in-Ok.ensures.state ∙ c.requires.msize)
@@ -33,7 +36,10 @@ returns-clause-takes g c = λ ok.
     let at = c.in-Ok.ensures.host in
     let last = c.into_host-host.result in
     let e = ok_of _ ok in
-    subst (λ (x : TreeHost). IfSome (g.S.Source.left c.args.input.now) (λ bytes. Took (served_taken (share_view c.args.words.now) (root_given (share_view c.args.words.now) (linked (tree x))) bytes) (g.S.Source.left c.args.input.now) (g.S.Source.left c.pump-told.new.input))) at
+    subst (λ (x : TreeHost). IfSome (g.S.Source.left c.args.input.now)
+        (λ bytes. Took (served_taken (share_view c.args.words.now)
+        (root_given (share_view c.args.words.now) (linked (tree x))) bytes)
+        (g.S.Source.left c.args.input.now) (g.S.Source.left c.pump-told.new.input))) at
     (took_by (share_view c.args.words.now) _ _
     (ap (λ (s : ServerState). s.settings) c.in-Ok.ensures.state ∙ c.requires.settings)
     (ap (λ (s : ServerState). s.msize) c.in-Ok.ensures.state ∙ c.requires.msize)
@@ -43,4 +49,5 @@ returns-clause-takes g c = λ ok.
     h.outcome e.0 e.1)
 
 pub returns-clause-ended : goal.returns-clause-ended
-returns-clause-ended g c = at_end _ _ _ _ c.args.words.now.turns c.pump-told.result c.pump-told.ensures.pumps.outcome
+returns-clause-ended g c = at_end _ _ _ _ c.args.words.now.turns c.pump-told.result
+    c.pump-told.ensures.pumps.outcome

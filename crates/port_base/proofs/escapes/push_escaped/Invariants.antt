@@ -4,4 +4,5 @@ use Rattle.port_base.specs.Escapes.{escaped_byte}
 use Rattle.port_base.proofs.escapes.push_escaped.Given as goal
 
 abbrev pub invariant-loop-byte : goal.invariant-loop-byte
-invariant-loop-byte l = l.out.items ≡ l.initial.out.items ++ flat_map escaped_byte (take l.byte-index l.bytes)
+invariant-loop-byte l = l.out.items ≡ l.initial.out.items
+    ++ flat_map escaped_byte (take l.byte-index l.bytes)

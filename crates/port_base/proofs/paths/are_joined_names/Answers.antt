@@ -7,4 +7,7 @@ use Rattle.port_base.specs.Names.{name_fault}
 use Rattle.port_base.proofs.paths.are_joined_names.Goals as goal
 
 pub returns : goal.returns
-returns c = all_from_yields_List (λ (part : List ℕ). is_none (name_fault part)) _ _ _ c.all.ensures.ran (YieldsList-from_slice_split _ _ c.args.path.now c.split.ensures.rest c.split.ensures.done c.split.ensures.closure (λ x r q k. search (rules, tests))) (λ x b q k. search (rules, tests))
+returns c = all_from_yields_List (λ (part : List ℕ). is_none (name_fault part)) _ _ _
+    c.all.ensures.ran (YieldsList-from_slice_split _ _ c.args.path.now c.split.ensures.rest
+    c.split.ensures.done c.split.ensures.closure (λ x r q k. search (rules, tests)))
+    (λ x b q k. search (rules, tests))

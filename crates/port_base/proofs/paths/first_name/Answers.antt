@@ -10,8 +10,12 @@ pub returns-then-is_name : goal.returns-then-is_name
 returns-then-is_name c =
     let e = c.first_part.ensures in
     let some : 0 < length c.parts.rest.now = grind (arith, nat_tests) in
-    let shorter = rest-shorter _ _ e.rest some in
-    (c.parts.invariant.same ∙ names-name _ _ _ e.part e.rest (sym c.is_name.ensures ∙ c.if-is_name.true), omega (arith, shorter, c.parts.invariant.shorter))
+    let shorter = rest-shorter _ _ e.rest some in (
+      c.parts.invariant.same ∙ names-name _ _ _ e.part e.rest
+          (sym c.is_name.ensures ∙ c.if-is_name.true),
+      omega
+          (arith, shorter, c.parts.invariant.shorter),
+    )
 
 pub parts-preserved : goal.parts-preserved
 parts-preserved c =
@@ -19,7 +23,8 @@ parts-preserved c =
     let some : 0 < length c.parts.rest.now = grind (arith, nat_tests) in
     let shorter = rest-shorter _ _ e.rest some in
     record {
-      same = c.parts.invariant.same ∙ names-pass _ _ _ e.part e.rest (sym c.is_name.ensures ∙ c.if-is_name.false);
+      same = c.parts.invariant.same ∙ names-pass _ _ _ e.part e.rest
+          (sym c.is_name.ensures ∙ c.if-is_name.false);
       shorter = omega (arith, shorter, c.parts.invariant.shorter);
     }
 

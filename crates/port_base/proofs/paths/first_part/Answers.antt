@@ -5,10 +5,12 @@ use Rattle.port_base.proofs.PathParts.{before-some, after-some, before-none, aft
 use Rattle.port_base.proofs.paths.first_part.Goals as goal
 
 pub returns-in-Some-clause-part : goal.returns-in-Some-clause-part
-returns-in-Some-clause-part c = before-some is_slash c.args.path.now c.in-Some.at (sym c.in-Some.ensures)
+returns-in-Some-clause-part c = before-some is_slash c.args.path.now c.in-Some.at
+    (sym c.in-Some.ensures)
 
 pub returns-in-Some-clause-rest : goal.returns-in-Some-clause-rest
-returns-in-Some-clause-rest c = after-some is_slash c.args.path.now c.in-Some.at (sym c.in-Some.ensures)
+returns-in-Some-clause-rest c = after-some is_slash c.args.path.now c.in-Some.at
+    (sym c.in-Some.ensures)
 
 pub returns-in-None-clause-part : goal.returns-in-None-clause-part
 returns-in-None-clause-part c = before-none is_slash c.args.path.now (sym c.in-None.ensures)

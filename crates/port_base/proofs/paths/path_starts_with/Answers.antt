@@ -8,5 +8,7 @@ use Rattle.port_base.proofs.paths.path_starts_with.Goals as goal
 pub returns : goal.returns
 unfolding path_starts_with
 returns c =
-    c.is_some.ensures ∙ sym (is_some-map components_left c.strip.result) ∙ ap is_some c.strip.ensures
-    ∙ (rw (c.new.ensures, c.new-2.ensures) (strip-starts (components c.args.path.now) (components c.args.base.now)))
+    c.is_some.ensures ∙ sym (is_some-map components_left c.strip.result)
+    ∙ ap is_some c.strip.ensures
+    ∙ (rw (c.new.ensures, c.new-2.ensures) (strip-starts (components c.args.path.now)
+    (components c.args.base.now)))

@@ -1,7 +1,8 @@
 -- By what stands there.
 use Rattle.std.specs.Prelude.{codes}
 use Rattle.tree_model.specs.declared.attributes.TimeSet.TheVariants.{Keep, Now, At}
-use Rattle.tree_model.proofs.Sampling.{too_long, no_file, write_file, write_top, write_none, time_file}
+use Rattle.tree_model.proofs.Sampling.{too_long, no_file, write_file, write_top, write_none}
+use Rattle.tree_model.proofs.Sampling.{time_file}
 use Rattle.tree_model.proofs.examples.changing.Goals as goal
 
 pub returns-clause-long : goal.returns-clause-long

@@ -1,5 +1,6 @@
 -- By what stands there.
-use Rattle.tree_model.proofs.Sampling.{read_file, read_top, file_no_link, after_none, after_first, in_no_directory}
+use Rattle.tree_model.proofs.Sampling.{read_file, read_top, file_no_link, after_none, after_first}
+use Rattle.tree_model.proofs.Sampling.{in_no_directory}
 use Rattle.tree_model.proofs.examples.reading.Goals as goal
 
 pub returns-clause-middle : goal.returns-clause-middle

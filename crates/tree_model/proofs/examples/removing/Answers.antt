@@ -1,5 +1,6 @@
 -- By what stands in the top directory.
-use Rattle.tree_model.proofs.Sampling.{alone_goes, sample_stays, file_not_removed, none_removed, none_removed_below}
+use Rattle.tree_model.proofs.Sampling.{alone_goes, sample_stays, file_not_removed, none_removed}
+use Rattle.tree_model.proofs.Sampling.{none_removed_below}
 use Rattle.tree_model.proofs.examples.removing.Goals as goal
 
 pub returns-clause-empty : goal.returns-clause-empty

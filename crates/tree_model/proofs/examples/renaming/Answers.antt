@@ -1,6 +1,7 @@
 -- By what stands in the top directory.
 use Rattle.tree_model.specs.Samples.{hello}
-use Rattle.tree_model.proofs.Sampling.{top_below_itself, file_not_above, file_elsewhere, into_file, none_moves, file_stays, file_moves}
+use Rattle.tree_model.proofs.Sampling.{top_below_itself, file_not_above, file_elsewhere, into_file}
+use Rattle.tree_model.proofs.Sampling.{none_moves, file_stays, file_moves}
 use Rattle.tree_model.proofs.examples.renaming.Goals as goal
 
 pub returns-clause-file : goal.returns-clause-file

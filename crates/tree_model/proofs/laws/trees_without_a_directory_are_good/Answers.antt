@@ -5,4 +5,5 @@ use Rattle.tree_model.proofs.Leaving.{empty_only, removed_good}
 use Rattle.tree_model.proofs.laws.trees_without_a_directory_are_good.Goals as goal
 
 pub returns : goal.returns
-returns c = λ held t u dir name g made. removed_good held t u g dir name (if_empty t.records (lookup_of t dir name)) (empty_only t.records (lookup_of t dir name)) made
+returns c = λ held t u dir name g made. removed_good held t u g dir name
+    (if_empty t.records (lookup_of t dir name)) (empty_only t.records (lookup_of t dir name)) made

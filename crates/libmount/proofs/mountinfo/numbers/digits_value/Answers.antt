@@ -3,7 +3,8 @@ use Rattle.std.proofs.Common.{◌≡◌, ◌<◌, ◌∙◌, sym, ap, arith, ref
 use Rattle.std.proofs.lemmas.Bool.Decides.{nat_tests}
 use Rattle.std.proofs.lemmas.List.{nil_from_length}
 use Rattle.libmount.specs.Numbers.{digits_value}
-use Rattle.libmount.proofs.NumberLemmas.{digits_value-nil, digits_value-whole, whole-end, whole-more, whole-stop}
+use Rattle.libmount.proofs.NumberLemmas.{digits_value-nil, digits_value-whole, whole-end}
+use Rattle.libmount.proofs.NumberLemmas.{whole-more, whole-stop}
 use Rattle.libmount.proofs.mountinfo.numbers.digits_value.Goals as goal
 
 pub returns-then-is_empty : goal.returns-then-is_empty
@@ -14,16 +15,19 @@ returns-then-is_empty c =
 pub returns-in-Err : goal.returns-in-Err
 returns-in-Err c =
     sym (digits_value-whole c.args.digits.now (omega arith) ∙ c.loop-digit.invariant.same
-    ∙ whole-stop c.loop-digit.number c.loop-digit.digit-index c.args.digits.now c.loop-digit-test.true c.in-Err.fault _ refl c.loop-digit.invariant.fits c.in-Err.ensures)
+    ∙ whole-stop c.loop-digit.number c.loop-digit.digit-index c.args.digits.now
+        c.loop-digit-test.true c.in-Err.fault _ refl c.loop-digit.invariant.fits c.in-Err.ensures)
 
 pub loop-digit-preserved : goal.loop-digit-preserved
 loop-digit-preserved c = record {
   fits = c.in-Ok.ensures.2;
-  same = c.loop-digit.invariant.same ∙ whole-more c.loop-digit.number c.loop-digit.digit-index c.args.digits.now c.loop-digit-test.true c.in-Ok.more _ refl c.in-Ok.ensures;
+  same = c.loop-digit.invariant.same ∙ whole-more c.loop-digit.number c.loop-digit.digit-index
+      c.args.digits.now c.loop-digit-test.true c.in-Ok.more _ refl c.in-Ok.ensures;
 }
 
 pub returns : goal.returns
 returns c =
     let some : 0 < length c.args.digits.now = grind (arith, nat_tests) in
     sym (digits_value-whole c.args.digits.now some ∙ c.loop-digit.invariant.same
-    ∙ whole-end c.loop-digit.number c.loop-digit.digit-index c.args.digits.now (omega arith) c.loop-digit.invariant.fits)
+    ∙ whole-end c.loop-digit.number c.loop-digit.digit-index c.args.digits.now (omega arith)
+        c.loop-digit.invariant.fits)

@@ -16,10 +16,16 @@ returns-clause-parts c =
     let after_source = LiesIn-trans _ _ _ after_type c.in_ok-mount_source.ensures.parts.1 in
     record {
       root = FieldLiesIn-trans _ _ after_minor c.in_ok-root.root c.in_ok-root.ensures.parts.0;
-      mount_point = FieldLiesIn-trans _ _ after_root c.in_ok-mount_point.mount_point c.in_ok-mount_point.ensures.parts.0;
-      mount_options = FieldLiesIn-trans _ _ after_point c.in_ok-mount_options.mount_options c.in_ok-mount_options.ensures.parts.0;
-      optional_fields = FieldLiesIn-trans _ _ after_options c.in_ok-optional_fields.optional_fields c.in_ok-optional_fields.ensures.parts.0;
-      fstype = FieldLiesIn-trans _ _ after_optional c.in_ok-fstype.fstype c.in_ok-fstype.ensures.parts.0;
-      mount_source = FieldLiesIn-trans _ _ after_type c.in_ok-mount_source.mount_source c.in_ok-mount_source.ensures.parts.0;
-      super_options = FieldLiesIn-trans _ _ after_source c.in_ok-super_options.super_options c.in_ok-super_options.ensures.parts.0;
+      mount_point = FieldLiesIn-trans _ _ after_root c.in_ok-mount_point.mount_point
+          c.in_ok-mount_point.ensures.parts.0;
+      mount_options = FieldLiesIn-trans _ _ after_point c.in_ok-mount_options.mount_options
+          c.in_ok-mount_options.ensures.parts.0;
+      optional_fields = FieldLiesIn-trans _ _ after_options c.in_ok-optional_fields.optional_fields
+          c.in_ok-optional_fields.ensures.parts.0;
+      fstype = FieldLiesIn-trans _ _ after_optional c.in_ok-fstype.fstype
+          c.in_ok-fstype.ensures.parts.0;
+      mount_source = FieldLiesIn-trans _ _ after_type c.in_ok-mount_source.mount_source
+          c.in_ok-mount_source.ensures.parts.0;
+      super_options = FieldLiesIn-trans _ _ after_source c.in_ok-super_options.super_options
+          c.in_ok-super_options.ensures.parts.0;
     }

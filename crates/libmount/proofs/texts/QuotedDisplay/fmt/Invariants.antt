@@ -5,4 +5,6 @@ use Rattle.port_base.specs.Quoting.{quoted_byte}
 use Rattle.libmount.proofs.texts.QuotedDisplay.fmt.Given as goal
 
 abbrev pub invariant-loop-byte : goal.invariant-loop-byte
-invariant-loop-byte g l = IsPlainFormatter l.initial.f → HasWritten g.W.Write.write_str_gives l.initial.f (flat_map quoted_byte (take l.byte-index l.byte-items)) l.f
+invariant-loop-byte g l = IsPlainFormatter l.initial.f
+    → HasWritten g.W.Write.write_str_gives l.initial.f
+    (flat_map quoted_byte (take l.byte-index l.byte-items)) l.f

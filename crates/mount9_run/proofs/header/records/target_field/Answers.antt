@@ -5,4 +5,5 @@ use Rattle.mount9_run.proofs.HeaderPlaces.{target_in_range}
 use Rattle.mount9_run.proofs.header.records.target_field.Goals as goal
 
 pub returns-clause-good : goal.returns-clause-good
-returns-clause-good c = target_in_range c.in_ok-target.target.items (sym (ap is_target c.deref.ensures.value) ∙ sym c.if-not-is_target.ensures)
+returns-clause-good c = target_in_range c.in_ok-target.target.items
+    (sym (ap is_target c.deref.ensures.value) ∙ sym c.if-not-is_target.ensures)

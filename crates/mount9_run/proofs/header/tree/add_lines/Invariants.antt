@@ -8,7 +8,9 @@ use Rattle.mount9_run.proofs.header.tree.add_lines.Given as goal
 
 abbrev pub invariant-lines : goal.invariant-lines
 invariant-lines l = record {
-  lines : gathered (record_at l.initial.host.born) (tree l.initial.host) l.initial.at.number (lines_of l.initial.at.rest.now) ≡ gathered (record_at l.host.born) (tree l.host) l.at.number (lines_of l.at.rest.now);
+  lines : gathered (record_at l.initial.host.born) (tree l.initial.host) l.initial.at.number
+      (lines_of l.initial.at.rest.now) ≡ gathered (record_at l.host.born) (tree l.host) l.at.number
+      (lines_of l.at.rest.now);
   rest : ChangesTree l.initial.host l.host;
 }
 

@@ -6,7 +6,8 @@ use Rattle.mount9_run.proofs.report.blocks.write_whole.Goals as goal
 
 pub returns-in_err-write_replies : goal.returns-in_err-write_replies
 unfolding report
-returns-in_err-write_replies g c = let p = err_from_is_err_and c.from_residual.result c.from_residual.ensures.1 in rw (p.1, p.2) (Wrote-stopped _ c.in_err-write_replies.ensures)
+returns-in_err-write_replies g c = let p = err_from_is_err_and c.from_residual.result
+    c.from_residual.ensures.1 in rw (p.1, p.2) (Wrote-stopped _ c.in_err-write_replies.ensures)
 
 pub returns : goal.returns
 unfolding report

@@ -10,7 +10,11 @@ use Rattle.mount9_run.proofs.WalkLemmas.{cookie}
 use Rattle.mount9_run.proofs.report.walk.write_entries.Given as goal
 
 abbrev pub invariant-entries : goal.invariant-entries
-invariant-entries g l = Writing (at_sink (g.K.Sink.sent l.initial.out) (g.K.Sink.faults l.initial.out) (g.K.Sink.kept l.initial.out)) (at_sink (g.K.Sink.sent l.out) (g.K.Sink.faults l.out) (g.K.Sink.kept l.out)) (entries_text l.dir (entries_in (tree l.host) l.dir)) (entries_text l.dir (above cookie l.at (entries_in (tree l.host) l.dir)))
+invariant-entries g l = Writing (at_sink (g.K.Sink.sent l.initial.out)
+    (g.K.Sink.faults l.initial.out) (g.K.Sink.kept l.initial.out))
+    (at_sink (g.K.Sink.sent l.out) (g.K.Sink.faults l.out) (g.K.Sink.kept l.out))
+    (entries_text l.dir (entries_in (tree l.host) l.dir))
+    (entries_text l.dir (above cookie l.at (entries_in (tree l.host) l.dir)))
 
 abbrev pub decreases-entries : goal.decreases-entries
 decreases-entries g l = length (above cookie l.at (entries_in (tree l.host) l.dir))

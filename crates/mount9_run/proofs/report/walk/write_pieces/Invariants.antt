@@ -9,7 +9,10 @@ use Rattle.mount9_run.proofs.report.walk.write_pieces.Given as goal
 
 abbrev pub invariant-pieces : goal.invariant-pieces
 invariant-pieces g l = record {
-  writing : Writing (at_sink (g.K.Sink.sent l.initial.out) (g.K.Sink.faults l.initial.out) (g.K.Sink.kept l.initial.out)) (at_sink (g.K.Sink.sent l.out) (g.K.Sink.faults l.out) (g.K.Sink.kept l.out)) (encode_lower (bytes_at (tree l.host) l.ino)) (encode_lower (drop l.offset (bytes_at (tree l.host) l.ino)));
+  writing : Writing (at_sink (g.K.Sink.sent l.initial.out) (g.K.Sink.faults l.initial.out)
+      (g.K.Sink.kept l.initial.out)) (at_sink (g.K.Sink.sent l.out) (g.K.Sink.faults l.out)
+      (g.K.Sink.kept l.out)) (encode_lower (bytes_at (tree l.host) l.ino))
+      (encode_lower (drop l.offset (bytes_at (tree l.host) l.ino)));
   within : l.offset ≤ length (bytes_at (tree l.host) l.ino);
 }
 

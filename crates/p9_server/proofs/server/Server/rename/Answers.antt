@@ -13,7 +13,9 @@ use Rattle.tree_host.specs.Holds.{is_held}
 use Rattle.p9_server.specs.Steps.{server_state}
 use Rattle.p9_server.proofs.HoldCounts.{kept_named}
 use Rattle.p9_server.proofs.Showing.{named_held}
-use Rattle.p9_server.proofs.TreeSteps.{at_known, at_named, at_unknown, at_unnamed, good_name, held_alike, kept_after, name_checked, name_unchecked, passed_step, refused_step}
+use Rattle.p9_server.proofs.TreeSteps.{at_known, at_named, at_unknown, at_unnamed, good_name}
+use Rattle.p9_server.proofs.TreeSteps.{held_alike, kept_after, name_checked, name_unchecked}
+use Rattle.p9_server.proofs.TreeSteps.{passed_step, refused_step}
 use Rattle.p9_server.proofs.server.Server.rename.Goals as goal
 
 abbrev moves : Unit {0} → Reply
@@ -21,7 +23,9 @@ moves u = moved
 
 -- what a rename tells, from the directory of a fid that is there
 abbrev to : ServerState → List ℕ → ℕ → List ℕ → ℕ → Result (Unit {0} × Tree) ℕ
-to s oldname newdirfid newname olddir = at_fid (get s.fids newdirfid) (λ newdir. unless_fault oldname (unless_fault newname (rename_of (is_named s.fids) s.tree olddir oldname newdir newname)))
+to s oldname newdirfid newname olddir = at_fid (get s.fids newdirfid)
+    (λ newdir. unless_fault oldname (unless_fault newname
+    (rename_of (is_named s.fids) s.tree olddir oldname newdir newname)))
 
 pub returns-in-Err-clause-step : goal.returns-in-Err-clause-step
 returns-in-Err-clause-step g c =
@@ -29,9 +33,13 @@ returns-in-Err-clause-step g c =
     let tree = g.H.Host.tree s.host in
     let a = c.args in
     let before = server_state tree s.fids s.msize s.share in
-    refused_step (renameat a.olddirfid a.oldname.now a.newdirfid a.newname.now) moves moves tree s.fids s.msize s.share (g.H.Host.calls s.host).steady (renameat_told before a.olddirfid a.oldname.now a.newdirfid a.newname.now) refl
-    (kept_named (g.H.Host.holds s.host) s.fids s.sound.held tree (g.met.H.Host.stored s.host).kept) c.in-Err.e
-    (at_unknown s.fids a.olddirfid (to before a.oldname.now a.newdirfid a.newname.now) c.in-Err.e c.in-Err.ensures) (g.H.Host.calls s.host).faults
+    refused_step (renameat a.olddirfid a.oldname.now a.newdirfid a.newname.now) moves moves tree
+        s.fids s.msize s.share (g.H.Host.calls s.host).steady
+        (renameat_told before a.olddirfid a.oldname.now a.newdirfid a.newname.now) refl
+    (kept_named (g.H.Host.holds s.host) s.fids s.sound.held tree (g.met.H.Host.stored s.host).kept)
+        c.in-Err.e
+    (at_unknown s.fids a.olddirfid (to before a.oldname.now a.newdirfid a.newname.now) c.in-Err.e
+        c.in-Err.ensures) (g.H.Host.calls s.host).faults
 
 pub returns-in-Err-ino_for-clause-step : goal.returns-in-Err-ino_for-clause-step
 returns-in-Err-ino_for-clause-step g c =
@@ -39,18 +47,27 @@ returns-in-Err-ino_for-clause-step g c =
     let tree = g.H.Host.tree s.host in
     let a = c.args in
     let before = server_state tree s.fids s.msize s.share in
-    refused_step (renameat a.olddirfid a.oldname.now a.newdirfid a.newname.now) moves moves tree s.fids s.msize s.share (g.H.Host.calls s.host).steady (to before a.oldname.now a.newdirfid a.newname.now c.in-Ok.olddir)
-    (ap (tree_answer before moves) (at_known s.fids a.olddirfid (to before a.oldname.now a.newdirfid a.newname.now) c.in-Ok.olddir c.in-Ok.ensures))
-    (kept_named (g.H.Host.holds s.host) s.fids s.sound.held tree (g.met.H.Host.stored s.host).kept) c.in-Err-ino_for.e
-    (at_unnamed s.fids a.newdirfid (λ newdir. unless_fault a.newname.now (rename_of (is_named s.fids) tree c.in-Ok.olddir a.oldname.now newdir a.newname.now)) a.oldname.now c.in-Err-ino_for.e c.in-Err-ino_for.ensures) (g.H.Host.calls s.host).faults
+    refused_step (renameat a.olddirfid a.oldname.now a.newdirfid a.newname.now) moves moves tree
+        s.fids s.msize s.share (g.H.Host.calls s.host).steady
+        (to before a.oldname.now a.newdirfid a.newname.now c.in-Ok.olddir)
+    (ap (tree_answer before moves) (at_known s.fids a.olddirfid
+        (to before a.oldname.now a.newdirfid a.newname.now) c.in-Ok.olddir c.in-Ok.ensures))
+    (kept_named (g.H.Host.holds s.host) s.fids s.sound.held tree (g.met.H.Host.stored s.host).kept)
+        c.in-Err-ino_for.e
+    (at_unnamed s.fids a.newdirfid (λ newdir. unless_fault a.newname.now
+        (rename_of (is_named s.fids) tree c.in-Ok.olddir a.oldname.now newdir a.newname.now))
+        a.oldname.now c.in-Err-ino_for.e c.in-Err-ino_for.ensures) (g.H.Host.calls s.host).faults
 
 pub rename-requires-clause-from : goal.rename-requires-clause-from
-rename-requires-clause-from g c = let s = c.args.self.now in named_held (g.H.Host.holds s.host) s.fids s.sound.held c.args.olddirfid c.in-Ok.olddir c.in-Ok.ensures
+rename-requires-clause-from g c = let s = c.args.self.now in named_held (g.H.Host.holds s.host)
+    s.fids s.sound.held c.args.olddirfid c.in-Ok.olddir c.in-Ok.ensures
 
 pub rename-requires-clause-to : goal.rename-requires-clause-to
 rename-requires-clause-to g c =
     let s = c.args.self.now in
-    named_held (g.H.Host.holds s.host) s.fids s.sound.held c.args.newdirfid c.in-Ok-ino_for.newdir (good_name s.fids c.args.newdirfid c.args.oldname.now c.in-Ok-ino_for.newdir c.in-Ok-ino_for.ensures).1
+    named_held (g.H.Host.holds s.host) s.fids s.sound.held c.args.newdirfid c.in-Ok-ino_for.newdir
+        (good_name s.fids c.args.newdirfid c.args.oldname.now c.in-Ok-ino_for.newdir
+        c.in-Ok-ino_for.ensures).1
 
 pub returns-in-Ok-check_name-clause-step : goal.returns-in-Ok-check_name-clause-step
 returns-in-Ok-check_name-clause-step g c =
@@ -61,14 +78,25 @@ returns-in-Ok-check_name-clause-step g c =
     let e = c.rename.ensures in
     let held = is_held (g.H.Host.holds s.host) in
     let before = server_state tree s.fids s.msize s.share in
-    let moving : ℕ → ℕ → Result (Unit {0} × Tree) ℕ = λ olddir newdir. rename_of (is_named s.fids) tree olddir a.oldname.now newdir a.newname.now in
-    passed_step (renameat a.olddirfid a.oldname.now a.newdirfid a.newname.now) moves tree s.fids s.msize s.share (g.H.Host.calls s.host).steady (rename_of held tree c.in-Ok.olddir a.oldname.now c.in-Ok-ino_for.newdir a.newname.now)
-    (ap (tree_answer before moves) (at_known s.fids a.olddirfid (to before a.oldname.now a.newdirfid a.newname.now) c.in-Ok.olddir c.in-Ok.ensures
-    ∙ at_named s.fids a.newdirfid (λ newdir. unless_fault a.newname.now (moving c.in-Ok.olddir newdir)) a.oldname.now c.in-Ok-ino_for.newdir c.in-Ok-ino_for.ensures
-    ∙ (name_checked a.newname.now (moving c.in-Ok.olddir c.in-Ok-ino_for.newdir) c.in-Ok-check_name.ensures).1
-    ∙ sym (ap (λ (h : ℕ → Bool). rename_of h tree c.in-Ok.olddir a.oldname.now c.in-Ok-ino_for.newdir a.newname.now) (held_alike (g.H.Host.holds s.host) s.fids s.sound.held))))
-    (kept_named (g.H.Host.holds s.host) s.fids s.sound.held tree (g.met.H.Host.stored s.host).kept) refl (g.H.Host.tree n) (g.H.Host.calls s.host).faults (g.H.Host.calls n).faults
-    (kept_after (g.H.Host.holds s.host) (g.H.Host.holds n) e.holds s.fids s.sound.held (g.H.Host.tree n) (g.met.H.Host.stored n).kept)
+    let moving : ℕ → ℕ → Result (Unit {0} × Tree) ℕ =
+        λ olddir newdir. rename_of (is_named s.fids) tree olddir a.oldname.now newdir a.newname.now
+        in
+    passed_step (renameat a.olddirfid a.oldname.now a.newdirfid a.newname.now) moves tree s.fids
+        s.msize s.share (g.H.Host.calls s.host).steady
+        (rename_of held tree c.in-Ok.olddir a.oldname.now c.in-Ok-ino_for.newdir a.newname.now)
+    (ap (tree_answer before moves) (at_known s.fids a.olddirfid
+        (to before a.oldname.now a.newdirfid a.newname.now) c.in-Ok.olddir c.in-Ok.ensures
+    ∙ at_named s.fids a.newdirfid (λ newdir. unless_fault a.newname.now
+        (moving c.in-Ok.olddir newdir)) a.oldname.now c.in-Ok-ino_for.newdir c.in-Ok-ino_for.ensures
+    ∙ (name_checked a.newname.now (moving c.in-Ok.olddir c.in-Ok-ino_for.newdir)
+        c.in-Ok-check_name.ensures).1
+    ∙ sym (ap (λ (h : ℕ → Bool). rename_of h tree c.in-Ok.olddir a.oldname.now
+        c.in-Ok-ino_for.newdir a.newname.now)
+        (held_alike (g.H.Host.holds s.host) s.fids s.sound.held))))
+    (kept_named (g.H.Host.holds s.host) s.fids s.sound.held tree (g.met.H.Host.stored s.host).kept)
+        refl (g.H.Host.tree n) (g.H.Host.calls s.host).faults (g.H.Host.calls n).faults
+    (kept_after (g.H.Host.holds s.host) (g.H.Host.holds n) e.holds s.fids s.sound.held
+        (g.H.Host.tree n) (g.met.H.Host.stored n).kept)
     c.rename.result e.leaves e.caused.cause
 
 pub returns-in-Err-check_name-clause-step : goal.returns-in-Err-check_name-clause-step
@@ -77,9 +105,18 @@ returns-in-Err-check_name-clause-step g c =
     let tree = g.H.Host.tree s.host in
     let a = c.args in
     let before = server_state tree s.fids s.msize s.share in
-    let moving : ℕ → ℕ → Result (Unit {0} × Tree) ℕ = λ olddir newdir. rename_of (is_named s.fids) tree olddir a.oldname.now newdir a.newname.now in
-    refused_step (renameat a.olddirfid a.oldname.now a.newdirfid a.newname.now) moves moves tree s.fids s.msize s.share (g.H.Host.calls s.host).steady (unless_fault a.newname.now (moving c.in-Ok.olddir c.in-Ok-ino_for.newdir))
-    (ap (tree_answer before moves) (at_known s.fids a.olddirfid (to before a.oldname.now a.newdirfid a.newname.now) c.in-Ok.olddir c.in-Ok.ensures
-    ∙ at_named s.fids a.newdirfid (λ newdir. unless_fault a.newname.now (moving c.in-Ok.olddir newdir)) a.oldname.now c.in-Ok-ino_for.newdir c.in-Ok-ino_for.ensures))
-    (kept_named (g.H.Host.holds s.host) s.fids s.sound.held tree (g.met.H.Host.stored s.host).kept) c.in-Err-check_name.e
-    (name_unchecked a.newname.now (moving c.in-Ok.olddir c.in-Ok-ino_for.newdir) c.in-Err-check_name.e c.in-Err-check_name.ensures) (g.H.Host.calls s.host).faults
+    let moving : ℕ → ℕ → Result (Unit {0} × Tree) ℕ =
+        λ olddir newdir. rename_of (is_named s.fids) tree olddir a.oldname.now newdir a.newname.now
+        in
+    refused_step (renameat a.olddirfid a.oldname.now a.newdirfid a.newname.now) moves moves tree
+        s.fids s.msize s.share (g.H.Host.calls s.host).steady
+        (unless_fault a.newname.now (moving c.in-Ok.olddir c.in-Ok-ino_for.newdir))
+    (ap (tree_answer before moves) (at_known s.fids a.olddirfid
+        (to before a.oldname.now a.newdirfid a.newname.now) c.in-Ok.olddir c.in-Ok.ensures
+    ∙ at_named s.fids a.newdirfid (λ newdir. unless_fault a.newname.now
+        (moving c.in-Ok.olddir newdir)) a.oldname.now c.in-Ok-ino_for.newdir
+        c.in-Ok-ino_for.ensures))
+    (kept_named (g.H.Host.holds s.host) s.fids s.sound.held tree (g.met.H.Host.stored s.host).kept)
+        c.in-Err-check_name.e
+    (name_unchecked a.newname.now (moving c.in-Ok.olddir c.in-Ok-ino_for.newdir)
+        c.in-Err-check_name.e c.in-Err-check_name.ensures) (g.H.Host.calls s.host).faults

@@ -10,6 +10,9 @@ invariant_of-result g c =
     let below : c.args.config.msize < 2 ^ 32 = search rules in
     let limit = ap (λ (s : Settings). s.limit) c.new-2.ensures in
     record {
-      sound = sound_empty (g.H.Host.holds c.args.host) c.new.result c.args.config.msize c.new-2.result c.requires c.new.ensures
-          (subst (λ (n : ℕ). n < 2 ^ 32) (sym limit) few) (config_roomy c.args.config.msize c.args.config.root.items c.in_default.ensures) below (ap (λ (s : Settings). s.casefold) c.new-2.ensures);
+      sound = sound_empty (g.H.Host.holds c.args.host) c.new.result c.args.config.msize
+          c.new-2.result c.requires c.new.ensures
+          (subst (λ (n : ℕ). n < 2 ^ 32) (sym limit) few)
+              (config_roomy c.args.config.msize c.args.config.root.items c.in_default.ensures) below
+              (ap (λ (s : Settings). s.casefold) c.new-2.ensures);
     }

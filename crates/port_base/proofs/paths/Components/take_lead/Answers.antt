@@ -5,4 +5,5 @@ use Rattle.port_base.proofs.paths.Components.take_lead.Goals as goal
 
 pub returns-clause-lead : goal.returns-clause-lead
 unfolding components
-returns-clause-lead c = rw (c.if-self.false, c.lead.ensures) (TakesLead-from (lead c.args.self.now.rest.now) (names c.args.self.now.rest.now))
+returns-clause-lead c = rw (c.if-self.false, c.lead.ensures)
+    (TakesLead-from (lead c.args.self.now.rest.now) (names c.args.self.now.rest.now))

@@ -12,9 +12,16 @@ returns g c =
     let f = c.get_mut.follows in (
       (
         refl,
-        λ w. on_lent c.get_mut.result (get nat_cmp c.self.inside.entries k) c.get_mut.ensures.value (λ had.
-            insert_view es (f.lender w).entries k w ((f.holds w).3 had).0 ∙ ap (λ m. map.insert m k w) c.self.view_is),
-        ap (λ (m : BTreeMap _ _). map.from_entries {R = nat_cmp} m.entries) f.holds-at-none ∙ c.self.view_is,
+        λ w. on_lent c.get_mut.result (get nat_cmp c.self.inside.entries k) c.get_mut.ensures.value
+            (λ had.
+            insert_view es (f.lender w).entries k w ((f.holds w).3 had).0
+            ∙ ap (λ m. map.insert m k w) c.self.view_is),
+        ap (λ (m : BTreeMap _ _). map.from_entries {R = nat_cmp} m.entries) f.holds-at-none
+            ∙ c.self.view_is,
       ),
-      record { writes_back = tt; value = c.get_mut.ensures.value ∙ sym (get_view es k) ∙ ap (λ m. map.get m k) c.self.view_is },
+      record {
+        writes_back = tt;
+        value = c.get_mut.ensures.value ∙ sym (get_view es k)
+            ∙ ap (λ m. map.get m k) c.self.view_is;
+      },
     )

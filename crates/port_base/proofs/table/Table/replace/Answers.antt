@@ -8,5 +8,8 @@ pub returns : goal.returns
 returns g c =
     let e = c.insert.ensures in
     insert_view c.self.inside.entries.entries c.insert.new.self.entries c.args.key c.args.value
-    (either_way c.insert.result e.updates e.absent (λ none. absurd (false≢true (subst IsSome (ap (λ m. map.get m c.args.key) (sym c.self.view_is) ∙ get_view c.self.inside.entries.entries c.args.key ∙ none) c.requires)))).0
+    (either_way c.insert.result e.updates e.absent
+    (λ none. absurd (false≢true (subst IsSome
+    (ap (λ m. map.get m c.args.key) (sym c.self.view_is)
+    ∙ get_view c.self.inside.entries.entries c.args.key ∙ none) c.requires)))).0
     ∙ ap (λ m. map.insert m c.args.key c.args.value) c.self.view_is

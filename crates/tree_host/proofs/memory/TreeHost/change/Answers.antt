@@ -12,7 +12,9 @@ invariant_of-self-2 c =
     let f = changed_by c.args.wanted s.moment in
     let amends = change_amends t s.good c.args.ino c.args.wanted in
     record {
-      good = made_good t s.holds s.good s.stored c.args.ino refused f amends c.change_node.new.nodes c.change_node.result c.change_node.ensures.made;
-      stored = made_held t s.holds s.good s.stored c.args.ino refused f amends c.change_node.new.nodes c.change_node.result c.change_node.ensures.made;
+      good = made_good t s.holds s.good s.stored c.args.ino refused f amends c.change_node.new.nodes
+          c.change_node.result c.change_node.ensures.made;
+      stored = made_held t s.holds s.good s.stored c.args.ino refused f amends
+          c.change_node.new.nodes c.change_node.result c.change_node.ensures.made;
       timed = s.timed;
     }

@@ -16,9 +16,12 @@ invariant_of-self c =
     let free = sym c.create_refusal.ensures ∙ c.in_default.is in
     let r = empty_file s.moment a.mode in
     let new = new_file s.moment a.mode a.dir s.good.moment in
-    let made = c.in-Ok.ensures.ok ∙ ap (λ (r : Record). (with_new t a.dir n r).records) c.empty_file-node.ensures in
+    let made = c.in-Ok.ensures.ok ∙ ap (λ (r : Record). (with_new t a.dir n r).records)
+        c.empty_file-node.ensures in
     record {
-      good = with_new_it_good t s.holds s.good s.stored a.dir n free r new c.requires c.create_node.new.nodes made;
-      stored = with_new_it_held t s.holds s.good s.stored a.dir n free r new c.requires c.create_node.new.nodes made c.create_node.new.holds c.in-Ok.ensures.held;
+      good = with_new_it_good t s.holds s.good s.stored a.dir n free r new c.requires
+          c.create_node.new.nodes made;
+      stored = with_new_it_held t s.holds s.good s.stored a.dir n free r new c.requires
+          c.create_node.new.nodes made c.create_node.new.holds c.in-Ok.ensures.held;
       timed = s.timed;
     }

@@ -7,4 +7,5 @@ use Rattle.tree_host.proofs.memory.TreeHost.create_refusal.Goals as goal
 pub returns : goal.returns
 returns c =
     let s = c.args.self.now in
-    c.refusal.ensures ∙ sym (refused_as (tree_from s.nodes s.next s.limits s.moment) s.holds s.good s.stored c.args.dir c.args.name.now)
+    c.refusal.ensures ∙ sym (refused_as (tree_from s.nodes s.next s.limits s.moment) s.holds s.good
+        s.stored c.args.dir c.args.name.now)

@@ -1,4 +1,5 @@
--- With the name the tree is good, and what is stored is linked or held; without memory for it nothing changed.
+-- With the name the tree is good, and what is stored is linked or held; without memory for it
+-- nothing changed.
 use Rattle.std.proofs.Common.{sym, ◌∙◌}
 use Rattle.tree_model.specs.Tree.{Records}
 use Rattle.tree_model.specs.Good.{IsGoodTree}
@@ -19,7 +20,12 @@ invariant_of-self c =
     let made = (with_name t a.dir n a.ino).records in
     let e = c.link_node.ensures in
     record {
-      good = either_way c.link_node.result (λ (rs : Records). IsGoodTree (tree_from rs s.next s.limits s.moment)) c.link_node.new.nodes made s.nodes e.ok e.err (with_name_it_good t s.holds s.good s.stored a.dir n a.ino free c.requires) s.good;
-      stored = either_way c.link_node.result (λ (rs : Records). IsHeldIn (tree_from rs s.next s.limits s.moment) s.holds) c.link_node.new.nodes made s.nodes e.ok e.err (with_name_it_held t s.holds s.good s.stored a.dir n a.ino free c.requires) s.stored;
+      good = either_way c.link_node.result (λ (rs : Records). IsGoodTree
+          (tree_from rs s.next s.limits s.moment)) c.link_node.new.nodes made s.nodes e.ok e.err
+          (with_name_it_good t s.holds s.good s.stored a.dir n a.ino free c.requires) s.good;
+      stored = either_way c.link_node.result (λ (rs : Records). IsHeldIn
+          (tree_from rs s.next s.limits s.moment) s.holds) c.link_node.new.nodes made s.nodes e.ok
+          e.err (with_name_it_held t s.holds s.good s.stored a.dir n a.ino free c.requires)
+          s.stored;
       timed = s.timed;
     }

@@ -7,4 +7,5 @@ use Rattle.tree_host.proofs.memory.TreeHost.name_refusal.Goals as goal
 pub returns : goal.returns
 returns c =
     let s = c.args.self.now in
-    c.link_refusal.ensures ∙ sym (named_as (tree_from s.nodes s.next s.limits s.moment) s.holds s.good s.stored c.args.dir c.args.name.now c.args.ino)
+    c.link_refusal.ensures ∙ sym (named_as (tree_from s.nodes s.next s.limits s.moment) s.holds
+        s.good s.stored c.args.dir c.args.name.now c.args.ino)

@@ -8,7 +8,9 @@ invariant_of-self c =
     let s = c.args.self.now in
     let t = tree_from s.nodes s.next s.limits s.moment in
     record {
-      good = with_it_good t s.holds s.good s.stored c.args.dir c.args.name.now c.requires.free c.args.node c.requires.new c.add_node.new.nodes c.in-Ok.ensures.ok c.requires.named;
-      stored = with_it_held t s.holds s.good s.stored c.args.dir c.args.name.now c.requires.free c.args.node c.requires.new c.add_node.new.nodes c.in-Ok.ensures.ok;
+      good = with_it_good t s.holds s.good s.stored c.args.dir c.args.name.now c.requires.free
+          c.args.node c.requires.new c.add_node.new.nodes c.in-Ok.ensures.ok c.requires.named;
+      stored = with_it_held t s.holds s.good s.stored c.args.dir c.args.name.now c.requires.free
+          c.args.node c.requires.new c.add_node.new.nodes c.in-Ok.ensures.ok;
       timed = s.timed;
     }

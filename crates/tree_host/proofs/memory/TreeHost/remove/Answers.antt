@@ -12,10 +12,13 @@ invariant_of-self c =
     let a = c.args in
     let s = a.self.now in
     let t = tree_from s.nodes s.next s.limits s.moment in
-    let made = c.sweep.ensures ∙ ap (λ (rs : Records). swept (is_held s.holds) rs a.ino) c.remove_entry.ensures in
+    let made = c.sweep.ensures ∙ ap (λ (rs : Records). swept (is_held s.holds) rs a.ino)
+        c.remove_entry.ensures in
     record {
-      good = gone_good t s.holds s.good s.stored a.dir a.name.now a.ino c.requires.found c.requires.empty c.sweep.new.nodes made;
-      stored = gone_held t s.holds s.good s.stored a.dir a.name.now a.ino c.requires.found c.requires.empty c.sweep.new.nodes made;
+      good = gone_good t s.holds s.good s.stored a.dir a.name.now a.ino c.requires.found
+          c.requires.empty c.sweep.new.nodes made;
+      stored = gone_held t s.holds s.good s.stored a.dir a.name.now a.ino c.requires.found
+          c.requires.empty c.sweep.new.nodes made;
       timed = s.timed;
     }
 
@@ -24,5 +27,7 @@ returns-clause-tree c =
     let a = c.args in
     let s = a.self.now in
     let t = tree_from s.nodes s.next s.limits s.moment in
-    let made = c.sweep.ensures ∙ ap (λ (rs : Records). swept (is_held s.holds) rs a.ino) c.remove_entry.ensures in
-    gone_tree t s.holds s.good s.stored a.dir a.name.now a.ino c.requires.found c.requires.empty c.sweep.new.nodes made
+    let made = c.sweep.ensures ∙ ap (λ (rs : Records). swept (is_held s.holds) rs a.ino)
+        c.remove_entry.ensures in
+    gone_tree t s.holds s.good s.stored a.dir a.name.now a.ino c.requires.found c.requires.empty
+        c.sweep.new.nodes made

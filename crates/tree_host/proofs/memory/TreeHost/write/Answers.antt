@@ -14,7 +14,9 @@ invariant_of-self-2 c =
     let f = overwritten_at s.moment a.offset (fitting s.limits.file a.offset a.bytes.now) in
     let amends = overwritten_good t s.good a.ino a.offset a.bytes.now in
     record {
-      good = made_good t s.holds s.good s.stored a.ino refused f amends c.write_node.new.nodes c.write_node.result c.write_node.ensures;
-      stored = made_held t s.holds s.good s.stored a.ino refused f amends c.write_node.new.nodes c.write_node.result c.write_node.ensures;
+      good = made_good t s.holds s.good s.stored a.ino refused f amends c.write_node.new.nodes
+          c.write_node.result c.write_node.ensures;
+      stored = made_held t s.holds s.good s.stored a.ino refused f amends c.write_node.new.nodes
+          c.write_node.result c.write_node.ensures;
       timed = s.timed;
     }

@@ -8,6 +8,9 @@ invariant_of-self-2 c =
     let s = c.args.self.now in
     record {
       good = s.good;
-      stored = either_held (tree_from s.nodes s.next s.limits s.moment) s.holds c.hold.new.holds c.args.ino s.stored (s.stored.stored c.args.ino (is_held_counted s.holds c.args.ino c.requires.held)) c.hold.result c.hold.ensures.ok c.hold.ensures.err;
+      stored = either_held (tree_from s.nodes s.next s.limits s.moment) s.holds c.hold.new.holds
+          c.args.ino s.stored (s.stored.stored c.args.ino
+          (is_held_counted s.holds c.args.ino c.requires.held)) c.hold.result c.hold.ensures.ok
+          c.hold.ensures.err;
       timed = s.timed;
     }

@@ -13,10 +13,14 @@ pub invariant_of-self : goal.invariant_of-self
 invariant_of-self c =
     let s = c.args.self.now in
     let t = tree_from s.nodes s.next s.limits s.moment in
-    let left = less_tree t s.holds c.lower.new.holds c.args.ino s.good s.stored c.requires c.lower.ensures c.sweep.new.nodes c.sweep.ensures in
+    let left = less_tree t s.holds c.lower.new.holds c.args.ino s.good s.stored c.requires
+        c.lower.ensures c.sweep.new.nodes c.sweep.ensures in
     record {
-      good = subst (λ (rs : Records). IsGoodTree (tree_from rs s.next s.limits s.moment)) (sym left) (keep_good t s.good (is_held c.lower.new.holds));
-      stored = subst (λ (rs : Records). IsHeldIn (tree_from rs s.next s.limits s.moment) c.lower.new.holds) (sym left) (less_held t s.holds c.lower.new.holds c.args.ino s.good s.stored c.requires c.lower.ensures);
+      good = subst (λ (rs : Records). IsGoodTree (tree_from rs s.next s.limits s.moment)) (sym left)
+          (keep_good t s.good (is_held c.lower.new.holds));
+      stored = subst (λ (rs : Records). IsHeldIn (tree_from rs s.next s.limits s.moment)
+          c.lower.new.holds) (sym left) (less_held t s.holds c.lower.new.holds c.args.ino s.good
+          s.stored c.requires c.lower.ensures);
       timed = s.timed;
     }
 
@@ -24,4 +28,6 @@ pub returns-clause-tree : goal.returns-clause-tree
 returns-clause-tree c =
     let s = c.args.self.now in
     let t = tree_from s.nodes s.next s.limits s.moment in
-    ap (λ (rs : Records). tree_from rs s.next s.limits s.moment) (less_tree t s.holds c.lower.new.holds c.args.ino s.good s.stored c.requires c.lower.ensures c.sweep.new.nodes c.sweep.ensures)
+    ap (λ (rs : Records). tree_from rs s.next s.limits s.moment)
+        (less_tree t s.holds c.lower.new.holds c.args.ino s.good s.stored c.requires c.lower.ensures
+        c.sweep.new.nodes c.sweep.ensures)

@@ -10,6 +10,7 @@ returns-in-Some c =
     let rs = c.args.nodes.now in
     let i = c.args.ino in
     let w = c.touch.new.self in
-    subst (λ o. OnSome o (c.get_mut.follows.lender w ≡ map.insert rs i w)) c.in-Some.is (c.get_mut.follows.holds w)
+    subst (λ o. OnSome o (c.get_mut.follows.lender w ≡ map.insert rs i w)) c.in-Some.is
+        (c.get_mut.follows.holds w)
     ∙ ap (λ r. map.insert rs i r) c.touch.ensures
     ∙ ap (λ o. changed (restamped c.args.moment) o rs i) c.in-Some.ensures.value

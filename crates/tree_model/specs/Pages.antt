@@ -1,0 +1,26 @@
+-- A directory's entries by pages.
+use Rattle.std.specs.Prelude.{ℕ, ◌-◌, List, [], ◌∷◌, filter, Option, Some, None}
+use Rattle.std.specs.Prelude.{if◌then◌else◌, nat_le, nat_lt}
+use Rattle.std.specs.List.{filter_map}
+use Rattle.tree_model.specs.Tree.{Tree, Records, DirEntry}
+use Rattle.tree_model.specs.Finding.{entries_at}
+use Rattle.tree_model.specs.Reading.{Entry, shown_entry}
+
+-- each entry above a cookie, with what is told of what it names
+abbrev pub entries_past : Records → ℕ → Option (List DirEntry) → List Entry
+entries_past rs cookie None = []
+entries_past rs cookie (Some es) =
+    filter_map (shown_entry rs) (filter (λ e. nat_lt cookie e.cookie) es)
+
+abbrev pub entries_past_of : Tree → ℕ → ℕ → List Entry
+entries_past_of t dir cookie = entries_past t.records cookie (entries_at t.records dir)
+
+-- the longest run from the front that has room, where each takes so much of it
+abbrev pub front_within : {A : Type 0} → (A → ℕ) → ℕ → List A → List A
+front_within size room [] = []
+front_within size room (a ∷ rest) =
+    if nat_le (size a) room then a ∷ front_within size (room - size a) rest else []
+
+-- a page of a directory: of its entries above a cookie those that have room
+abbrev pub page_of : (Entry → ℕ) → ℕ → Tree → ℕ → ℕ → List Entry
+page_of size room t dir cookie = front_within size room (entries_past_of t dir cookie)
