@@ -71,8 +71,13 @@ abbrev new_directory : Attr
 new_directory = attr_of 3 (empty_directory born 493 1)
 
 pub directory_made : core server (mkdir 7 (codes "b") 493 0)
-    ≡ (made (128, (7, 3)), record server { tree =
-    with_new sample 1 (codes "b") (empty_directory born 493 1) })
+    ≡ (
+      made (128, (7, 3)),
+      record server {
+        tree =
+            with_new sample 1 (codes "b") (empty_directory born 493 1);
+      },
+    )
 directory_made = made_at (codes "b") name_b ∙ ap (tree_answer server makes)
     (made_in_top new_directory (codes "b") (with_new sample 1 (codes "b")
     (empty_directory born 493 1)))
@@ -104,7 +109,7 @@ file_linked =
     by_fid with_open links 8 opened_file eight_open (link_by with_open (codes "b") 7)
     ∙ by_fid with_open links 7 (closed 1) seven_with_open (link_in with_open (codes "b") 2)
     ∙ by_name with_open links (codes "b") name_b (link_of sample 2 1 (codes "b"))
-        ∙ ap (tree_answer with_open links) (link_in_top (codes "b"))
+    ∙ ap (tree_answer with_open links) (link_in_top (codes "b"))
 
 directory_by : (name : List ℕ) → core server (link 7 7 name) ≡ tree_answer server links
     (link_in server name 1 1)

@@ -51,18 +51,28 @@ empty_at = ap (λ o. get (changed (rewritten_at born (resized 0)) o sample.recor
     ∙ inserted sample.records 2 empty_record
 
 pub file_emptied : core with_open (lopen 8 513)
-    ≡ (was_opened file_qid 0, record with_open
-    { tree = empty_tree; fids = insert with_open.fids 8
-    (record { ino = 2; open_state = Opened 1 false }) })
+    ≡ (
+      was_opened file_qid 0,
+      record with_open {
+        tree = empty_tree;
+        fids = insert with_open.fids 8
+            (record { ino = 2; open_state = Opened 1 false });
+      },
+    )
 file_emptied =
     ap (lopen_by with_open 8 513) eight_open
     ∙ ap (λ r. lopen_answer with_open 8 513 opened_file (emptied_where r sample 2 513))
-        (open_file 513)
+    (open_file 513)
     ∙ ap (λ o. lopen_answer with_open 8 513 opened_file
-        (unless_refused (refused_at (len_refused 8 0) o) tt empty_tree)) body_of_file
-    ∙ ap (λ o. (was_opened (qid_told (attr_or_missing 2 o)) 0, record with_open
-        { tree = empty_tree; fids = insert with_open.fids 8
-        (record { ino = 2; open_state = Opened 1 false }) })) empty_at
+    (unless_refused (refused_at (len_refused 8 0) o) tt empty_tree)) body_of_file
+    ∙ ap (λ o. (
+      was_opened (qid_told (attr_or_missing 2 o)) 0,
+      record with_open {
+        tree = empty_tree;
+        fids = insert with_open.fids 8
+            (record { ino = 2; open_state = Opened 1 false });
+      },
+    )) empty_at
 
 -- ---- made
 
@@ -101,28 +111,39 @@ records_are : with_file.records ≡ insert (insert (insert sample.records 3 new_
     (stamped born joined)
 records_are =
     ap (λ o. change (stamped born) (changed (joined_by dots 3) o
-        (insert sample.records 3 new_record) 1) 1)
-        (insert_keeps sample.records 3 new_record 1 (omega arith) ∙ top_at)
+    (insert sample.records 3 new_record) 1) 1)
+    (insert_keeps sample.records 3 new_record 1 (omega arith) ∙ top_at)
     ∙ ap (λ o. changed (stamped born) o (insert (insert sample.records 3 new_record) 1 joined) 1)
-        (inserted (insert sample.records 3 new_record) 1 joined)
+    (inserted (insert sample.records 3 new_record) 1 joined)
 
 new_at : get with_file.records 3 ≡ Some new_record
 new_at =
     ap (λ rs. get rs 3) records_are ∙ insert_keeps
-        (insert (insert sample.records 3 new_record) 1 joined) 1 (stamped born joined) 3
-        (omega arith)
+    (insert (insert sample.records 3 new_record) 1 joined) 1 (stamped born joined) 3
+    (omega arith)
     ∙ insert_keeps (insert sample.records 3 new_record) 1 joined 3 (omega arith)
-        ∙ inserted sample.records 3 new_record
+    ∙ inserted sample.records 3 new_record
 
 pub file_made : core server (lcreate 7 dots 1 420 0)
-    ≡ (created (0, (7, 3)) 0, record server { tree = with_file; fids =
-    insert server.fids 7 (record { ino = 3; open_state = Opened 1 false }) })
+    ≡ (
+      created (0, (7, 3)) 0,
+      record server {
+        tree = with_file;
+        fids =
+            insert server.fids 7 (record { ino = 3; open_state = Opened 1 false });
+      },
+    )
 file_made =
     in_top dots 1 ∙ ap (made_by dots 1) name_three_dots
-        ∙ ap (lcreate_answer server 7 1) (made_in_top 3 dots with_file)
-    ∙ ap (λ o. (created (qid_told (attr_or_missing 3 o)) 0, record server
-        { tree = with_file; fids = insert server.fids 7
-        (record { ino = 3; open_state = Opened 1 false }) })) new_at
+    ∙ ap (lcreate_answer server 7 1) (made_in_top 3 dots with_file)
+    ∙ ap (λ o. (
+      created (qid_told (attr_or_missing 3 o)) 0,
+      record server {
+        tree = with_file;
+        fids = insert server.fids 7
+            (record { ino = 3; open_state = Opened 1 false });
+      },
+    )) new_at
 
 pub made_in_file : core with_open (lcreate 8 (codes "..") 3 420 0) ≡ (lerror ENOTDIR, with_open)
 made_in_file = ap (λ o. lcreate_answer with_open 8 3 (by_fid (asked (codes "..") 3) o)) eight_open
@@ -154,23 +175,38 @@ eight_writes : (append : Bool) → get (with_writer append).fids 8 ≡ Some (wri
 eight_writes append = inserted server.fids 8 (writer append)
 
 pub written_within : core (with_writer false) (write 8 1 (codes "xy"))
-    ≡ (written 2, record (with_writer false) { tree =
-    with_changed (overwritten_at born 1 (codes "xy")) 2 sample })
+    ≡ (
+      written 2,
+      record (with_writer false) {
+        tree =
+            with_changed (overwritten_at born 1 (codes "xy")) 2 sample;
+      },
+    )
 written_within = ap (written_by (with_writer false) 1 (codes "xy")) (eight_writes false)
     ∙ ap (tree_answer (with_writer false) written) (write_file 1 (codes "xy"))
 
 pub written_behind : core (with_writer true) (write 8 1 (codes "xy"))
-    ≡ (written 2, record (with_writer true) { tree =
-    with_changed (overwritten_at born 5 (codes "xy")) 2 sample })
+    ≡ (
+      written 2,
+      record (with_writer true) {
+        tree =
+            with_changed (overwritten_at born 5 (codes "xy")) 2 sample;
+      },
+    )
 written_behind =
     ap (written_by (with_writer true) 1 (codes "xy")) (eight_writes true)
     ∙ ap (λ o. tree_answer (with_writer true) written
-        (write_of sample 2 (size_told (attr_or_missing 2 o)) (codes "xy"))) file_at
+    (write_of sample 2 (size_told (attr_or_missing 2 o)) (codes "xy"))) file_at
     ∙ ap (tree_answer (with_writer true) written) (write_file 5 (codes "xy"))
 
 pub written_part : core (with_writer false) (write 8 7 (codes "xy"))
-    ≡ (written 1, record (with_writer false) { tree =
-    with_changed (overwritten_at born 7 (codes "x")) 2 sample })
+    ≡ (
+      written 1,
+      record (with_writer false) {
+        tree =
+            with_changed (overwritten_at born 7 (codes "x")) 2 sample;
+      },
+    )
 written_part = ap (written_by (with_writer false) 7 (codes "xy")) (eight_writes false)
     ∙ ap (tree_answer (with_writer false) written) (write_file 7 (codes "xy"))
 
@@ -204,7 +240,7 @@ mode_set_alone =
     ap (setattr_by server both) seven
     ∙ ap (λ o. answered (ran (unless_refused (refused_at refused_for_link o) tt moded))) body_of_top
     ∙ ap (λ o. answered (run_on (step_unless (refused_at (size_refused (closed 1).open_state)
-        (option_map (λ (r : Record). r.body) o)) (set_len_of moded 1 0)) moded (run []))) moded_at
+    (option_map (λ (r : Record). r.body) o)) (set_len_of moded 1 0)) moded (run []))) moded_at
 
 pub nothing_set : core server (setattr 7 0 448 0 0 0 0 0 0 0) ≡ (were_set, server)
 nothing_set = ap (setattr_by server (changes 0 448 0 0 0 0 0 0 0)) seven

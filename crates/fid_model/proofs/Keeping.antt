@@ -61,7 +61,7 @@ module _ (t : Tree) (good : IsGoodTree t) (held : ℕ → Bool) where
   same_names q = weigh-alike (names_in q) _ _ (λ i.
       ap (weight (names_in q)) (retained t.records (λ i. is_linked t.records i || held i) i)
       ∙ gone_names (is_linked t.records i || held i) q (get t.records i)
-          (λ free r at. good.emptied i r at (or_false _ _ free)))
+      (λ free r at. good.emptied i r at (or_false _ _ free)))
 
   same_linked : (q : ℕ) → is_linked (keep held t).records q ≡ is_linked t.records q
   same_linked q = ap (λ n. (q == TOP) || nat_lt 0 n) (same_names q)
@@ -83,7 +83,7 @@ module _ (t : Tree) (good : IsGoodTree t) (held : ℕ → Bool) where
       retained (keep held t).records (λ i. is_linked (keep held t).records i || less i) q
       ∙ ap (λ b. cond (b || less q) (get (keep held t).records q) None) (same_linked q)
       ∙ ap (λ o. cond (is_linked t.records q || less q) o None)
-          (retained t.records (λ i. is_linked t.records i || held i) q)
+      (retained t.records (λ i. is_linked t.records i || held i) q)
       ∙ cond_twice (is_linked t.records q || held q) (is_linked t.records q || less q)
-          (get t.records q) (or_more (is_linked t.records q) (held q) (less q) (below q))
+      (get t.records q) (or_more (is_linked t.records q) (held q) (less q) (below q))
       ∙ sym (retained t.records (λ i. is_linked t.records i || less i) q)))

@@ -8,8 +8,14 @@ use Rattle.fid_model.specs.Fids.{ServerState, IsTreeAlone}
 use Rattle.fid_model.specs.Moments.{Moment, Keeps, Asks, Untouched}
 
 pub keeps_refl : (m : Moment) → Keeps m m
-keeps_refl m = record { fixed = refl; sized = refl; rises = omega arith; steady = refl; steadily =
-    λ t. refl }
+keeps_refl m = record {
+  fixed = refl;
+  sized = refl;
+  rises = omega arith;
+  steady = refl;
+  steadily =
+      λ t. refl;
+}
 
 pub keeps_trans : {a b c : Moment} → Keeps a b → Keeps b c → Keeps a c
 keeps_trans h k = record {

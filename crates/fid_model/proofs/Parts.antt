@@ -27,8 +27,11 @@ nothing_done s _ = refl
 
 -- where nothing changed, nothing was done
 pub unchanged_left : (s : ServerState) (m : Message) (s1 : ServerState) → s1 ≡ s → IsLeft s m s1
-unchanged_left s m s1 same = (same_alone s s1 same, rw (ap (λ (x : ServerState). x.tree) same)
-    (nothing_done s m))
+unchanged_left s m s1 same = (
+  same_alone s s1 same,
+  rw (ap (λ (x : ServerState). x.tree) same)
+      (nothing_done s m),
+)
 
 -- a front part is a part
 pub front_part : (s : ServerState) (m : Message) (t : Tree) → IsFrontDone s m t → IsPartDone s m t
@@ -59,5 +62,9 @@ pub fault_leaves_state : (s : ServerState) (m : Message) (reply : Reply) (s1 : S
     (f0 f1 : ℕ) → changes_tree m ≡ false → Outcome s m reply s1 f0 f1
     → ((reply, s1) ≡ answer s m) ⊎ (Rose f0 f1 × IsHurtReply s m reply × (s1 ≡ s))
 fault_leaves_state s m reply s1 f0 f1 keeps o =
-    ⊎_elim (λ e. inl e) (λ k. inr (k.0, k.1, same_state s s1 k.2
-    (tree_stays s m s1.tree keeps k.3))) o
+    ⊎_elim (λ e. inl e) (λ k. inr (
+      k.0,
+      k.1,
+      same_state s s1 k.2
+          (tree_stays s m s1.tree keeps k.3),
+    )) o

@@ -37,8 +37,8 @@ pub Replied-served : (s0 s1 : ServerState) (f0 f1 : ℕ) (left0 left1 : Option (
 Replied-served s0 s1 f0 f1 left0 left1 bytes r calm =
     let same = body_answered s0 s1 f0 f1 r.body r.reply r.outcome calm in
     let bytes_same : bytes ≡ reply_frame r.tag (answer_body s0 r.body).0 = r.spelled
-        ∙ ap (λ (x : Reply × ServerState). reply_frame r.tag x.0) same in
+    ∙ ap (λ (x : Reply × ServerState). reply_frame r.tag x.0) same in
     let state_same : s1 ≡ (answer_body s0 r.body).1 = ap (λ (x : Reply × ServerState). x.1) same in
     subst (λ (x : List ℕ × ServerState). Found (serve s0) left0 left1 x)
-        (λ j. (sym bytes_same j, sym state_same j))
-        (found_served s0 left0 left1 (r.tag, r.body) r.read)
+    (λ j. (sym bytes_same j, sym state_same j))
+    (found_served s0 left0 left1 (r.tag, r.body) r.read)

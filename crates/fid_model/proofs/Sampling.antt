@@ -78,14 +78,14 @@ one_fid : len server.fids ≡ 1
 one_fid =
     len-insert nat_cmp_total empty 7 (closed 1)
     ∙ ap (λ (o : Option Fid). cond (is_some o) (len (empty {X = Fid} {R = nat_cmp}))
-        (len (empty {X = Fid} {R = nat_cmp}) + 1)) (get-empty {X = Fid} nat_cmp 7)
-        ∙ ap (λ k. k + 1) (len-empty nat_cmp Fid)
+    (len (empty {X = Fid} {R = nat_cmp}) + 1)) (get-empty {X = Fid} nat_cmp 7)
+    ∙ ap (λ k. k + 1) (len-empty nat_cmp Fid)
 
 two_fids : len with_open.fids ≡ 2
 two_fids =
     len-insert nat_cmp_total server.fids 8 opened_file
     ∙ ap (λ (o : Option Fid). cond (is_some o) (len server.fids) (len server.fids + 1)) eight
-        ∙ ap (λ k. k + 1) one_fid
+    ∙ ap (λ k. k + 1) one_fid
 
 pub room : nat_le 2 (len server.fids) ≡ false
 room = ap (nat_le 2) one_fid
@@ -106,9 +106,9 @@ pub attach_new : core server (t_attach 8 4294967295 [] [] 0)
     ≡ (r_attach top_qid, record server { fids = insert server.fids 8 (closed 1) })
 attach_new =
     ap (λ o. attach_from server 8 o (nat_le 2 (len server.fids))) eight
-        ∙ ap (attach_from server 8 None) room
+    ∙ ap (attach_from server 8 None) room
     ∙ ap (attached server 8) root_top ∙ ap (λ q.
-        (r_attach q, record server { fids = insert server.fids 8 (closed 1) })) qid_of_top
+    (r_attach q, record server { fids = insert server.fids 8 (closed 1) })) qid_of_top
 
 pub attach_used : core server (t_attach 7 4294967295 [] [] 0) ≡ (r_lerror EBADF, server)
 attach_used = ap (λ o. attach_from server 7 o (nat_le 2 (len server.fids))) seven
@@ -140,10 +140,10 @@ pub walk_found : core server (t_walk 7 8 (hello ∷ []))
     ≡ (r_walk (file_qid ∷ []), record server { fids = insert server.fids 8 (closed 2) })
 walk_found =
     ap (λ o. walk_by 7 (hello ∷ []) o (get server.fids 7)) eight
-        ∙ ap (walk_by 7 (hello ∷ []) None) seven ∙ ap (walk_at (hello ∷ [])) room
+    ∙ ap (walk_by 7 (hello ∷ []) None) seven ∙ ap (walk_at (hello ∷ [])) room
     ∙ ap (walk_answer server 8) (one_found [])
-        ∙ ap (λ q. (r_walk (q ∷ []), record server { fids = insert server.fids 8 (closed 2) }))
-        qid_of_file
+    ∙ ap (λ q. (r_walk (q ∷ []), record server { fids = insert server.fids 8 (closed 2) }))
+    qid_of_file
 
 pub walk_copied : core server (t_walk 7 8 [])
     ≡ (r_walk [], record server { fids = insert server.fids 8 (closed 1) })
@@ -157,18 +157,18 @@ none_below = ap (λ (o : Option ℕ). stepped (find_unless o false sample 2 hell
 pub walk_part : core server (t_walk 7 8 (hello ∷ hello ∷ [])) ≡ (r_walk (file_qid ∷ []), server)
 walk_part =
     ap (λ o. walk_by 7 (hello ∷ hello ∷ []) o (get server.fids 7)) eight
-        ∙ ap (walk_by 7 (hello ∷ hello ∷ []) None) seven ∙ ap (walk_at (hello ∷ hello ∷ [])) room
+    ∙ ap (walk_by 7 (hello ∷ hello ∷ []) None) seven ∙ ap (walk_at (hello ∷ hello ∷ [])) room
     ∙ ap (walk_answer server 8) (one_found (hello ∷ []))
-        ∙ ap (λ (w : Walked). walk_answer server 8 (qid_at sample 2 ∷ w.0, w.1)) none_below
-        ∙ ap (λ q. (r_walk (q ∷ []), server)) qid_of_file
+    ∙ ap (λ (w : Walked). walk_answer server 8 (qid_at sample 2 ∷ w.0, w.1)) none_below
+    ∙ ap (λ q. (r_walk (q ∷ []), server)) qid_of_file
 
 pub walk_missing : core server (t_walk 7 8 (codes "..." ∷ [])) ≡ (r_lerror ENOENT, server)
 walk_missing =
     ap (λ o. walk_by 7 (codes "..." ∷ []) o (get server.fids 7)) eight
-        ∙ ap (walk_by 7 (codes "..." ∷ []) None) seven ∙ ap (walk_at (codes "..." ∷ [])) room
+    ∙ ap (walk_by 7 (codes "..." ∷ []) None) seven ∙ ap (walk_at (codes "..." ∷ [])) room
     ∙ ap (λ (o : Option ℕ). walk_answer server 8
-        (stepped (find_unless o false sample 1 (codes "...")) [])) name_three_dots
-        ∙ ap (λ told. walk_answer server 8 (stepped told [])) not_found
+    (stepped (find_unless o false sample 1 (codes "...")) [])) name_three_dots
+    ∙ ap (λ told. walk_answer server 8 (stepped told [])) not_found
 
 pub walk_above : core server (t_walk 7 8 (codes ".." ∷ [])) ≡ (r_lerror EINVAL, server)
 walk_above = ap (λ o. walk_by 7 (codes ".." ∷ []) o (get server.fids 7)) eight
@@ -182,12 +182,20 @@ walk_unknown = ap (λ o. walk_by 9 [] o (get server.fids 9)) eight ∙ ap (walk_
 abbrev opened_top : ℕ → Result (Unit {0}) ℕ → Answer
 opened_top flags told = lopen_answer server 7 flags (closed 1) (emptied_where told sample 1 flags)
 
-pub open_read : core server (t_lopen 7 0) ≡ (r_lopen top_qid 0, record server
-    { fids = insert server.fids 7 (record { ino = 1; open_state = Opened 0 false }) })
+pub open_read : core server (t_lopen 7 0) ≡ (
+  r_lopen top_qid 0,
+  record server
+      { fids = insert server.fids 7 (record { ino = 1; open_state = Opened 0 false }) },
+)
 open_read =
     ap (lopen_by server 7 0) seven ∙ ap (opened_top 0) (open_top 0)
-    ∙ ap (λ q. (r_lopen q 0, record server { fids =
-        insert server.fids 7 (record { ino = 1; open_state = Opened 0 false }) })) qid_of_top
+    ∙ ap (λ q. (
+      r_lopen q 0,
+      record server {
+        fids =
+            insert server.fids 7 (record { ino = 1; open_state = Opened 0 false });
+      },
+    )) qid_of_top
 
 pub open_written : core server (t_lopen 7 1) ≡ (r_lerror EISDIR, server)
 open_written = ap (lopen_by server 7 1) seven ∙ ap (opened_top 1) (open_top 1)
@@ -211,8 +219,11 @@ read_small = ap (read_by small 0 8) eight_open ∙ ap read_reply (read_file 0 2)
 pub read_closed : core server (t_read 7 0 8) ≡ (r_lerror EBADF, server)
 read_closed = ap (λ o. (read_by server 0 8 o, server)) seven
 
-pub clunk_known : core with_open (t_clunk 8) ≡ (r_clunk, record with_open
-    { fids = remove with_open.fids 8 })
+pub clunk_known : core with_open (t_clunk 8) ≡ (
+  r_clunk,
+  record with_open
+      { fids = remove with_open.fids 8 },
+)
 clunk_known = ap (clunk_by with_open 8) eight_open
 
 pub clunk_unknown : core server (t_clunk 9) ≡ (r_lerror EBADF, server)
@@ -234,6 +245,6 @@ mode_done =
     let c = changes 9 448 0 0 0 0 0 0 0 in
     subst (λ (o : Option Fid). IsAfterFront (steps_at c o) sample new_mode) (sym seven)
     (inr (subst (λ (o : Option Body). MatchResult
-        (unless_refused (refused_at refused_for_link o) (tt {0}) new_mode)
-        (λ done. IsAfterFront (resize_step (closed 1) 0 ∷ []) done.1 new_mode) (λ e. ⊥))
-        (sym body_of_top) (inl refl)))
+    (unless_refused (refused_at refused_for_link o) (tt {0}) new_mode)
+    (λ done. IsAfterFront (resize_step (closed 1) 0 ∷ []) done.1 new_mode) (λ e. ⊥))
+    (sym body_of_top) (inl refl)))

@@ -11,8 +11,14 @@ use Rattle.tree_machine.proofs.Hurting.{Hurt-append, Hurt-zero, messages_from-ap
 use Rattle.frame_pump.specs.Sessions.{Session, Counted, Met, Stays, StepOutcome, Answers, Answered}
 
 pub Stays-refl : (s : Session) → Stays s s
-Stays-refl s = record { settings = refl; piece = refl; steady = refl; steadily = λ _. refl; rises =
-    omega arith }
+Stays-refl s = record {
+  settings = refl;
+  piece = refl;
+  steady = refl;
+  steadily = λ _. refl;
+  rises =
+      omega arith;
+}
 
 pub Stays-trans : (a b c : Session) → Stays a b → Stays b c → Stays a c
 Stays-trans a b c h k = record {
@@ -56,14 +62,14 @@ one piece s m0 m1 f0 f1 number frame bytes rises (inr (rose, hurt)) = record {
 messages_more : (piece : ℕ) (s : Settings) (m0 m : MachineState) (frames : List (List ℕ))
     (frame : List ℕ) (replies : List ℕ) (hurt more number sent : ℕ)
     → Hurt s m0 frames hurt replies m → (hurt ≡ 0 → number ≡ messages_from piece s m0 frames)
-        → (more ≡ 0 → sent ≡ messages piece s m frame) → hurt + more ≡ 0
+    → (more ≡ 0 → sent ≡ messages piece s m frame) → hurt + more ≡ 0
     → number + sent ≡ messages_from piece s m0 (frames ++ frame ∷ [])
 messages_more piece s m0 m frames frame replies hurt more number sent run before after none =
     let h : hurt ≡ 0 = omega (arith, none) in
     let k : more ≡ 0 = omega (arith, none) in
     let state : m ≡ (play_from s m0 frames).1 = (Hurt-zero s m0 m frames hurt replies h run).1 in
     let at : sent ≡ messages piece s (play_from s m0 frames).1 frame = after k
-        ∙ ap (λ (x : MachineState). messages piece s x frame) state in
+    ∙ ap (λ (x : MachineState). messages piece s x frame) state in
     let joined = messages_from-append s piece m0 frames (frame ∷ []) in
     omega (arith, before h, at, joined)
 
@@ -72,13 +78,13 @@ pub Answered-more : (s0 s1 s2 : Session) (frames : List (List ℕ)) (frame : Lis
     → Answered s0 s2 (frames ++ frame ∷ []) (replies ++ bytes)
 Answered-more s0 s1 s2 frames frame replies bytes h a =
     let outcome : StepOutcome s0.piece s0.settings s1.state s2.state s1.faults s2.faults a.number
-        frame bytes =
+    frame bytes =
     subst (λ p. StepOutcome p s0.settings s1.state s2.state s1.faults s2.faults a.number frame
-        bytes) h.stays.piece
+    bytes) h.stays.piece
     (subst (λ s. StepOutcome s1.piece s s1.state s2.state s1.faults s2.faults a.number frame bytes)
-        h.stays.settings a.outcome) in
+    h.stays.settings a.outcome) in
     let k = one s0.piece s0.settings s1.state s2.state s1.faults s2.faults a.number frame bytes
-        a.stays.rises outcome in
+    a.stays.rises outcome in
     record {
       stays = Stays-trans s0 s1 s2 h.stays a.stays;
       number = h.number + a.number;
@@ -109,9 +115,9 @@ Answered-none s = record {
 pub Answered-exact : (s0 s1 : Session) (frames : List (List ℕ)) (replies : List ℕ)
     → Answered s0 s1 frames replies → s1.faults ≡ s0.faults → s0.faults < 2 ^ 64 - 1
     → (replies ≡ (play_from s0.settings s0.state frames).0)
-        × (s1.state ≡ (play_from s0.settings s0.state frames).1)
+    × (s1.state ≡ (play_from s0.settings s0.state frames).1)
     × Counted s0.sent (messages_from s0.piece s0.settings s0.state frames) s1.sent
-        × Counted s0.asked (messages_from s0.piece s0.settings s0.state frames) s1.asked
+    × Counted s0.asked (messages_from s0.piece s0.settings s0.state frames) s1.asked
 Answered-exact s0 s1 frames replies h same below =
     let none : h.hurt ≡ 0 = omega (arith, h.met, same, below) in
     let played = Hurt-zero s0.settings s0.state s1.state frames h.hurt replies none h.run in (

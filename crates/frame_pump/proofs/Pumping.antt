@@ -50,28 +50,28 @@ first_at (Some xs) (Some ys) turns fs whole le h =
     let n : turns ≡ length fs + (turns - length fs) = omega (arith, le) in
     let at : cut turns xs ≡ with_frames fs (cut (turns - length fs) ys) =
     ap (λ (m : ℕ). cut m xs) n ∙ ap (cut (length fs + (turns - length fs))) h
-        ∙ cut-frames fs (turns - length fs) ys whole in
+    ∙ cut-frames fs (turns - length fs) ys whole in
     ap (λ (c : Cut). take (length fs) c.frames) at
-        ∙ take-append_seam fs (cut (turns - length fs) ys).frames
+    ∙ take-append_seam fs (cut (turns - length fs) ys).frames
 
 -- and all of it, where the cut of what is left has no more
 whole_cut : (a b : Option (List ℕ)) (turns : ℕ) (end : End) (fs : List (List ℕ)) → AreFrames fs
     → length fs ≤ turns → Consumes a b (concat fs)
     → IfSome b (λ rest. cut (turns - length fs) rest ≡ ends end)
-        → IfSome a (λ bytes. cut turns bytes ≡ record { frames = fs; end = end })
+    → IfSome a (λ bytes. cut turns bytes ≡ record { frames = fs; end = end })
 whole_cut None b turns end fs whole le h at = tt
 whole_cut (Some xs) None turns end fs whole le h at = absurd h
 whole_cut (Some xs) (Some ys) turns end fs whole le h at =
     let n : turns ≡ length fs + (turns - length fs) = omega (arith, le) in
     ap (λ (m : ℕ). cut m xs) n ∙ ap (cut (length fs + (turns - length fs))) h
-        ∙ cut-frames fs (turns - length fs) ys whole
+    ∙ cut-frames fs (turns - length fs) ys whole
     ∙ ap (with_frames fs) at ∙ ap (λ (l : List (List ℕ)). record { frames = l; end = end })
-        (append-nil fs)
+    (append-nil fs)
 
 -- ---- the invariant
 
-pub record Pumping (s0 s1 : Session) (stands : Type 0) (p0 p1 : Streams) (handled : ℕ) : Type 0
-    where
+pub record Pumping (s0 s1 : Session) (stands : Type 0) (p0 p1 : Streams) (handled : ℕ) : Type
+    0 where
   pub frames : List (List ℕ)
   pub whole : AreFrames frames
   pub number : length frames ≡ handled
@@ -130,7 +130,7 @@ module _ (s0 s1 s2 : Session) (stands1 : Type 0) (p0 p1 p2 : Streams) (handled t
     number = h.number;
     cut = whole_cut p0.left p1.left turns end h.frames h.whole (omega (arith, h.number, le)) h.taken
         (subst (λ (n : ℕ). IfSome p1.left (λ rest. cut (turns - n) rest ≡ ends end)) (sym h.number)
-            at);
+        at);
     taken = took;
     replies = h.replies;
     answered = subst (λ s. Answered s0 s h.frames h.replies) (sym same) h.answered;
@@ -138,17 +138,21 @@ module _ (s0 s1 s2 : Session) (stands1 : Type 0) (p0 p1 p2 : Streams) (handled t
   }
 
   fronts : handled ≤ turns → Fronts p0.left turns handled h.frames
-  fronts le = record { whole = h.whole; number = h.number; first =
-      first_at p0.left p1.left turns h.frames h.whole (omega (arith, h.number, le)) h.taken }
+  fronts le = record {
+    whole = h.whole;
+    number = h.number;
+    first =
+        first_at p0.left p1.left turns h.frames h.whole (omega (arith, h.number, le)) h.taken;
+  }
 
   -- one frame more was taken
   first_more : (frame : List ℕ) → handled < turns → IsFrame frame → Consumes p1.left p2.left frame
       → AreFirst p0.left turns (h.frames ++ frame ∷ [])
   first_more frame lt whole consumed =
       first_at p0.left p2.left turns (h.frames ++ frame ∷ [])
-          (AreFrames-snoc h.frames frame h.whole whole)
+      (AreFrames-snoc h.frames frame h.whole whole)
       (omega (arith, length-append h.frames (frame ∷ []), h.number, lt))
-          (Consumes-snoc p0.left p1.left p2.left h.frames frame h.taken consumed)
+      (Consumes-snoc p0.left p1.left p2.left h.frames frame h.taken consumed)
 
   -- the input ended at a frame's end
   pub Completes-turn : (stands2 : Type 0) → handled ≤ turns → Turn s1 s2 stands2 p1 p2 (Ok false)
@@ -191,7 +195,7 @@ module _ (s0 s1 s2 : Session) (stands1 : Type 0) (p0 p1 p2 : Streams) (handled t
     ended bad_length (omega (arith, lt)) (IfSome-weaker p1.left _ _
         (λ rest at. cut-odd_length (turns - handled) rest (omega (arith, lt)) at) at)
         (more, four, Consumes-trans p0.left p1.left p2.left (concat h.frames) more h.taken consumed)
-            idle.0 idle.1,
+        idle.0 idle.1,
   )
   StopsBy-turn stands2 cause.Read lt (failed, now, idle, (more, consumed, short)) = (
     (read_faults failed.0, failed.1 ∙ h.quiet.1),
@@ -204,8 +208,12 @@ module _ (s0 s1 s2 : Session) (stands1 : Type 0) (p0 p1 p2 : Streams) (handled t
     record {
       frames = h.frames;
       last = frame;
-      fronts = record { whole = AreFrames-snoc h.frames frame h.whole t.whole; number =
-          refl; first = first_more frame lt t.whole t.consumed };
+      fronts = record {
+        whole = AreFrames-snoc h.frames frame h.whole t.whole;
+        number =
+            refl;
+        first = first_more frame lt t.whole t.consumed;
+      };
       number = h.number;
       consumed = Consumes-trans p0.left p1.left p2.left (concat h.frames) frame h.taken t.consumed;
       replies = h.replies;
@@ -254,8 +262,8 @@ module _ (s0 s1 : Session) (stands : Type 0) (p0 p1 p2 : Streams) (handled turns
     subst (λ (n : ℕ). Ended s0 s1 p0 p2 turns n done) last
         (ended s0 s1 s1 stands p0 p1 p2 handled turns h done (omega (arith, last))
         (IfSome-weaker p1.left _ _ (λ rest at. cut-nothing (turns - handled) rest at)
-            (Consumes-whole p1.left p2.left bytes (λ bs. front bs ≡ nothing) consumed end
-            (front-nil bytes none))) end refl keeps),
+        (Consumes-whole p1.left p2.left bytes (λ bs. front bs ≡ nothing) consumed end
+        (front-nil bytes none))) end refl keeps),
   )
 
   -- another byte follows
@@ -268,11 +276,14 @@ module _ (s0 s1 : Session) (stands : Type 0) (p0 p1 p2 : Streams) (handled turns
         subst (λ (n : ℕ). Ended s0 s1 p0 p2 turns n turns_spent) last
             (ended s0 s1 s1 stands p0 p1 p2 handled turns h turns_spent (omega (arith, last))
             (Consumes-if p1.left p2.left bytes (λ bs. cut (turns - handled) bs ≡ ends turns_spent)
-                consumed
+            consumed
             (λ more. ap (λ (k : ℕ). cut k (bytes ++ more)) none
-                ∙ cut-spent (bytes ++ more) (omega (arith, length-append bytes more, some))))
-            (bytes, some, Consumes-trans p0.left p1.left p2.left (concat h.frames) bytes h.taken
-                consumed) refl keeps),
+            ∙ cut-spent (bytes ++ more) (omega (arith, length-append bytes more, some)))) (
+              bytes,
+              some,
+              Consumes-trans p0.left p1.left p2.left (concat h.frames) bytes h.taken
+                  consumed,
+            ) refl keeps),
       )
 
   -- the input failed
@@ -284,5 +295,5 @@ module _ (s0 s1 : Session) (stands : Type 0) (p0 p1 p2 : Streams) (handled turns
     h.standing,
     subst (λ (n : ℕ). ReadStopped s0 s1 p0 p2 turns n) last
         (read_stopped s0 s1 s1 stands p0 p1 p2 handled turns h (omega (arith, last)) more consumed
-            (inl (omega (arith, few))) refl keeps),
+        (inl (omega (arith, few))) refl keeps),
   )

@@ -34,5 +34,5 @@ module _ (s0 s1 : Session) (stands : Type 0) (p0 p1 : Streams) (turns handled : 
   pub Runs-stopped : (sent : ℕ) (e : BridgeError) → sent ≡ s1.sent
       → StopsBy s0 s1 stands p0 p1 turns handled e
       → Runs s0 s1 stands p0 p1 turns (Err (record
-          { cause = e; handled = handled; nine_frames = sent }))
+      { cause = e; handled = handled; nine_frames = sent }))
   Runs-stopped sent e same h = record { stays = halt_stays e h; outcome = (same, h) }

@@ -15,7 +15,7 @@ pair a s = (a, s)
 abbrev pub Tells : {A : Type 0} → Result A ℕ × ServerState → Result A ℕ → Moment → Moment → Type 0
 Tells told answer old new =
     ((answer, new.state) ≡ told) ⊎ (Rose old.faults new.faults × (answer ≡ Err EIO)
-        × (new.state ≡ old.state))
+    × (new.state ≡ old.state))
 
 -- what a message answered
 pub answered_tells : {A : Type 0} {told : Result A ℕ × ServerState} {answer : Result A ℕ}
@@ -27,7 +27,7 @@ answered_tells {told = told} {answer = answer} {old = old} {new = new} h =
 pub fid_tells : {A : Type 0} {told : ServerState → Fid → Result A ℕ × ServerState} {fid : ℕ}
     {answer : Result A ℕ} {old new : Moment}
     → FidAnswered told Untouched fid answer old new → (f : Fid) → get old.state.fids fid ≡ Some f
-        → Tells (told old.state f) answer old new
+    → Tells (told old.state f) answer old new
 fid_tells {told = told} {answer = answer} {old = old} {new = new} h f at =
     asks_same (told old.state f) answer old.state new.state old.faults new.faults (h.asks f at)
 

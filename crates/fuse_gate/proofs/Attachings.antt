@@ -72,9 +72,9 @@ linked_twice t g = ap (λ (rs : Records). let u : Tree = record t { records = rs
     (same_gets _ _ (λ q.
     retained (linked t).records (is_linked (linked t).records) q
     ∙ ap (λ o. cond (is_linked (linked t).records q) o None)
-        (retained t.records (is_linked t.records) q)
+    (retained t.records (is_linked t.records) q)
     ∙ cond_twice (is_linked t.records q) (is_linked (linked t).records q) (get t.records q)
-        (retained-is_linked t g (is_linked t.records) (λ i live. live) q)
+    (retained-is_linked t g (is_linked t.records) (λ i live. live) q)
     ∙ sym (retained t.records (is_linked t.records) q)))
 
 -- ---- maps of one key
@@ -144,18 +144,25 @@ module _ (n0 n n1 : Moment) (is : n.state ≡ cleared n0.state) where
 
   refused_by : (b : Bool) (r : Result ℕ ℕ) (e : ℕ) → pair (Err e) s1 ≡ told_by b r → (s1 ≡ s)
       × (by_limit b r ≡ Err e)
-  refused_by true r e h = (ap (λ (x : Result Qid ℕ × ServerState). x.1) h,
-      (let same : e ≡ ENFILE = (let q = ap (λ (x : Result Qid ℕ × ServerState). x.0) h in cc) in ap
-      Err (sym same)))
+  refused_by true r e h = (
+    ap (λ (x : Result Qid ℕ × ServerState). x.1) h,
+    (let same : e ≡ ENFILE = (let q = ap (λ (x : Result Qid ℕ × ServerState). x.0) h in cc) in ap
+        Err (sym same)),
+  )
   refused_by false (Ok i) e h = absurd (let clash : Err e ≡ Ok (qid_at s.tree i) =
       ap (λ (x : Result Qid ℕ × ServerState). x.0) h in cc)
-  refused_by false (Err d) e h = (ap (λ (x : Result Qid ℕ × ServerState). x.1) h,
-      (let same : e ≡ d = (let q = ap (λ (x : Result Qid ℕ × ServerState). x.0) h in cc) in ap Err
-      (sym same)))
+  refused_by false (Err d) e h = (
+    ap (λ (x : Result Qid ℕ × ServerState). x.1) h,
+    (let same : e ≡ d = (let q = ap (λ (x : Result Qid ℕ × ServerState). x.0) h in cc) in ap Err
+        (sym same)),
+  )
 
   cleared_by : s1 ≡ s → IsCleared s0 s1
-  cleared_by same = record { fids = ap (λ (x : ServerState). x.fids) same ∙ fids_none; tree =
-      ap (λ (x : ServerState). x.tree) same ∙ tree_is }
+  cleared_by same = record {
+    fids = ap (λ (x : ServerState). x.fids) same ∙ fids_none;
+    tree =
+        ap (λ (x : ServerState). x.tree) same ∙ tree_is;
+  }
 
   refusal_by : (b : Bool) → nat_le s0.settings.limit 0 ≡ b → (d e f0 f1 : ℕ) → e ≡ cond b ENFILE d
       → (root_told s0 ≡ Err d) ⊎ (Rose f0 f1 × (d ≡ EIO)) → IsRefusal s0 f0 f1 e
@@ -180,12 +187,15 @@ module _ (n0 n n1 : Moment) (is : n.state ≡ cleared n0.state) where
         → AttachedBy n0 n1 (Err (Errno e))
     attach_refused r answered tells = ⊎_elim
         (λ h. let w = refused_by (nat_le s.settings.limit 0) (root_of s.tree s.settings.root) d
-            (ap (λ x. pair x s1) (sym answered) ∙ h)
-            in (cleared_by w.0, refused (inl (sym told_is ∙ w.1)), omega arith))
+        (ap (λ x. pair x s1) (sym answered) ∙ h)
+        in (cleared_by w.0, refused (inl (sym told_is ∙ w.1)), omega arith))
         (λ k.
-        let same : Err d ≡ Err EIO = sym answered ∙ k.1 in
-        (cleared_by k.2, refused (inr (subst (λ f. Rose f n1.faults) same_faults k.0, cc)), omega
-            arith))
+        let same : Err d ≡ Err EIO = sym answered ∙ k.1 in (
+          cleared_by k.2,
+          refused (inr (subst (λ f. Rose f n1.faults) same_faults k.0, cc)),
+          omega
+              arith,
+        ))
         tells
 
   attached_by : (b : Bool) (r : Result ℕ ℕ) (q : Qid) → pair (Ok q) s1 ≡ told_by b r → (i : ℕ)
@@ -193,19 +203,24 @@ module _ (n0 n n1 : Moment) (is : n.state ≡ cleared n0.state) where
       × (s1 ≡ record s { fids = insert s.fids 1 (closed i) })
   attached_by true r q h = absurd (let clash : Ok q ≡ Err ENFILE =
       ap (λ (x : Result Qid ℕ × ServerState). x.0) h in cc)
-  attached_by false (Ok i) q h = (i, refl, refl,
-      (let e : Ok q ≡ Ok (qid_at s.tree i) = ap (λ (x : Result Qid ℕ × ServerState). x.0) h
-      in (let same : q ≡ qid_at s.tree i = cc in same)), ap
-      (λ (x : Result Qid ℕ × ServerState). x.1) h)
+  attached_by false (Ok i) q h = (
+    i,
+    refl,
+    refl,
+    (let e : Ok q ≡ Ok (qid_at s.tree i) = ap (λ (x : Result Qid ℕ × ServerState). x.0) h
+        in (let same : q ≡ qid_at s.tree i = cc in same)),
+    ap
+        (λ (x : Result Qid ℕ × ServerState). x.1) h,
+  )
   attached_by false (Err d) q h = absurd (let clash : Ok q ≡ Err d =
       ap (λ (x : Result Qid ℕ × ServerState). x.0) h in cc)
 
   found_by : (r : Result Qid ℕ) (q : Qid) → r ≡ Ok q → Tells (attach_told s 1) r n n1
       → (i : ℕ) × (nat_le s.settings.limit 0 ≡ false) × (root_of s.tree s.settings.root ≡ Ok i)
-          × (q ≡ qid_at s.tree i) × (s1 ≡ record s { fids = insert s.fids 1 (closed i) })
+      × (q ≡ qid_at s.tree i) × (s1 ≡ record s { fids = insert s.fids 1 (closed i) })
   found_by r q answered tells = ⊎_elim
       (λ h. attached_by (nat_le s.settings.limit 0) (root_of s.tree s.settings.root) q
-          (ap (λ x. pair x s1) (sym answered) ∙ h))
+      (ap (λ x. pair x s1) (sym answered) ∙ h))
       (λ k. absurd (let clash : Ok q ≡ Err EIO = sym answered ∙ k.1 in cc))
       tells
 
@@ -230,7 +245,7 @@ module _ (n0 n n1 : Moment) (is : n.state ≡ cleared n0.state) where
       (h : IsGateAt q.path q.ty g) (i : ℕ) (few : nat_le s.settings.limit 0 ≡ false)
       (found : root_of s.tree s.settings.root ≡ Ok i)
       (named_it : qid_of q ≡ qid_at s.tree i)
-          (state : s1 ≡ record s { fids = insert s.fids 1 (closed i) }) where
+      (state : s1 ≡ record s { fids = insert s.fids 1 (closed i) }) where
     stored : IsSome (get s.tree.records i)
     stored = stored_by (get s.tree.records i)
         (root_is_directory s.tree s.settings.root (Ok TOP) i found)
@@ -260,12 +275,12 @@ module _ (n0 n n1 : Moment) (is : n.state ≡ cleared n0.state) where
     paired = record {
       fids = λ id. ⊎_elim
           (λ e. one_there s1.fids 1 (closed i) fids_is id e
-              ∙ ap (λ k. Some (closed k)) (sym path_is)
-              ∙ sym (ap (λ o. fid_at o (get g.handles id))
-              (one_there g.nodes 1 root_node h.nodes id e)))
+          ∙ ap (λ k. Some (closed k)) (sym path_is)
+          ∙ sym (ap (λ o. fid_at o (get g.handles id))
+          (one_there g.nodes 1 root_node h.nodes id e)))
           (λ ne. one_none s1.fids 1 (closed i) fids_is id ne
-              ∙ sym (ap (λ o. fid_at o (get g.handles id))
-              (one_none g.nodes 1 root_node h.nodes id ne) ∙ ap (fid_at None) (no_handle id)))
+          ∙ sym (ap (λ o. fid_at o (get g.handles id))
+          (one_none g.nodes 1 root_node h.nodes id ne) ∙ ap (fid_at None) (no_handle id)))
           (cases_eq id 1);
       used = h.used ∙ sym (one_long s1.fids 1 (closed i) fids_is);
       counted = (let a = one_long g.nodes 1 root_node h.nodes in let b : len g.handles ≡ 0 =
@@ -278,11 +293,11 @@ module _ (n0 n n1 : Moment) (is : n.state ≡ cleared n0.state) where
       node_kinds = λ id n r at there.
           let one = one_only g.nodes 1 root_node h.nodes id n at in
           let here : get s.tree.records i ≡ Some r =
-              ap (λ (t : Tree). get t.records i) (sym tree_same)
-              ∙ ap (get s1.tree.records) (sym path_is)
-              ∙ ap (λ (x : Node). get s1.tree.records x.ino) one.1 ∙ there in
+          ap (λ (t : Tree). get t.records i) (sym tree_same)
+          ∙ ap (get s1.tree.records) (sym path_is)
+          ∙ ap (λ (x : Node). get s1.tree.records x.ino) one.1 ∙ there in
           ap (λ (x : Node). x.kind) (sym one.1) ∙ ap (λ (x : Qid). x.0) named_it
-              ∙ ap (λ o. (qid_told (attr_or_missing i o)).0) here;
+          ∙ ap (λ o. (qid_told (attr_or_missing i o)).0) here;
       handle_kinds = λ id k r at there. absurd
           (let clash : None ≡ Some k = sym (no_handle id) ∙ at in cc);
     }
@@ -293,14 +308,20 @@ module _ (n0 n n1 : Moment) (is : n.state ≡ cleared n0.state) where
         ∙ ap (λ (m : FinMap nat_cmp MachineNode). insert m 1 (node_of root_node))
         (mapped-empty node_of)
         ∙ ap (λ (k : ℕ). insert map.empty 1 (let v : MachineNode =
-            record { ino = k; count = 1 } in v)) path_is
+        record { ino = k; count = 1 } in v)) path_is
 
     handles_is : mapped handle_of g.handles ≡ map.empty
     handles_is = ap (mapped handle_of) h.handles ∙ mapped-empty handle_of
 
     machine_is : machine_of g s1 ≡ begun (linked s0.tree) i
-    machine_is = λ j. record { phase = phase_of (h.phase j); tree = (tree_same ∙ tree_is) j; nodes =
-        nodes_is j; handles = handles_is j; next = h.next j }
+    machine_is = λ j. record {
+      phase = phase_of (h.phase j);
+      tree = (tree_same ∙ tree_is) j;
+      nodes =
+          nodes_is j;
+      handles = handles_is j;
+      next = h.next j;
+    }
 
     limit_some : 1 ≤ s0.settings.limit
     limit_some = positive s0.settings.limit (sym limit_is ∙ few)
@@ -311,7 +332,7 @@ module _ (n0 n n1 : Moment) (is : n.state ≡ cleared n0.state) where
     begins : Begins g s0 s1
     begins =
         let begun_is = begun_good s0.settings (linked s0.tree) i
-            (subst IsGoodTree tree_is good.tree) (sym root_is ∙ found) limit_some in
+        (subst IsGoodTree tree_is good.tree) (sym root_is ∙ found) limit_some in
         record {
           stands = record {
             good = subst (λ (x : Settings). IsGoodMachine x (machine_of g s1)) (sym settings_same)

@@ -82,8 +82,12 @@ pub Batching-none : (g : Gate) (n : Moment) (pairs : List ℕ) → IsInStep g n.
 Batching-none g n pairs st good = record {
   done = 0;
   left = refl;
-  went = record { stands = st; state = sym (stands_kept st good); messages =
-      record { frames = omega arith; asked = omega arith } };
+  went = record {
+    stands = st;
+    state = sym (stands_kept st good);
+    messages =
+        record { frames = omega arith; asked = omega arith };
+  };
   kept = keeps_refl n;
 }
 
@@ -118,7 +122,7 @@ module _ {g0 : Gate} {n0 : Moment} {g1 : Gate} {n1 : Moment} {pairs rest : List 
         ap (λ qs. gone m0 (all_forgotten m0 qs)) more_taken
         ∙ number m0 good (take b.done ps) p
         ∙ ap (λ (x : MachineState). gone m0 (all_forgotten m0 (take b.done ps)) + gone x
-            (forgotten x p.0 p.1)) (sym b.went.state)
+        (forgotten x p.0 p.1)) (sym b.went.state)
 
     pub Batching-more : (g2 : Gate) (n2 : Moment)
         → LetsGo (forgotten m1 p.0 p.1) (gone m1 (forgotten m1 p.0 p.1)) (g1, n1) (g2, n2)
@@ -134,8 +138,11 @@ module _ {g0 : Gate} {n0 : Moment} {g1 : Gate} {n1 : Moment} {pairs rest : List 
           went = record {
             stands = l.stands;
             state = l.state ∙ one_state;
-            messages = record { frames = omega (arith, before, more, one_number); asked =
-                omega (arith, asked, handed, one_number) };
+            messages = record {
+              frames = omega (arith, before, more, one_number);
+              asked =
+                  omega (arith, asked, handed, one_number);
+            };
           };
           kept = keeps_trans b.kept kept;
         }
@@ -151,4 +158,4 @@ module _ {g0 : Gate} {n0 : Moment} {g1 : Gate} {n1 : Moment} {pairs rest : List 
       (gone m0 (all_forgotten m0 ps)) (g0, n0) (g1, n1)
   Batching-whole short =
       subst (λ qs. LetsGo (all_forgotten m0 qs) (gone m0 (all_forgotten m0 qs)) (g0, n0) (g1, n1))
-          (take_whole b.done ps (b.left ∙ no_pair rest short)) b.went
+      (take_whole b.done ps (b.left ∙ no_pair rest short)) b.went

@@ -35,17 +35,25 @@ module _ (major minor : ℕ) where
   pub init_begun : {g : Gate} {n : Moment} → IsInStep g n.state → IsGoodServer n.state
       → (max_readahead least : ℕ) → major ≡ 7 → 23 ≤ minor → least ≡ min minor 31
       → ServesRequest 0 (init major minor max_readahead 0) (g, n)
-          (record g { phase = phase.Started }, n) (Granted least max_readahead)
+      (record g { phase = phase.Started }, n) (Granted least max_readahead)
   init_begun {g} {n} st good max_readahead least seven enough lower =
       let m = machine_of g n.state in
       let started : MachineState = record m { phase = Started } in
       served_after st good 0 (init major minor max_readahead 0) (passes seven enough)
-          (record g { phase = phase.Started }, n) (Granted least max_readahead)
+      (record g { phase = phase.Started }, n) (Granted least max_readahead)
       (made (init_effect m minor max_readahead) 0 (λ t. t ≡ n.state.tree) (g, n)
-          (record g { phase = phase.Started }, n) (Granted least max_readahead) good
-      (record { fids = st.paired.fids; used = st.paired.used; counted = st.paired.counted; ids =
-          st.paired.ids; known = st.paired.known; node_kinds = st.paired.node_kinds; handle_kinds =
-          st.paired.handle_kinds })
+      (record g { phase = phase.Started }, n) (Granted least max_readahead) good
+      (record {
+        fids = st.paired.fids;
+        used = st.paired.used;
+        counted = st.paired.counted;
+        ids =
+            st.paired.ids;
+        known = st.paired.known;
+        node_kinds = st.paired.node_kinds;
+        handle_kinds =
+            st.paired.handle_kinds;
+      })
       st.roomy refl (kept_good n.state.settings started (begins n.state.settings m st.good))
       (ap (λ k. Granted k max_readahead) lower) refl
-          (record { frames = omega arith; asked = omega arith }))
+      (record { frames = omega arith; asked = omega arith }))

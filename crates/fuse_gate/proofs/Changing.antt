@@ -45,24 +45,28 @@ module _ (g : Gate) (s : ServerState) (st : IsInStep g s) (id : ℕ) (n v : Node
   changed_paired = record {
     fids = λ q. insert_cases g.nodes id v q (λ o. get s.fids q ≡ fid_at o (get g.handles q))
         (λ e. subst (λ k. get s.fids k ≡ fid_at (Some v) (get g.handles k)) (sym e)
-            (node_fid st id n at ∙ ap (λ (i : ℕ). Some (closed i)) (sym same_ino)))
+        (node_fid st id n at ∙ ap (λ (i : ℕ). Some (closed i)) (sym same_ino)))
         (λ ne. st.paired.fids q);
     used = st.paired.used;
     counted = ap (λ k. k + len g.handles) (len_known g.nodes id n v at) ∙ st.paired.counted;
     ids = λ ino q indexed. let m = st.paired.ids ino q indexed in insert_cases g.nodes id v q
         (λ o. (k : Node) × (o ≡ Some k) × (k.ino ≡ ino))
-        (λ e. (v, refl, (let same : Some n ≡ Some m.0 = sym at ∙ ap (get g.nodes) (sym e)
-            ∙ m.1 in let one : n ≡ m.0 = cc in same_ino ∙ ap (λ (x : Node). x.ino) one ∙ m.2)))
+        (λ e. (
+          v,
+          refl,
+          (let same : Some n ≡ Some m.0 = sym at ∙ ap (get g.nodes) (sym e)
+              ∙ m.1 in let one : n ≡ m.0 = cc in same_ino ∙ ap (λ (x : Node). x.ino) one ∙ m.2),
+        ))
         (λ ne. m);
     known = λ q m. insert_cases g.nodes id v q (λ o. o ≡ Some m → get g.ids m.ino ≡ Some q)
         (λ e here. let same : v ≡ m = cc in ap (λ (x : Node). get g.ids x.ino) (sym same)
-            ∙ ap (get g.ids) same_ino ∙ st.paired.known id n at ∙ ap Some (sym e))
+        ∙ ap (get g.ids) same_ino ∙ st.paired.known id n at ∙ ap Some (sym e))
         (λ ne here. st.paired.known q m here);
     node_kinds = λ q m r. insert_cases g.nodes id v q
         (λ o. o ≡ Some m → get s.tree.records m.ino ≡ Some r → m.kind ≡ qid_type (kind_of r.body))
         (λ e here stored. let same : v ≡ m = cc in ap (λ (x : Node). x.kind) (sym same) ∙ same_kind
-            ∙ st.paired.node_kinds id n r at (ap (get s.tree.records) (sym same_ino)
-            ∙ ap (λ (x : Node). get s.tree.records x.ino) same ∙ stored))
+        ∙ st.paired.node_kinds id n r at (ap (get s.tree.records) (sym same_ino)
+        ∙ ap (λ (x : Node). get s.tree.records x.ino) same ∙ stored))
         (λ ne here stored. st.paired.node_kinds q m r here stored);
     handle_kinds = st.paired.handle_kinds;
   }
@@ -76,8 +80,8 @@ counted_paired g s st id n at = changed_paired g s st id n (counted_node n) at r
 
 module _ (g : Gate) (s : ServerState) (st : IsInStep g (without s g.next)) (ino kind : ℕ)
     (fresh : get s.fids g.next ≡ Some (closed ino)) (unknown : get g.ids ino ≡ None)
-    (is_kind : (r : Record) → get s.tree.records ino ≡ Some r → kind ≡ qid_type (kind_of r.body))
-        where
+    (is_kind : (r : Record) → get s.tree.records ino ≡ Some r → kind ≡ qid_type
+    (kind_of r.body)) where
   abbrev new_node : Node
   new_node = record { ino = ino; count = 1; kind = kind }
 
@@ -98,23 +102,31 @@ module _ (g : Gate) (s : ServerState) (st : IsInStep g (without s g.next)) (ino 
         (λ o. o ≡ Some q → (n : Node) × (get (insert g.nodes g.next new_node) q ≡ Some n)
         × (n.ino ≡ i))
         (λ e here. let same : g.next ≡ q = cc
-            in (new_node, ap (get (insert g.nodes g.next new_node)) (sym same)
-            ∙ inserted g.nodes g.next new_node, sym e))
+        in (
+          new_node,
+          ap (get (insert g.nodes g.next new_node)) (sym same)
+              ∙ inserted g.nodes g.next new_node,
+          sym e,
+        ))
         (λ ne here. let m = st.paired.ids i q here
-            in (m.0, insert_keeps g.nodes g.next new_node q
-            (λ e. let low = (node_good st q m.0 m.1).drawn in omega arith) ∙ m.1, m.2));
+        in (
+          m.0,
+          insert_keeps g.nodes g.next new_node q
+              (λ e. let low = (node_good st q m.0 m.1).drawn in omega arith) ∙ m.1,
+          m.2,
+        ));
     known = λ q m. insert_cases g.nodes g.next new_node q
         (λ o. o ≡ Some m → get (insert g.ids ino g.next) m.ino ≡ Some q)
         (λ e here. let same : new_node ≡ m = cc in ap
-            (λ (x : Node). get (insert g.ids ino g.next) x.ino) (sym same)
-            ∙ inserted g.ids ino g.next ∙ ap Some (sym e))
+        (λ (x : Node). get (insert g.ids ino g.next) x.ino) (sym same)
+        ∙ inserted g.ids ino g.next ∙ ap Some (sym e))
         (λ ne here. let indexed = st.paired.known q m here in insert_keeps g.ids ino g.next m.ino
-            (λ e. let clash : None ≡ Some q = sym unknown ∙ ap (get g.ids) (sym e) ∙ indexed in cc)
-            ∙ indexed);
+        (λ e. let clash : None ≡ Some q = sym unknown ∙ ap (get g.ids) (sym e) ∙ indexed in cc)
+        ∙ indexed);
     node_kinds = λ q m r. insert_cases g.nodes g.next new_node q
         (λ o. o ≡ Some m → get s.tree.records m.ino ≡ Some r → m.kind ≡ qid_type (kind_of r.body))
         (λ e here stored. let same : new_node ≡ m = cc in ap (λ (x : Node). x.kind) (sym same)
-            ∙ is_kind r (ap (λ (x : Node). get s.tree.records x.ino) same ∙ stored))
+        ∙ is_kind r (ap (λ (x : Node). get s.tree.records x.ino) same ∙ stored))
         (λ ne here stored. st.paired.node_kinds q m r here stored);
     handle_kinds = st.paired.handle_kinds;
   }
@@ -130,7 +142,7 @@ module _ (s : ServerState) (u : Tree) (kinds : KeepsKinds s.tree u) where
   kept : (i kind : ℕ) (r : Record) (o : Option Record) → get s.tree.records i ≡ o → IsSome o
       → get u.records i ≡ Some r
       → ((q : Record) → get s.tree.records i ≡ Some q → kind ≡ qid_type (kind_of q.body))
-          → kind ≡ qid_type (kind_of r.body)
+      → kind ≡ qid_type (kind_of r.body)
   kept i kind r None at there here before = absurd (false≢true there)
   kept i kind r (Some q) at there here before = before q at
       ∙ ap qid_type (sym (kinds i q r at here))

@@ -65,15 +65,20 @@ module _ {g : Gate} (n : Moment) {ino : ℕ} {qid : Qid} (h : HasFresh g n.state
   -- the clauses speak of the state with the fid
   with_fid : (new : Gate × Moment) (reply : Reply)
       → Serves told rest (Untouched s.tree) (g, base) new reply → ServesEntry ino (g, n) new reply
-  with_fid new reply served = record { stands = served.stands; sent = served.sent; messages =
-      record { frames = served.messages.frames; asked = served.messages.asked }; outcome =
-      served.outcome }
+  with_fid new reply served = record {
+    stands = served.stands;
+    sent = served.sent;
+    messages =
+        record { frames = served.messages.frames; asked = served.messages.asked };
+    outcome =
+        served.outcome;
+  }
 
   told_good : IsGoodMachine s.settings (kept_state told.1)
   told_good = kept_good s.settings (node_for (machine_of g s) ino
       (node_found (machine_of g s) ino)).1
       (given_good s.settings (machine_of g s) h.stands.good ino h.stored h.room
-          (node_found (machine_of g s) ino) refl)
+      (node_found (machine_of g s) ino) refl)
 
   told_is : (o : Option (ℕ × MachineNode)) → node_found (machine_of g s) ino ≡ o
       → told ≡ entered s.settings s.tree ino (node_for (machine_of g s) ino o)
@@ -102,9 +107,14 @@ module _ {g : Gate} (n : Moment) {ino : ℕ} {qid : Qid} (h : HasFresh g n.state
 
     module _ (sent : g1 ≡ one_sent g) (asked : AskedOne n n1) where
       alone : SentAlone 1 g base g1 n1
-      alone = let a = one_alone {n = n} g1 n1 sent asked in record
-          { gate = a.gate; messages = record { frames = a.messages.frames; asked =
-          a.messages.asked } }
+      alone = let a = one_alone {n = n} g1 n1 sent asked in record {
+        gate = a.gate;
+        messages = record {
+          frames = a.messages.frames;
+          asked =
+              a.messages.asked;
+        };
+      }
 
       -- a fault
       pub enter_refused : (e : ℕ) → r ≡ Err e → (g2 : Gate) (n2 : Moment) → g2 ≡ one_sent g1
@@ -115,23 +125,23 @@ module _ {g : Gate} (n : Moment) {ino : ℕ} {qid : Qid} (h : HasFresh g n.state
           let stored = some_value (get s.tree.records ino) h.stored in
           let clash : Err e ≡ Ok (fuse_attributes (shown_of s.settings (attr_of ino stored.0))) =
           sym is ∙ ap (λ (x : Result FileAttr ℕ × ServerState). x.0) q
-              ∙ ap (λ o. fuse_shown (shown_told s.settings (attr_or_missing ino o))) stored.1
-              in cc))
+          ∙ ap (λ o. fuse_shown (shown_told s.settings (attr_or_missing ino o))) stored.1
+          in cc))
           (λ k.
           let same : Err e ≡ Err EIO = sym is ∙ k.1 in
           let eio : e ≡ EIO = cc in
           let rose = k.0 in
           subst (λ d. ServesEntry ino (g, n) (g2, n2) (Refused d)) (sym eio)
           (with_fid (g2, n2) (Refused EIO) (hurt h.stands told rest (Untouched s.tree) 2 g2 n2
-              (one_more_sent alone g2 n2 more again) (back n2 gone) (omega (arith, later, rose))
-              refl)))
+          (one_more_sent alone g2 n2 more again) (back n2 gone) (omega (arith, later, rose))
+          refl)))
           tells
 
       module _ (a : FileAttr) (is : r ≡ Ok a) where
         entry_is : (node : ℕ) → Entry node a ≡ entry_reply node (shown_at s.settings s.tree ino)
         entry_is node = ⊎_elim
             (λ q. ap (entry_of node) (sym is ∙ ap (λ (x : Result FileAttr ℕ × ServerState). x.0) q)
-                ∙ replied node (shown_at s.settings s.tree ino))
+            ∙ replied node (shown_at s.settings s.tree ino))
             (λ k. absurd (let clash : Ok a ≡ Err EIO = sym is ∙ k.1 in cc)) tells
 
         -- an inode that has a node
@@ -140,48 +150,66 @@ module _ {g : Gate} (n : Moment) {ino : ℕ} {qid : Qid} (h : HasFresh g n.state
             → n2.state ≡ clunked n1.state g.next → ServesEntry ino (g, n) (g3, n2) (Entry id a)
         enter_known id there g2 g3 n2 more up again gone =
             let indexed : get g.ids ino ≡ Some id = ap (λ (x : Gate). get x.ids ino) (sym sent)
-                ∙ there in
+            ∙ there in
             let known = h.stands.paired.ids ino id indexed in
             let found = known_found h.stands ino id known.0 indexed known.1 known.2 in
             let two = one_more_sent alone g2 n2 more again in
             let k : ℕ = g2.nine_frames in
-            let gate : g3 ≡ record g { nodes =
-                insert g.nodes id (counted_node known.0); nine_frames = k } = up
-                ∙ ap (λ (x : Gate). counted_up x id) two.gate
-                ∙ ap (counted_by (record g { nine_frames = k }) id) known.1 in
+            let gate : g3 ≡ record g {
+              nodes =
+                  insert g.nodes id (counted_node known.0);
+              nine_frames = k;
+            } = up
+            ∙ ap (λ (x : Gate). counted_up x id) two.gate
+            ∙ ap (counted_by (record g { nine_frames = k }) id) known.1 in
             let nodes : mapped node_of (insert g.nodes id (counted_node known.0)) ≡ insert
-                (mapped node_of g.nodes) id (record
-                { ino = ino; count = min (known.0.count + 1) COUNT_LIMIT }) =
+            (mapped node_of g.nodes) id (record
+            { ino = ino; count = min (known.0.count + 1) COUNT_LIMIT }) =
             mapped-insert node_of g.nodes id (counted_node known.0)
-                ∙ ap (λ (i : ℕ). insert (mapped node_of g.nodes) id
-                (let v : MachineNode = record
-                { ino = i; count = min (known.0.count + 1) COUNT_LIMIT } in v)) known.2 in
+            ∙ ap (λ (i : ℕ). insert (mapped node_of g.nodes) id
+            (let v : MachineNode = record
+            { ino = i; count = min (known.0.count + 1) COUNT_LIMIT } in v)) known.2 in
             let state = back n2 gone in
             let number : rest ≡ 2 = ap entering_rest found in
             let is_told = told_is (Some (id, node_of known.0)) found in
             let frames = two.messages.frames in
             let handed = two.messages.asked in
             subst (λ (x : Gate). ServesEntry ino (g, n) (x, n2) (Entry id a)) (sym gate)
-            (with_fid (record g { nodes = insert g.nodes id (counted_node known.0); nine_frames =
-                k }, n2) (Entry id a)
+            (with_fid (
+              record g {
+                nodes = insert g.nodes id (counted_node known.0);
+                nine_frames =
+                    k;
+              },
+              n2,
+            ) (Entry id a)
             (made told rest (Untouched s.tree) (g, base)
-                (record g { nodes = insert g.nodes id (counted_node known.0); nine_frames = k }, n2)
-                (Entry id a)
+            (record g { nodes = insert g.nodes id (counted_node known.0); nine_frames = k }, n2)
+            (Entry id a)
             (subst IsGoodServer (sym state) h.good)
-            (subst (ArePaired (record g { nodes =
-                insert g.nodes id (counted_node known.0); nine_frames = k })) (sym state)
-                (counted_paired (record g { nine_frames = k }) (without s g.next)
-                (sent_stands h.stands k) id known.0 known.1))
+            (subst (ArePaired (record g {
+              nodes =
+                  insert g.nodes id (counted_node known.0);
+              nine_frames = k;
+            })) (sym state)
+            (counted_paired (record g { nine_frames = k }) (without s g.next)
+            (sent_stands h.stands k) id known.0 known.1))
             (subst (λ (x : ServerState). LEAST_MSIZE ≤ x.msize) (sym state) h.stands.roomy)
-                (ap (λ (x : ServerState). x.settings) state) told_good
+            (ap (λ (x : ServerState). x.settings) state) told_good
             (entry_is id ∙ sym (ap (λ (x : Reply × MachineState). x.0) is_told))
-            (ap (machine_of (record g { nodes =
-                insert g.nodes id (counted_node known.0); nine_frames = k })) state
-                ∙ ap (λ (x : FinMap _ MachineNode). let m : MachineState =
-                record (machine_of g s) { nodes = x } in m) nodes
-                ∙ sym (ap (λ (x : Reply × MachineState). x.1) is_told))
-            (record { frames = omega (arith, frames, number); asked =
-                omega (arith, handed, number) })))
+            (ap (machine_of (record g {
+              nodes =
+                  insert g.nodes id (counted_node known.0);
+              nine_frames = k;
+            })) state
+            ∙ ap (λ (x : FinMap _ MachineNode). let m : MachineState =
+            record (machine_of g s) { nodes = x } in m) nodes
+            ∙ sym (ap (λ (x : Reply × MachineState). x.1) is_told))
+            (record {
+              frames = omega (arith, frames, number);
+              asked =
+                  omega (arith, handed, number);
+            })))
 
         kind_is : (r : Record) → get s.tree.records ino ≡ Some r → qid.0 ≡ qid_type (kind_of r.body)
         kind_is r at = ap (λ (q : Qid). q.0) (h.named
@@ -192,33 +220,36 @@ module _ {g : Gate} (n : Moment) {ino : ℕ} {qid : Qid} (h : HasFresh g n.state
             → g2 ≡ with_node g1 ino qid.0 → ServesEntry ino (g, n) (g2, n1) (Entry g.next a)
         enter_new good there g2 added =
             let unknown : get g.ids ino ≡ None = ap (λ (x : Gate). get x.ids ino) (sym sent)
-                ∙ there in
+            ∙ there in
             let found = unknown_found h.stands ino unknown in
             let nodes = mapped-insert node_of g.nodes g.next
-                (record { ino = ino; count = 1; kind = qid.0 }) in
+            (record { ino = ino; count = 1; kind = qid.0 }) in
             let state = shown_same in
             let number : rest ≡ 1 = ap entering_rest found in
             let is_told = told_is None found in
             let frames = alone.messages.frames in
             let handed = alone.messages.asked in
             let gate : g2 ≡ with_node (record g { nine_frames = g1.nine_frames }) ino qid.0 = added
-                ∙ ap (λ (x : Gate). with_node x ino qid.0) alone.gate in
+            ∙ ap (λ (x : Gate). with_node x ino qid.0) alone.gate in
             subst (λ (x : Gate). ServesEntry ino (g, n) (x, n1) (Entry g.next a)) (sym gate)
             (with_fid (with_node (record g { nine_frames = g1.nine_frames }) ino qid.0, n1)
-                (Entry g.next a)
+            (Entry g.next a)
             (made told rest (Untouched s.tree) (g, base)
-                (with_node (record g { nine_frames = g1.nine_frames }) ino qid.0, n1)
-                (Entry g.next a) good
+            (with_node (record g { nine_frames = g1.nine_frames }) ino qid.0, n1)
+            (Entry g.next a) good
             (subst (ArePaired (with_node (record g { nine_frames = g1.nine_frames }) ino qid.0))
-                (sym state)
+            (sym state)
             (added_paired (record g { nine_frames = g1.nine_frames }) s
-                (sent_stands h.stands g1.nine_frames) ino qid.0 h.fresh unknown kind_is))
+            (sent_stands h.stands g1.nine_frames) ino qid.0 h.fresh unknown kind_is))
             (subst (λ (x : ServerState). LEAST_MSIZE ≤ x.msize) (sym state) h.stands.roomy)
-                (ap (λ (x : ServerState). x.settings) state) told_good
+            (ap (λ (x : ServerState). x.settings) state) told_good
             (entry_is g.next ∙ sym (ap (λ (x : Reply × MachineState). x.0) is_told))
             (ap (machine_of (with_node (record g { nine_frames = g1.nine_frames }) ino qid.0)) state
-                ∙ ap (λ (x : FinMap _ MachineNode). let m : MachineState =
-                record (machine_of g s) { nodes = x; next = g.next + 1 } in m) nodes
-                ∙ sym (ap (λ (x : Reply × MachineState). x.1) is_told))
-            (record { frames = omega (arith, frames, number); asked =
-                omega (arith, handed, number) })))
+            ∙ ap (λ (x : FinMap _ MachineNode). let m : MachineState =
+            record (machine_of g s) { nodes = x; next = g.next + 1 } in m) nodes
+            ∙ sym (ap (λ (x : Reply × MachineState). x.1) is_told))
+            (record {
+              frames = omega (arith, frames, number);
+              asked =
+                  omega (arith, handed, number);
+            })))

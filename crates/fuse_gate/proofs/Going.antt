@@ -43,7 +43,7 @@ module _ (g : Gate) (s : ServerState) (fid : ℕ) (paired : ArePaired g (without
   gone_state =
       ap (λ (t : Tree). let m : MachineState = record (machine_of g s) { tree = t } in m)
       (sym (keep_alike s.tree (is_named (mapped node_of g.nodes) (mapped handle_of g.handles))
-          (is_held (remove s.fids fid)) (named_held g (without s fid) paired good.apart)))
+      (is_held (remove s.fids fid)) (named_held g (without s fid) paired good.apart)))
 
   gone_paired : ArePaired g (clunked s fid)
   gone_paired = record {
@@ -96,9 +96,9 @@ module _ {g : Gate} {s : ServerState} (st : IsInStep g s) where
           (get (remove g.handles id) q))
           (λ e. subst (λ k. None ≡ fid_at (get g.nodes k) (get (remove g.handles id) k)) (sym e)
           (sym (ap (λ n. fid_at n (get (remove g.handles id) id)) (no_node_at (get g.nodes id) refl)
-              ∙ ap (fid_at None) (removed g.handles id))))
+          ∙ ap (fid_at None) (removed g.handles id))))
           (λ ne. st.paired.fids q ∙ ap (fid_at (get g.nodes q))
-              (sym (remove_keeps g.handles id q ne)));
+          (sym (remove_keeps g.handles id q ne)));
       used = (let a = st.paired.used in let b =
           len_less s.fids id (opened h) (handle_fid st id h at) in omega arith);
       counted = (let a = st.paired.counted in let b = len_less g.handles id h at in omega arith);
@@ -123,9 +123,9 @@ module _ {g : Gate} {s : ServerState} (st : IsInStep g s) where
           (get g.handles q))
           (λ e. subst (λ k. None ≡ fid_at (get (remove g.nodes id) k) (get g.handles k)) (sym e)
           (sym (ap (λ m. fid_at m (get g.handles id)) (removed g.nodes id)
-              ∙ ap (fid_at None) (apart_at st id n at))))
+          ∙ ap (fid_at None) (apart_at st id n at))))
           (λ ne. st.paired.fids q ∙ ap (λ m. fid_at m (get g.handles q))
-              (sym (remove_keeps g.nodes id q ne)));
+          (sym (remove_keeps g.nodes id q ne)));
       used = (let a = st.paired.used in let b =
           len_less s.fids id (closed n.ino) (node_fid st id n at) in omega arith);
       counted = (let a = st.paired.counted in let b = len_less g.nodes id n at in omega arith);
@@ -133,15 +133,19 @@ module _ {g : Gate} {s : ServerState} (st : IsInStep g s) where
           (λ o. o ≡ Some q → (m : Node) × (get (remove g.nodes id) q ≡ Some m) × (m.ino ≡ ino))
           (λ e here. absurd (let clash : None ≡ Some q = here in cc))
           (λ ne here. let m = st.paired.ids ino q here
-              in (m.0, remove_keeps g.nodes id q
-              (λ same. ne (sym m.2 ∙ (let one : Some m.0 ≡ Some n = sym m.1 ∙ ap (get g.nodes) same
-              ∙ at in let is : m.0 ≡ n = cc in ap (λ (x : Node). x.ino) is))) ∙ m.1, m.2));
+          in (
+            m.0,
+            remove_keeps g.nodes id q
+                (λ same. ne (sym m.2 ∙ (let one : Some m.0 ≡ Some n = sym m.1 ∙ ap (get g.nodes) same
+                ∙ at in let is : m.0 ≡ n = cc in ap (λ (x : Node). x.ino) is))) ∙ m.1,
+            m.2,
+          ));
       known = λ q m. remove_cases g.nodes id q
           (λ o. o ≡ Some m → get (remove g.ids n.ino) m.ino ≡ Some q)
           (λ e here. absurd (let clash : None ≡ Some m = here in cc))
           (λ ne here. remove_keeps g.ids n.ino m.ino
-              (λ same. ne (let one : Some q ≡ Some id = sym (st.paired.known q m here)
-              ∙ ap (get g.ids) same ∙ st.paired.known id n at in cc)) ∙ st.paired.known q m here);
+          (λ same. ne (let one : Some q ≡ Some id = sym (st.paired.known q m here)
+          ∙ ap (get g.ids) same ∙ st.paired.known id n at in cc)) ∙ st.paired.known q m here);
       node_kinds = λ q m r. remove_cases g.nodes id q
           (λ o. o ≡ Some m → get s.tree.records m.ino ≡ Some r → m.kind ≡ qid_type (kind_of r.body))
           (λ e here. absurd (let clash : None ≡ Some m = here in cc))

@@ -84,34 +84,34 @@ module _ (nodes : FinMap nat_cmp Node) (handles : FinMap nat_cmp Handle) (fids :
         ∙ ap (λ n. fid_at n (get handles q)) (sym a) ∙ sym (are q) ∙ at in cc)
     by_both None (Some o) a b =
         let is : fid_at None (Some o) ≡ Some f = ap (fid_at None) (sym b)
-            ∙ ap (λ n. fid_at n (get handles q)) (sym a) ∙ sym (are q) ∙ at in
+        ∙ ap (λ n. fid_at n (get handles q)) (sym a) ∙ sym (are q) ∙ at in
         let same : fid_weight i f ≡ handle_weight i (handle_of o) =
-            (let e : opened o ≡ f = cc in ap (λ (x : Fid). fid_weight i x) (sym e)) in
+        (let e : opened o ≡ f = cc in ap (λ (x : Fid). fid_weight i x) (sym e)) in
         inr (weight_at (handle_weight i) (mapped handle_of handles) q (handle_of o)
-            (mapped_at handle_of handles q o b) (subst (λ n. 0 < n) same h))
+        (mapped_at handle_of handles q o b) (subst (λ n. 0 < n) same h))
     by_both (Some n) o a b =
         let is : fid_at (Some n) o ≡ Some f = ap (fid_at (Some n)) (sym b)
-            ∙ ap (λ n. fid_at n (get handles q)) (sym a) ∙ sym (are q) ∙ at in
+        ∙ ap (λ n. fid_at n (get handles q)) (sym a) ∙ sym (are q) ∙ at in
         let same : fid_weight i f ≡ node_weight i (node_of n) =
-            (let e : closed n.ino ≡ f = cc in ap (λ (x : Fid). fid_weight i x) (sym e)) in
+        (let e : closed n.ino ≡ f = cc in ap (λ (x : Fid). fid_weight i x) (sym e)) in
         inl (weight_at (node_weight i) (mapped node_of nodes) q (node_of n)
-            (mapped_at node_of nodes q n a) (subst (λ n. 0 < n) same h))
+        (mapped_at node_of nodes q n a) (subst (λ n. 0 < n) same h))
 
   from_node : 0 < nodes_weigh → 0 < weigh (fid_weight i) (entries fids)
   from_node h =
       let s = some_weight (node_weight i) (mapped node_of nodes) h in
       let n = mapped_from node_of nodes s.0 s.1 s.2 in
       let w : 0 < node_weight i (node_of n.0) =
-          subst (λ (v : MachineNode). 0 < node_weight i v) (sym n.2) s.3 in
+      subst (λ (v : MachineNode). 0 < node_weight i v) (sym n.2) s.3 in
       weight_at (fid_weight i) fids s.0 (closed n.0.ino)
-          (are s.0 ∙ ap (λ o. fid_at o (get handles s.0)) n.1) w
+      (are s.0 ∙ ap (λ o. fid_at o (get handles s.0)) n.1) w
 
   from_handle : 0 < handles_weigh → 0 < weigh (fid_weight i) (entries fids)
   from_handle h =
       let s = some_weight (handle_weight i) (mapped handle_of handles) h in
       let n = mapped_from handle_of handles s.0 s.1 s.2 in
       let w : 0 < handle_weight i (handle_of n.0) =
-          subst (λ (v : MachineHandle). 0 < handle_weight i v) (sym n.2) s.3 in
+      subst (λ (v : MachineHandle). 0 < handle_weight i v) (sym n.2) s.3 in
       by_node s.0 n.0 n.1 w (get nodes s.0) refl where
         by_node : (q : ℕ) (n : Handle) → get handles q ≡ Some n → 0 < handle_weight i (handle_of n)
             → (o : Option Node) → get nodes q ≡ o → 0 < weigh (fid_weight i) (entries fids)
@@ -124,4 +124,4 @@ module _ (nodes : FinMap nat_cmp Node) (handles : FinMap nat_cmp Handle) (fids :
   named_is_held = same_bool _ _
       (λ h. test _ (⊎_elim from_node from_handle (sum_pos _ _ (tested _ h))))
       (λ h. let s = some_weight (fid_weight i) fids (tested _ h) in test _
-          (⊎_elim (λ a. omega arith) (λ b. omega arith) (from_fid s.0 s.1 s.2 s.3)))
+      (⊎_elim (λ a. omega arith) (λ b. omega arith) (from_fid s.0 s.1 s.2 s.3)))

@@ -26,27 +26,27 @@ module _ {g : Gate} {s : ServerState} (st : IsInStep g s) (ino : ℕ) where
       let there = first_entry names_it (mapped node_of g.nodes) e found in
       let m = mapped_from node_of g.nodes e.0 e.1 there.0 in
       let same : m.0.ino ≡ ino = ap (λ (v : MachineNode). v.ino) m.2
-          ∙ eqb-true e.1.ino ino there.1 in
+      ∙ eqb-true e.1.ino ino there.1 in
       (m.0, m.1, m.2, same, ap (get g.ids) (sym same) ∙ st.paired.known e.0 m.0 m.1)
 
   pub known_found : (id : ℕ) (n : Node) → get g.ids ino ≡ Some id → get g.nodes id ≡ Some n
       → n.ino ≡ ino → node_found (machine_of g s) ino ≡ Some (id, node_of n)
-  known_found id n indexed at is = by_found (find names_it (entries (mapped node_of g.nodes))) refl
-      where
-    by_found : (o : Option (ℕ × MachineNode)) → find names_it (entries (mapped node_of g.nodes)) ≡ o
-        → o ≡ Some (id, node_of n)
-    by_found None none =
-        let misses = none_passes names_it (mapped node_of g.nodes) id (node_of n) none
+  known_found id n indexed at is = by_found (find names_it (entries (mapped node_of g.nodes)))
+      refl where
+        by_found : (o : Option (ℕ × MachineNode)) → find names_it (entries (mapped node_of g.nodes)) ≡ o
+            → o ≡ Some (id, node_of n)
+        by_found None none =
+            let misses = none_passes names_it (mapped node_of g.nodes) id (node_of n) none
             (mapped_at node_of g.nodes id n at) in
-        absurd (false≢true (sym misses ∙ eq-eqb n.ino ino is))
-    by_found (Some e) found =
-        let m = indexed_by e found in
-        let ids : Some e.0 ≡ Some id = sym m.4 ∙ indexed in
-        let same : e.0 ≡ id = cc in
-        let nodes : Some m.0 ≡ Some n = sym m.1 ∙ ap (get g.nodes) same ∙ at in
-        let node : m.0 ≡ n = cc in
-        let value : e.1 ≡ node_of n = sym m.2 ∙ ap node_of node in
-        λ i. Some (same i, value i)
+            absurd (false≢true (sym misses ∙ eq-eqb n.ino ino is))
+        by_found (Some e) found =
+            let m = indexed_by e found in
+            let ids : Some e.0 ≡ Some id = sym m.4 ∙ indexed in
+            let same : e.0 ≡ id = cc in
+            let nodes : Some m.0 ≡ Some n = sym m.1 ∙ ap (get g.nodes) same ∙ at in
+            let node : m.0 ≡ n = cc in
+            let value : e.1 ≡ node_of n = sym m.2 ∙ ap node_of node in
+            λ i. Some (same i, value i)
 
   -- none is found where the index tells none
   pub unknown_found : get g.ids ino ≡ None → node_found (machine_of g s) ino ≡ None

@@ -38,8 +38,16 @@ use Rattle.fuse_gate.proofs.Going.{gone_state, gone_stands, node_less, handle_le
 -- between two gates that differ in their counts
 paired_sent : (g : Gate) (s : ServerState) (k : ℕ) → ArePaired g s
     → ArePaired (record g { nine_frames = k }) s
-paired_sent g s k p = record { fids = p.fids; used = p.used; counted = p.counted; ids =
-    p.ids; known = p.known; node_kinds = p.node_kinds; handle_kinds = p.handle_kinds }
+paired_sent g s k p = record {
+  fids = p.fids;
+  used = p.used;
+  counted = p.counted;
+  ids =
+      p.ids;
+  known = p.known;
+  node_kinds = p.node_kinds;
+  handle_kinds = p.handle_kinds;
+}
 
 cond_same : (b : Bool) (m : MachineState) → cond b m m ≡ m
 cond_same true m = refl
@@ -59,7 +67,7 @@ above a b h = grind (arith, nat_tests)
 module _ {g : Gate} (n : Moment) (st : IsInStep g n.state) (id : ℕ) (less : Gate)
     (told : MachineState)
     (paired : ArePaired less (without n.state id)) (state : machine_of less n.state ≡ told)
-        (fine : IsGoodMachine n.state.settings told) where
+    (fine : IsGoodMachine n.state.settings told) where
   abbrev counted : ℕ → Gate
   counted k = record less { nine_frames = k }
 
@@ -77,7 +85,7 @@ module _ {g : Gate} (n : Moment) (st : IsInStep g n.state) (id : ℕ) (less : Ga
   fid_gone count one g1 n1 is asked left =
       let k : ℕ = (one_sent g).nine_frames in
       let frames : g1.nine_frames ≡ min (g.nine_frames + 1) (2 ^ 64 - 1) =
-          ap (λ (x : Gate). x.nine_frames) is in
+      ap (λ (x : Gate). x.nine_frames) is in
       record {
         stands = subst (λ (x : Gate). IsInStep x n1.state) (sym is)
             (subst (IsInStep (counted k)) (sym left)
@@ -85,8 +93,11 @@ module _ {g : Gate} (n : Moment) (st : IsInStep g n.state) (id : ℕ) (less : Ga
             (good_less k) st.roomy));
         state = ap (λ (x : Gate). machine_of x n1.state) is ∙ ap (machine_of (counted k)) left
             ∙ left_is k;
-        messages = record { frames = omega (arith, one, frames); asked =
-            omega (arith, one, asked) };
+        messages = record {
+          frames = omega (arith, one, frames);
+          asked =
+              omega (arith, one, asked);
+        };
       }
 
   -- no memory in the message
@@ -95,7 +106,7 @@ module _ {g : Gate} (n : Moment) (st : IsInStep g n.state) (id : ℕ) (less : Ga
   fid_part n1 part = ⊎_elim
       (λ e. inl (ap (λ (x : ServerState). x.tree) e))
       (λ e. inr (ap (λ (x : ServerState). x.tree) e
-          ∙ ap (λ (x : MachineState). x.tree) (left_is 0))) part
+      ∙ ap (λ (x : MachineState). x.tree) (left_is 0))) part
 
 module _ {g : Gate} (n : Moment) (st : IsInStep g n.state) (good : IsGoodServer n.state) where
   abbrev m : MachineState
@@ -111,8 +122,12 @@ module _ {g : Gate} (n : Moment) (st : IsInStep g n.state) (good : IsGoodServer 
     same_left : forgotten m id number ≡ m → Forgets g n
     same_left is =
         let none : gone m (forgotten m id number) ≡ 0 = ap (gone m) is ∙ omega arith in
-        record { stands = st; state = sym (ap kept_state is ∙ stands_kept st good); messages =
-            record { frames = omega (arith, none); asked = omega (arith, none) } }
+        record {
+          stands = st;
+          state = sym (ap kept_state is ∙ stands_kept st good);
+          messages =
+              record { frames = omega (arith, none); asked = omega (arith, none) };
+        }
 
     pub root_left : id ≡ FUSE_ROOT_ID → Forgets g n
     root_left is = same_left (ap (λ b. cond b m (less_where m id number (get m.nodes id)))
@@ -128,7 +143,7 @@ module _ {g : Gate} (n : Moment) (st : IsInStep g n.state) (good : IsGoodServer 
           (with_count m id number (node_of k))
       less_is b is =
           ap (λ b. cond b m (less_where m id number (get m.nodes id)))
-              (not_equal id FUSE_ROOT_ID other)
+          (not_equal id FUSE_ROOT_ID other)
           ∙ ap (less_where m id number) (node_seen st id (Some k) at)
           ∙ ap (λ b. cond b (machine_without m id) (with_count m id number (node_of k))) is
 
@@ -147,11 +162,11 @@ module _ {g : Gate} (n : Moment) (st : IsInStep g n.state) (good : IsGoodServer 
           let paired = changed_paired g n.state st id k v at refl refl in
           let state : machine_of (counted_down g id k number) n.state ≡ forgotten m id number =
           ap (λ (x : FinMap _ MachineNode). let y : MachineState = record m { nodes = x } in y)
-              (mapped-insert node_of g.nodes id v) ∙ sym told in
+          (mapped-insert node_of g.nodes id v) ∙ sym told in
           let now = subst (IsGoodMachine n.state.settings) (sym state) forgotten_fine in
           let none : gone m (forgotten m id number) ≡ 0 = ap (gone m) told
-              ∙ (let same = same_many m id number (node_of k) (node_of v) here in omega
-              (arith, same)) in
+          ∙ (let same = same_many m id number (node_of k) (node_of v) here in omega
+          (arith, same)) in
           subst (λ (x : Gate). Forgets x n) (sym is) (record {
             stands = record { good = now; paired = paired; roomy = st.roomy };
             state = state ∙ sym (ap kept_state (sym state)
@@ -172,9 +187,9 @@ module _ {g : Gate} (n : Moment) (st : IsInStep g n.state) (good : IsGoodServer 
             → AskedOne n n1 → n1.state ≡ clunked n.state id → Forgets g1 n1
         node_left g1 n1 is asked left =
             fid_gone n st id (without_node g id k.ino) (forgotten m id number)
-                (node_less st id k at) without_is forgotten_fine
+            (node_less st id k at) without_is forgotten_fine
             (gone m (forgotten m id number)) (ap (gone m) gone_told
-                ∙ gone_one m id (node_of k) here) g1 n1 is asked left
+            ∙ gone_one m id (node_of k) here) g1 n1 is asked left
 
         pub node_part : (n1 : Moment) → (n1.state ≡ n.state) ⊎ (n1.state ≡ clunked n.state id)
             → IsEither n.state.tree (kept_state (forgotten m id number)).tree n1.state.tree
@@ -213,14 +228,14 @@ module _ {g : Gate} (n : Moment) (st : IsInStep g n.state) (good : IsGoodServer 
           served_after st good 0 (release id) none_refused (g1, n1) Done
           (let_go_served (Done, without_it) 1 (λ t. t ≡ n.state.tree) (g, n) (g1, n1) Done refl
           (fid_gone n st id (without_handle g id) without_it (handle_less st id h at) left_state
-              (handle_gone n.state.settings m st.good id) 1 refl g1 n1 is asked left))
+          (handle_gone n.state.settings m st.good id) 1 refl g1 n1 is asked left))
 
       pub release_part : (n1 : Moment) → (n1.state ≡ n.state) ⊎ (n1.state ≡ clunked n.state id)
           → LeavesPartOf 0 (release id) (g, n) n1
       release_part n1 part =
           let told : MachineState → Reply × MachineState = λ x. (Done, x) in
           inl (subst (λ (o : Option ℕ). IsEither n.state.tree
-              (kept_state (refused_or m o (told without_it)).1).tree n1.state.tree)
-              (sym none_refused)
+          (kept_state (refused_or m o (told without_it)).1).tree n1.state.tree)
+          (sym none_refused)
           (fid_part n st id (without_handle g id) without_it (handle_less st id h at) left_state
-              (handle_gone n.state.settings m st.good id) n1 part))
+          (handle_gone n.state.settings m st.good id) n1 part))

@@ -47,12 +47,12 @@ module _ {g : Gate} (n : Moment) (st : IsInStep g n.state) (good : IsGoodServer 
   refusal_by : (k : Node) → get g.nodes node ≡ Some k → (fault : Option ℕ) (full : Bool)
       → fault ≡ name_fault name → full ≡ is_at_limit n.state.settings m
       → lookup_refusal n.state.settings m name (get m.nodes node) ≡ first_refusal
-          (fault ∷ refused_if full ENFILE ∷ [])
+      (fault ∷ refused_if full ENFILE ∷ [])
   refusal_by k at fault full named limited =
       ap (λ (o : Option MachineNode). lookup_refusal n.state.settings m name o)
-          (node_seen st node (Some k) at)
+      (node_seen st node (Some k) at)
       ∙ ap (λ (o : Option ℕ). first_refusal (o ∷ refused_if (is_at_limit n.state.settings m) ENFILE
-          ∷ [])) (sym named)
+      ∷ [])) (sym named)
       ∙ ap (λ (b : Bool). first_refusal (fault ∷ refused_if b ENFILE ∷ [])) (sym limited)
 
   pub lookup_unknown : get g.nodes node ≡ None
@@ -81,11 +81,11 @@ module _ {g : Gate} (n : Moment) (st : IsInStep g n.state) (good : IsGoodServer 
         → ServesRequest node (lookup name) (g, n) new reply
     of_found new reply served =
         let by : Option MachineNode → Result ℕ ℕ =
-            λ o. find n.state.settings.casefold n.state.tree (node_ino o) name in
+        λ o. find n.state.settings.casefold n.state.tree (node_ino o) name in
         served_after st good node (lookup name) (refusal_by k at None false no_fault room) new reply
         (subst (λ (r : Result ℕ ℕ). Serves (looked_up n.state.settings m r) (found_messages m r)
-            (Untouched n.state.tree) (g, n) new reply) (sym (ap by (node_seen st node (Some k) at)))
-            served)
+        (Untouched n.state.tree) (g, n) new reply) (sym (ap by (node_seen st node (Some k) at)))
+        served)
 
     module _ (g1 : Gate) (n1 : Moment) (sent : g1 ≡ one_sent g) (asked : AskedOne n n1)
         (rises : n.faults ≤ n1.faults) where
@@ -94,8 +94,8 @@ module _ {g : Gate} (n : Moment) (st : IsInStep g n.state) (good : IsGoodServer 
           → ServesRequest node (lookup name) (g, n) (g1, n1) (Refused e)
       lookup_refused e tells = of_found (g1, n1) (Refused e)
           (one_message st (looked_up n.state.settings m found) (found_messages m found)
-              (Untouched n.state.tree) (named n.state g.next found) (Err e) refused_as refl 1 g1 n1
-              (one_alone g1 n1 sent asked) rises refl tells (by_found found)) where
+          (Untouched n.state.tree) (named n.state g.next found) (Err e) refused_as refl 1 g1 n1
+          (one_alone g1 n1 sent asked) rises refl tells (by_found found)) where
             by_found : (r : Result ℕ ℕ) → pair (Err e) n1.state ≡ named n.state g.next r
                 → Serves (looked_up n.state.settings m r) (found_messages m r)
                 (Untouched n.state.tree) (g, n) (g1, n1) (Refused e)
@@ -103,10 +103,10 @@ module _ {g : Gate} (n : Moment) (st : IsInStep g n.state) (good : IsGoodServer 
                 ap (λ (x : Result Qid ℕ × ServerState). x.0) q in cc)
             by_found (Err d) q =
                 let is : e ≡ d = (let same : Err e ≡ Err d =
-                    ap (λ (x : Result Qid ℕ × ServerState). x.0) q in cc) in
+                ap (λ (x : Result Qid ℕ × ServerState). x.0) q in cc) in
                 unchanged st (looked_up n.state.settings m (Err d)) 1 (Untouched n.state.tree) good
-                    g1 n1 (Refused e) (one_alone g1 n1 sent asked)
-                    (ap (λ (x : Result Qid ℕ × ServerState). x.1) q) (ap Refused is) refl
+                g1 n1 (Refused e) (one_alone g1 n1 sent asked)
+                (ap (λ (x : Result Qid ℕ × ServerState). x.1) q) (ap Refused is) refl
 
       -- the walk found an inode
       module _ (q : Qid) (tells : Tells (walk_one_told n.state k.ino g.next name) (Ok q) n n1) where
@@ -135,18 +135,18 @@ module _ {g : Gate} (n : Moment) (st : IsInStep g n.state) (good : IsGoodServer 
         path_is : q.1.1 ≡ walked.0
         path_is = ap (λ (x : Qid). x.1.1) walked.2
             ∙ by_record (get n.state.tree.records walked.0) refl stored where
-          by_record : (o : Option Record) → get n.state.tree.records walked.0 ≡ o
-              → IsSome (get n.state.tree.records walked.0)
-              → (qid_at n.state.tree walked.0).1.1 ≡ walked.0
-          by_record None at had = absurd (let none = subst IsSome at had in cc)
-          by_record (Some r) at had = ap (λ o. (qid_told (attr_or_missing walked.0 o)).1.1) at
+              by_record : (o : Option Record) → get n.state.tree.records walked.0 ≡ o
+                  → IsSome (get n.state.tree.records walked.0)
+                  → (qid_at n.state.tree walked.0).1.1 ≡ walked.0
+              by_record None at had = absurd (let none = subst IsSome at had in cc)
+              by_record (Some r) at had = ap (λ o. (qid_told (attr_or_missing walked.0 o)).1.1) at
 
         pub lookup_fresh : n.state.settings.limit < 2 ^ 32 → HasFresh g1 n1.state q.1.1 q
         lookup_fresh small =
             let i = walked.0 in
             let base : without (with_fid i) g.next ≡ n.state =
-                ap (λ (f : FinMap _ Fid). let x : ServerState = record n.state { fids = f } in x)
-                (undone n.state.fids g.next (closed i) (fid_free st)) in
+            ap (λ (f : FinMap _ Fid). let x : ServerState = record n.state { fids = f } in x)
+            (undone n.state.fids g.next (closed i) (fid_free st)) in
             subst (λ (x : Gate). HasFresh x n1.state q.1.1 q) (sym sent)
             (subst (λ (x : ServerState). HasFresh (one_sent g) x q.1.1 q) (sym walked.3)
             (subst (λ (p : ℕ). HasFresh (one_sent g) (with_fid i) p q) (sym path_is) (record {
@@ -170,28 +170,28 @@ module _ {g : Gate} (n : Moment) (st : IsInStep g n.state) (good : IsGoodServer 
         lookup_entered new reply served =
             let i = walked.0 in
             let same : machine_of g1 n1.state ≡ m = ap (λ (x : Gate). machine_of x n1.state) sent
-                ∙ ap (machine_of (one_sent g)) walked.3 in
+            ∙ ap (machine_of (one_sent g)) walked.3 in
             let settings : n1.state.settings ≡ n.state.settings =
-                ap (λ (x : ServerState). x.settings) walked.3 in
+            ap (λ (x : ServerState). x.settings) walked.3 in
             let told : looked_up n1.state.settings (machine_of g1 n1.state) (Ok q.1.1) ≡ looked_up
-                n.state.settings m found =
+            n.state.settings m found =
             (λ j. looked_up (settings j) (same j) (Ok (path_is j)))
-                ∙ ap (looked_up n.state.settings m) (sym walked.1) in
+            ∙ ap (looked_up n.state.settings m) (sym walked.1) in
             let rest : entering_rest (node_found (machine_of g1 n1.state) q.1.1) ≡ entering_rest
-                (node_found m i) = λ j. entering_rest (node_found (same j) (path_is j)) in
+            (node_found m i) = λ j. entering_rest (node_found (same j) (path_is j)) in
             let number : 1 + entering_rest (node_found (machine_of g1 n1.state) q.1.1)
-                ≡ found_messages m found =
+            ≡ found_messages m found =
             ap (λ k. 1 + k) rest ∙ more_messages (node_found m i)
-                ∙ ap (found_messages m) (sym walked.1) in
+            ∙ ap (found_messages m) (sym walked.1) in
             of_found new reply
             (subst (λ (x : Reply × MachineState). Serves x (found_messages m found)
-                (Untouched n.state.tree) (g, n) new reply) told
+            (Untouched n.state.tree) (g, n) new reply) told
             (subst (λ k. Serves (looked_up n1.state.settings (machine_of g1 n1.state) (Ok q.1.1)) k
-                (Untouched n.state.tree) (g, n) new reply) number
+            (Untouched n.state.tree) (g, n) new reply) number
             (subst (λ t. Serves (looked_up n1.state.settings (machine_of g1 n1.state) (Ok q.1.1))
-                (1 + entering_rest (node_found (machine_of g1 n1.state) q.1.1)) (Untouched t) (g, n)
-                new reply) lookup_tree
+            (1 + entering_rest (node_found (machine_of g1 n1.state) q.1.1)) (Untouched t) (g, n)
+            new reply) lookup_tree
             (after (looked_up n1.state.settings (machine_of g1 n1.state) (Ok q.1.1))
-                (entering_rest (node_found (machine_of g1 n1.state) q.1.1))
-                (Untouched n1.state.tree) 1 (g, n) (g1, n1) new reply
-                (one_alone g1 n1 sent asked).messages rises same served))))
+            (entering_rest (node_found (machine_of g1 n1.state) q.1.1))
+            (Untouched n1.state.tree) 1 (g, n) (g1, n1) new reply
+            (one_alone g1 n1 sent asked).messages rises same served))))

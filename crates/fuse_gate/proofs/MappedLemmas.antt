@@ -52,16 +52,16 @@ module _ {X Y : Type 0} (f : X → Y) where
       → mapped f (insert m k v) ≡ insert (mapped f m) k (f v)
   mapped-insert m k v = same_gets _ _ (λ q.
       get-mapped (insert m k v) q ∙ ap (option_map f) (get-insert nat_cmp_total m k v q)
-          ∙ map_cond (eq_by_cmp nat_cmp q k) v (get m q)
+      ∙ map_cond (eq_by_cmp nat_cmp q k) v (get m q)
       ∙ sym (get-insert nat_cmp_total (mapped f m) k (f v) q
-          ∙ ap (cond (eq_by_cmp nat_cmp q k) (Some (f v))) (get-mapped m q)))
+      ∙ ap (cond (eq_by_cmp nat_cmp q k) (Some (f v))) (get-mapped m q)))
 
   pub mapped-remove : (m : FinMap nat_cmp X) (k : ℕ) → mapped f (remove m k) ≡ remove (mapped f m) k
   mapped-remove m k = same_gets _ _ (λ q.
       get-mapped (remove m k) q ∙ ap (option_map f) (get-remove nat_cmp_total m k q)
-          ∙ map_gone (eq_by_cmp nat_cmp q k) (get m q)
+      ∙ map_gone (eq_by_cmp nat_cmp q k) (get m q)
       ∙ sym (get-remove nat_cmp_total (mapped f m) k q
-          ∙ ap (cond (eq_by_cmp nat_cmp q k) None) (get-mapped m q)))
+      ∙ ap (cond (eq_by_cmp nat_cmp q k) None) (get-mapped m q)))
 
   length_mapped : (es : List (ℕ × X)) → length (entries_mapped f es) ≡ length es
   length_mapped [] = refl
@@ -72,7 +72,7 @@ module _ {X Y : Type 0} (f : X → Y) where
   len-mapped m =
       len-entries (map.from_sorted (entries_mapped f (entries m)))
       ∙ ap length (entries-from_sorted nat_cmp (entries_mapped f (entries m))
-          (sorted_mapped (entries m) (entries_sorted m)))
+      (sorted_mapped (entries m) (entries_sorted m)))
       ∙ length_mapped (entries m) ∙ sym (len-entries m)
 
   -- what a changed map has, the map has before the change
@@ -82,8 +82,12 @@ module _ {X Y : Type 0} (f : X → Y) where
     by_value : (o : Option X) → get m k ≡ o → (x : X) × (get m k ≡ Some x) × (f x ≡ y)
     by_value None is = absurd (let none : None ≡ Some y = ap (option_map f) (sym is)
         ∙ sym (get-mapped m k) ∙ at in cc)
-    by_value (Some x) is = (x, is, (let same : Some (f x) ≡ Some y = ap (option_map f) (sym is)
-        ∙ sym (get-mapped m k) ∙ at in cc))
+    by_value (Some x) is = (
+      x,
+      is,
+      (let same : Some (f x) ≡ Some y = ap (option_map f) (sym is)
+          ∙ sym (get-mapped m k) ∙ at in cc),
+    )
 
   no_value : (o : Option X) → option_map f o ≡ None → o ≡ None
   no_value None h = refl

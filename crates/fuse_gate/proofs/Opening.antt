@@ -64,7 +64,7 @@ pub directory_by : (t : Tree) (ino kind : ℕ) → IsSome (get t.records ino)
 directory_by t ino kind stored is =
     let r = some_value (get t.records ino) stored in
     ap (λ o. is_directory_at (option_map (λ (x : Record). x.body) o)) r.1
-        ∙ sym (kind_tells r.0.body) ∙ ap (λ k. k == 128) (sym (is r.0 r.1))
+    ∙ sym (kind_tells r.0.body) ∙ ap (λ k. k == 128) (sym (is r.0 r.1))
 
 -- ---- the refusals, in order
 
@@ -86,9 +86,9 @@ module _ {g : Gate} (n : Moment) (st : IsInStep g n.state) (good : IsGoodServer 
         → refusal ≡ first_refusal (open_refusal n.state.settings m (option_map node_of o) ∷ [])
     node_refusal o at =
         ap (λ (b : Bool). first_refusal (refused_if (not b) ENOSYS
-            ∷ open_refusal n.state.settings m (get m.nodes node) ∷ [])) (sym reads)
+        ∷ open_refusal n.state.settings m (get m.nodes node) ∷ [])) (sym reads)
         ∙ ap (λ (o : Option MachineNode). first_refusal (open_refusal n.state.settings m o ∷ []))
-            (node_seen st node o at)
+        (node_seen st node o at)
 
     pub open_unknown : get g.nodes node ≡ None → refusal ≡ Some ESTALE
     open_unknown at = node_refusal None at
@@ -97,15 +97,15 @@ module _ {g : Gate} (n : Moment) (st : IsInStep g n.state) (good : IsGoodServer 
       by_tests : (full directory : Bool) → full ≡ is_at_limit n.state.settings m
           → directory ≡ is_directory_at (body_at n.state.tree.records k.ino)
           → refusal ≡ first_refusal (first_refusal
-              (refused_if full ENFILE ∷ refused_if directory EISDIR ∷ []) ∷ [])
+          (refused_if full ENFILE ∷ refused_if directory EISDIR ∷ []) ∷ [])
       by_tests full directory limited kind =
           node_refusal (Some k) at
           ∙ ap (λ (b : Bool). first_refusal (first_refusal
-              (refused_if b ENFILE ∷ refused_if
-              (is_directory_at (body_at n.state.tree.records k.ino)) EISDIR ∷ []) ∷ []))
-              (sym limited)
+          (refused_if b ENFILE ∷ refused_if
+          (is_directory_at (body_at n.state.tree.records k.ino)) EISDIR ∷ []) ∷ []))
+          (sym limited)
           ∙ ap (λ (b : Bool). first_refusal (first_refusal
-              (refused_if full ENFILE ∷ refused_if b EISDIR ∷ []) ∷ [])) (sym kind)
+          (refused_if full ENFILE ∷ refused_if b EISDIR ∷ []) ∷ [])) (sym kind)
 
       pub open_full : true ≡ is_at_limit n.state.settings m → refusal ≡ Some ENFILE
       open_full full = by_tests true (is_directory_at (body_at n.state.tree.records k.ino)) full
@@ -125,19 +125,26 @@ module _ {g : Gate} (n : Moment) (st : IsInStep g n.state) (good : IsGoodServer 
         file = is_directory ∙ differ_test k.kind 128 kind
 
         pub may_open : n.state.settings.limit < 2 ^ 32 → MayOpen g n.state node k flags
-        may_open small = record { stands = st; known = at; served = sym reads; file = file; room =
-            sym room; few = few_used st (sym room) small }
+        may_open small = record {
+          stands = st;
+          known = at;
+          served = sym reads;
+          file = file;
+          room =
+              sym room;
+          few = few_used st (sym room) small;
+        }
 
         pub open_opened : (new : Gate × Moment) (reply : Reply)
             → ServesOpening k flags (g, n) new reply
             → ServesRequest node (open_file flags) (g, n) new reply
         open_opened new reply served =
             served_after st good node (open_file flags) (by_tests false false room (sym file)) new
-                reply
+            reply
             (subst (λ (i : ℕ). Serves (machine_opened m i flags
-                (open_check_of n.state.tree i flags))
-                (opened_messages (open_check_of n.state.tree i flags)) (Untouched n.state.tree)
-                (g, n) new reply)
+            (open_check_of n.state.tree i flags))
+            (opened_messages (open_check_of n.state.tree i flags)) (Untouched n.state.tree)
+            (g, n) new reply)
             (sym (ap node_ino (node_seen st node (Some k) at))) served)
 
 -- ---- the copy of the fid, and its opening
@@ -157,8 +164,10 @@ module _ {g : Gate} (n : Moment) {id : ℕ} {k : Node} {flags : ℕ} (h : MayOpe
   copied = record s { fids = insert s.fids g.next (closed k.ino) }
 
   abbrev opened_state : ServerState
-  opened_state = record s { fids = insert (insert s.fids g.next (closed k.ino)) g.next
-      (fid_opened (closed k.ino) flags) }
+  opened_state = record s {
+    fids = insert (insert s.fids g.next (closed k.ino)) g.next
+        (fid_opened (closed k.ino) flags);
+  }
 
   abbrev view : {A : Type 0} → Result A ℕ → Reply
   view (Ok a) = Opened g.next
@@ -170,10 +179,10 @@ module _ {g : Gate} (n : Moment) {id : ℕ} {k : Node} {flags : ℕ} (h : MayOpe
       → ServesOpening k flags (g, n) (g1, n1) (Refused e)
   copy_refused e g1 n1 sent asked rises tells =
       one_message h.stands opens (opened_messages checks) (Untouched s.tree)
-          (copied_told s k.ino g.next) (Err e) view refl 1 g1 n1 (one_alone g1 n1 sent asked) rises
-          refl tells
+      (copied_told s k.ino g.next) (Err e) view refl 1 g1 n1 (one_alone g1 n1 sent asked) rises
+      refl tells
       (λ q. absurd (let clash : Err e ≡ Ok tt =
-          ap (λ (x : Result (Unit {0}) ℕ × ServerState). x.0) q in cc))
+      ap (λ (x : Result (Unit {0}) ℕ × ServerState). x.0) q in cc))
 
   -- the copy is there
   pub copy_made : (u : Unit {0}) (n1 : Moment) → Tells (copied_told s k.ino g.next) (Ok u) n n1
@@ -188,9 +197,11 @@ module _ {g : Gate} (n : Moment) {id : ℕ} {k : Node} {flags : ℕ} (h : MayOpe
 
   module _ (n1 : Moment) (same : n1.state ≡ copied) where
     fid_stays : (x : ServerState) → x ≡ copied → IsRoomy x × IsSome (get x.fids g.next)
-    fid_stays x is = subst (λ (x : ServerState). IsRoomy x × IsSome (get x.fids g.next)) (sym is)
-        (record { enough = h.stands.roomy }, subst IsSome
-        (sym (inserted s.fids g.next (closed k.ino))) refl)
+    fid_stays x is = subst (λ (x : ServerState). IsRoomy x × IsSome (get x.fids g.next)) (sym is) (
+      record { enough = h.stands.roomy },
+      subst IsSome
+          (sym (inserted s.fids g.next (closed k.ino))) refl,
+    )
 
     pub copy_stays : IsRoomy n1.state × IsSome (get n1.state.fids g.next)
     copy_stays = fid_stays n1.state same
@@ -220,10 +231,12 @@ module _ {g : Gate} (n : Moment) {id : ℕ} {k : Node} {flags : ℕ} (h : MayOpe
       -- the copy is still there
       pub open_stays : IsRoomy n2.state × IsSome (get n2.state.fids g.next)
       open_stays = ⊎_elim
-          (λ is. subst (λ (x : ServerState). IsRoomy x × IsSome (get x.fids g.next)) (sym is)
-              (record { enough = h.stands.roomy }, subst IsSome
-              (sym (inserted (insert s.fids g.next (closed k.ino)) g.next
-              (fid_opened (closed k.ino) flags))) refl))
+          (λ is. subst (λ (x : ServerState). IsRoomy x × IsSome (get x.fids g.next)) (sym is) (
+            record { enough = h.stands.roomy },
+            subst IsSome
+                (sym (inserted (insert s.fids g.next (closed k.ino)) g.next
+                (fid_opened (closed k.ino) flags))) refl,
+          ))
           (λ is. fid_stays n2.state is) after_open
 
       pub open_tree : n2.state.tree ≡ s.tree
@@ -262,26 +275,25 @@ module _ {g : Gate} (n : Moment) {id : ℕ} {k : Node} {flags : ℕ} (h : MayOpe
               let one : e ≡ EIO = cc in
               let rose = f.0 in
               subst (λ d. ServesOpening k flags (g, n) (g3, n3) (Refused d)) (sym one)
-                  (hurt h.stands opens (opened_messages checks) (Untouched s.tree) 3 g3 n3 three
-                  state (omega (arith, rises, rose, later)) refl))
-              tells_opened
-            where
-              by_refusal : (c : Result (Unit {0}) ℕ) → checks ≡ c
-                  → pair r n2.state ≡ opened_by copied g.next (closed k.ino) flags c
-                  → ServesOpening k flags (g, n) (g3, n3) (Refused e)
-              by_refusal (Ok u) c q = absurd (let clash : Err e ≡ Ok (qid_at copied.tree k.ino) =
-                  sym is ∙ ap (λ (x : Result Qid ℕ × ServerState). x.0) q in cc)
-              by_refusal (Err d) c q =
-                  let same_errno : Err e ≡ Err d = sym is
-                      ∙ ap (λ (x : Result Qid ℕ × ServerState). x.0) q in
-                  let errno : e ≡ d = cc in
-                  let told = ap (λ c. machine_opened (machine_of g s) k.ino flags c) c in
-                  subst (λ count. Serves opens count (Untouched s.tree) (g, n) (g3, n3) (Refused e))
-                      (sym (ap opened_messages c))
-                  (unchanged h.stands opens 3 (Untouched s.tree) good g3 n3 (Refused e)
-                      (one_more_sent two_sent g3 n3 sent_3 asked_3) (gone_again n3 left)
-                  (ap Refused errno ∙ sym (ap (λ (x : Reply × MachineState). x.0) told))
-                      (ap (λ (x : Reply × MachineState). x.1) told))
+              (hurt h.stands opens (opened_messages checks) (Untouched s.tree) 3 g3 n3 three
+              state (omega (arith, rises, rose, later)) refl))
+              tells_opened where
+                by_refusal : (c : Result (Unit {0}) ℕ) → checks ≡ c
+                    → pair r n2.state ≡ opened_by copied g.next (closed k.ino) flags c
+                    → ServesOpening k flags (g, n) (g3, n3) (Refused e)
+                by_refusal (Ok u) c q = absurd (let clash : Err e ≡ Ok (qid_at copied.tree k.ino) =
+                    sym is ∙ ap (λ (x : Result Qid ℕ × ServerState). x.0) q in cc)
+                by_refusal (Err d) c q =
+                    let same_errno : Err e ≡ Err d = sym is
+                    ∙ ap (λ (x : Result Qid ℕ × ServerState). x.0) q in
+                    let errno : e ≡ d = cc in
+                    let told = ap (λ c. machine_opened (machine_of g s) k.ino flags c) c in
+                    subst (λ count. Serves opens count (Untouched s.tree) (g, n) (g3, n3) (Refused e))
+                    (sym (ap opened_messages c))
+                    (unchanged h.stands opens 3 (Untouched s.tree) good g3 n3 (Refused e)
+                    (one_more_sent two_sent g3 n3 sent_3 asked_3) (gone_again n3 left)
+                    (ap Refused errno ∙ sym (ap (λ (x : Reply × MachineState). x.0) told))
+                    (ap (λ (x : Reply × MachineState). x.1) told))
 
           -- no memory while the copy goes again
           pub open_clunk_tree : (n3 : Moment) → (n3.state ≡ n2.state)
@@ -309,13 +321,13 @@ module _ {g : Gate} (n : Moment) {id : ℕ} {k : Node} {flags : ℕ} (h : MayOpe
               fids = λ q. insert_cases copied.fids g.next (fid_opened (closed k.ino) flags) q
                   (λ o. o ≡ fid_at (get g.nodes q) (get (insert g.handles g.next new_handle) q))
                   (λ e. subst (λ i. Some (fid_opened (closed k.ino) flags) ≡ fid_at (get g.nodes i)
-                      (get (insert g.handles g.next new_handle) i)) (sym e)
+                  (get (insert g.handles g.next new_handle) i)) (sym e)
                   (sym (ap (λ o. fid_at o (get (insert g.handles g.next new_handle) g.next))
-                      (next_free h.stands) ∙ ap (fid_at None)
-                      (inserted g.handles g.next new_handle))))
+                  (next_free h.stands) ∙ ap (fid_at None)
+                  (inserted g.handles g.next new_handle))))
                   (λ ne. insert_keeps s.fids g.next (closed k.ino) q ne ∙ p.fids q
-                      ∙ ap (fid_at (get g.nodes q))
-                      (sym (insert_keeps g.handles g.next new_handle q ne)));
+                  ∙ ap (fid_at (get g.nodes q))
+                  (sym (insert_keeps g.handles g.next new_handle q ne)));
               used = (let a = p.used in let b =
                   len_new s.fids g.next (closed k.ino) (fid_free h.stands) in let c =
                   len_known copied.fids g.next (closed k.ino) (fid_opened (closed k.ino) flags)
@@ -329,8 +341,8 @@ module _ {g : Gate} (n : Moment) {id : ℕ} {k : Node} {flags : ℕ} (h : MayOpe
                   (λ o. o ≡ Some x → get s.tree.records x.ino ≡ Some r
                   → x.kind ≡ qid_type (kind_of r.body))
                   (λ e here stored. let same : new_handle ≡ x =
-                      cc in ap (λ (y : Handle). y.kind) (sym same)
-                      ∙ kind_is r (ap (λ (y : Handle). get s.tree.records y.ino) same ∙ stored))
+                  cc in ap (λ (y : Handle). y.kind) (sym same)
+                  ∙ kind_is r (ap (λ (y : Handle). get s.tree.records y.ino) same ∙ stored))
                   (λ ne here stored. p.handle_kinds q x r here stored);
             }
 
@@ -338,33 +350,33 @@ module _ {g : Gate} (n : Moment) {id : ℕ} {k : Node} {flags : ℕ} (h : MayOpe
             → g3 ≡ with_handle g2 new_handle → ServesOpening k flags (g, n) (g3, n2) (Opened g.next)
         open_made q is good_2 g3 drawn = ⊎_elim (λ w. by_opening checks refl w)
             (λ w. absurd (let clash : Ok q ≡ Err EIO = sym is ∙ w.1 in cc)) tells_opened where
-          gate : g3 ≡ g_open g2.nine_frames
-          gate = drawn ∙ ap (λ (x : Gate). with_handle x new_handle) two_sent.gate
+              gate : g3 ≡ g_open g2.nine_frames
+              gate = drawn ∙ ap (λ (x : Gate). with_handle x new_handle) two_sent.gate
 
-          by_opening : (c : Result (Unit {0}) ℕ) → checks ≡ c
-              → pair r n2.state ≡ opened_by copied g.next (closed k.ino) flags c
-              → ServesOpening k flags (g, n) (g3, n2) (Opened g.next)
-          by_opening (Err d) c w = absurd (let clash : Ok q ≡ Err d = sym is
-              ∙ ap (λ (x : Result Qid ℕ × ServerState). x.0) w in cc)
-          by_opening (Ok tt) c w =
-              let after : n2.state ≡ opened_state =
+              by_opening : (c : Result (Unit {0}) ℕ) → checks ≡ c
+                  → pair r n2.state ≡ opened_by copied g.next (closed k.ino) flags c
+                  → ServesOpening k flags (g, n) (g3, n2) (Opened g.next)
+              by_opening (Err d) c w = absurd (let clash : Ok q ≡ Err d = sym is
+                  ∙ ap (λ (x : Result Qid ℕ × ServerState). x.0) w in cc)
+              by_opening (Ok tt) c w =
+                  let after : n2.state ≡ opened_state =
                   ap (λ (x : Result Qid ℕ × ServerState). x.1) w in
-              let told = ap (λ c. machine_opened (machine_of g s) k.ino flags c) c in
-              let two : opened_messages checks ≡ 2 = ap opened_messages c in
-              let frames = two_sent.messages.frames in
-              let asked = two_sent.messages.asked in
-              let fine = opened_good s.settings (machine_of g s) h.stands.good flags k.ino
+                  let told = ap (λ c. machine_opened (machine_of g s) k.ino flags c) c in
+                  let two : opened_messages checks ≡ 2 = ap opened_messages c in
+                  let frames = two_sent.messages.frames in
+                  let asked = two_sent.messages.asked in
+                  let fine = opened_good s.settings (machine_of g s) h.stands.good flags k.ino
                   (to_read flags h.served).access h.room h.file checks refl in
-              subst (λ (x : Gate). ServesOpening k flags (g, n) (x, n2) (Opened g.next)) (sym gate)
-              (made opens (opened_messages checks) (Untouched s.tree) (g, n)
+                  subst (λ (x : Gate). ServesOpening k flags (g, n) (x, n2) (Opened g.next)) (sym gate)
+                  (made opens (opened_messages checks) (Untouched s.tree) (g, n)
                   (g_open g2.nine_frames, n2) (Opened g.next) good_2
-              (subst (ArePaired (g_open g2.nine_frames)) (sym after) (opened_paired g2.nine_frames))
+                  (subst (ArePaired (g_open g2.nine_frames)) (sym after) (opened_paired g2.nine_frames))
                   (subst (λ (x : ServerState). LEAST_MSIZE ≤ x.msize) (sym after) h.stands.roomy)
-              (ap (λ (x : ServerState). x.settings) after) fine
-              (sym (ap (λ (x : Reply × MachineState). x.0) told))
-              (ap (machine_of (g_open g2.nine_frames)) after
+                  (ap (λ (x : ServerState). x.settings) after) fine
+                  (sym (ap (λ (x : Reply × MachineState). x.0) told))
+                  (ap (machine_of (g_open g2.nine_frames)) after
                   ∙ ap (λ (x : FinMap _ MachineHandle). let y : MachineState =
                   record (machine_of g s) { handles = x; next = g.next + 1 } in y)
                   (mapped-insert handle_of g.handles g.next new_handle)
                   ∙ sym (ap (λ (x : Reply × MachineState). x.1) told))
-              (record { frames = omega (arith, two, frames); asked = omega (arith, two, asked) }))
+                  (record { frames = omega (arith, two, frames); asked = omega (arith, two, asked) }))

@@ -29,18 +29,18 @@ module _ (n0 n1 : Moment) (s0 s1 : Session) (p0 p1 : Streams) (turns handled nin
       → Plays n0 n1 p0 p1 bytes turns end handled nine_frames
   plays bytes is =
       let same : s1.faults ≡ s0.faults = omega
-          (arith, none.same, e.faults, b.rises, h.answered.stays.rises) in
+      (arith, none.same, e.faults, b.rises, h.answered.stays.rises) in
       let below : s0.faults < 2 ^ 64 - 1 = omega
-          (arith, none.same, none.below, e.faults, b.rises, h.answered.stays.rises) in
+      (arith, none.same, none.below, e.faults, b.rises, h.answered.stays.rises) in
       let exact = Answered-exact s0 s1 h.frames h.replies h.answered same below in
       let frames : h.frames ≡ (cut turns bytes).frames = sym (ap (λ (c : Cut). c.frames) is) in
       let played : play_from s0.settings s0.state h.frames ≡ play_from n0.state.settings
-          (begun (linked n0.state.tree) b.root) (cut turns bytes).frames =
-          (λ j. play_from (b.settings j) (b.state j) (frames j)) in
+      (begun (linked n0.state.tree) b.root) (cut turns bytes).frames =
+      (λ j. play_from (b.settings j) (b.state j) (frames j)) in
       let number : messages_from s0.piece s0.settings s0.state h.frames ≡ messages_from
-          (piece_of n0.state) n0.state.settings (begun (linked n0.state.tree) b.root)
-          (cut turns bytes).frames = (λ j. messages_from (b.piece j) (b.settings j) (b.state j)
-          (frames j)) in
+      (piece_of n0.state) n0.state.settings (begun (linked n0.state.tree) b.root)
+      (cut turns bytes).frames = (λ j. messages_from (b.piece j) (b.settings j) (b.state j)
+      (frames j)) in
       record {
         root = b.root;
         found = b.found;
@@ -90,9 +90,9 @@ module _ (n0 n1 : Moment) (p0 p1 : Streams) (turns : ℕ) where
       (λ b. by_cause b.0 b.1 told.handled told.nine_frames told.cause b.2 b.3 b.4.0 b.4.1)
       (λ other. ⊎_elim
       (λ a. subst (λ (c : BridgeError). IfSome (end_of c)
-          (λ end. PlaysTo end told.handled told.nine_frames n0 n1 p0 p1 turns)) (sym a.1) tt)
+      (λ end. PlaysTo end told.handled told.nine_frames n0 n1 p0 p1 turns)) (sym a.1) tt)
       (λ m. subst (λ (c : BridgeError). IfSome (end_of c)
-          (λ end. PlaysTo end told.handled told.nine_frames n0 n1 p0 p1 turns)) (sym m.0) tt)
+      (λ end. PlaysTo end told.handled told.nine_frames n0 n1 p0 p1 turns)) (sym m.0) tt)
       other.2)
       h
 

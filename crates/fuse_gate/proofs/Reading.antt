@@ -63,7 +63,7 @@ by_length : (file : List ℕ) (offset k : ℕ) (bytes : List ℕ) → bytes ≡ 
     → bytes ≡ part file offset (length bytes)
 by_length file offset k bytes is =
     let long : length bytes ≡ min k (length (drop offset file)) = ap length is
-        ∙ length-take k (drop offset file) in
+    ∙ length-take k (drop offset file) in
     is ∙ same_part file offset k (length bytes) (omega arith)
 
 -- ---- how many messages are to come
@@ -73,20 +73,20 @@ last_one : (all n size piece count got there : ℕ) → 1 ≤ piece → n ≤ si
     → (got < count) ⊎ (n + got ≡ size) → pieces piece (size - n) (there - n) ≡ 1
 last_one all n size piece count got there some within long asks is told ends =
     ⊎_elim (λ short. last_short piece (size - n) (there - n) (omega arith))
-        (λ whole. last_whole piece (size - n) (there - n) some (omega arith) (omega arith)) ends
+    (λ whole. last_whole piece (size - n) (there - n) some (omega arith) (omega arith)) ends
 
 after_one : (all n size piece count got there : ℕ) → 1 ≤ piece → n ≤ size → n ≤ all
     → count ≡ min (size - n) piece → got ≡ min count (all - n) → there ≡ min size all
     → count ≤ got → n + got ≢ size → pieces piece (size - n) (there - n) ≡ 1 + pieces piece
-        (size - (n + got)) (there - (n + got))
+    (size - (n + got)) (there - (n + got))
 after_one all n size piece count got there some within long asks is told full more =
     let whole : got ≡ piece = omega arith in
     let left : size - n - piece ≡ size - (n + got) = omega arith in
     let rest : there - n - piece ≡ there - (n + got) = omega arith in
     let first = one_more piece (size - n) (there - n) some (omega arith) (omega arith) (omega arith)
-        in
+    in
     first ∙ ap (λ k. 1 + pieces piece k (there - n - piece)) left
-        ∙ ap (λ k. 1 + pieces piece (size - (n + got)) k) rest
+    ∙ ap (λ k. 1 + pieces piece (size - (n + got)) k) rest
 
 -- ---- one piece
 
@@ -96,7 +96,7 @@ module _ (n : Moment) {fid : ℕ} {file : List ℕ} (o : ReadsFile n.state fid f
   told_file offset count few =
       let all : min count (n.state.msize - RREAD_HEADER_SIZE) ≡ count = omega arith in
       ap (λ b. body_answer (read_body offset (min count (n.state.msize - RREAD_HEADER_SIZE))) b)
-          o.body ∙ ap (λ k. Ok (part file offset k)) all
+      o.body ∙ ap (λ k. Ok (part file offset k)) all
 
   -- what a message brought
   pub brought : (offset count : ℕ) (n1 : Moment) (payload : Data)
@@ -106,7 +106,7 @@ module _ (n : Moment) {fid : ℕ} {file : List ℕ} (o : ReadsFile n.state fid f
   brought offset count n1 payload few tells = ⊎_elim
       (λ e.
       let same : Ok payload.0.items ≡ Ok (part file offset count) =
-          ap (λ (x : Result (List ℕ) ℕ × ServerState). x.0) e ∙ told_file offset count few in
+      ap (λ (x : Result (List ℕ) ℕ × ServerState). x.0) e ∙ told_file offset count few in
       (ap (λ (x : Result (List ℕ) ℕ × ServerState). x.1) e, cc))
       (λ k. absurd (let no = k.1 in cc)) tells
 
@@ -180,18 +180,17 @@ long_part : (file bytes : List ℕ) (offset : ℕ) → bytes ≡ part file offse
     → length bytes ≤ length (drop offset file)
 long_part file bytes offset is =
     let long : length bytes ≡ min (length bytes) (length (drop offset file)) = ap length is
-        ∙ length-take (length bytes) (drop offset file) in
-    by_min (length bytes) (length (drop offset file)) long
-  where
-    by_min : (n all : ℕ) → n ≡ min n all → n ≤ all
-    by_min n all is = omega arith
+    ∙ length-take (length bytes) (drop offset file) in
+    by_min (length bytes) (length (drop offset file)) long where
+      by_min : (n all : ℕ) → n ≡ min n all → n ≤ all
+      by_min n all is = omega arith
 
 got_length : (file got : List ℕ) (offset n count : ℕ) → got ≡ part file (offset + n) count
     → length got ≡ min count (length (drop offset file) - n)
 got_length file got offset n count is =
     ap length is ∙ length-take count (drop (offset + n) file)
-        ∙ ap (λ k. min count k) (ap length (drop_add offset n file)
-        ∙ length-drop n (drop offset file))
+    ∙ ap (λ k. min count k) (ap length (drop_add offset n file)
+    ∙ length-drop n (drop offset file))
 
 -- the end of what is read is the end of what was asked for
 ends_alike : (all n size piece count got : ℕ) → n ≤ size → n ≤ all → count ≡ min (size - n) piece
@@ -208,11 +207,10 @@ pub offset_fits : (file bytes : List ℕ) (offset : ℕ) → length file ≤ 107
     → bytes ≡ part file offset (length bytes) → offset < 2 ^ 64 → offset + length bytes < 2 ^ 64
 offset_fits file bytes offset short is low =
     by_numbers (length file) (length (drop offset file)) (length bytes) short
-        (length-drop offset file) (long_part file bytes offset is)
-  where
-    by_numbers : (all rest n : ℕ) → all ≤ 1073741824 → rest ≡ all - offset → n ≤ rest
-        → offset + n < 2 ^ 64
-    by_numbers all rest n short is long = omega arith
+    (length-drop offset file) (long_part file bytes offset is) where
+      by_numbers : (all rest n : ℕ) → all ≤ 1073741824 → rest ≡ all - offset → n ≤ rest
+          → offset + n < 2 ^ 64
+      by_numbers all rest n short is long = omega arith
 
 -- ---- the next piece
 
@@ -226,11 +224,11 @@ module _ {g : Gate} (n : Moment) (st : IsInStep g n.state) {fid : ℕ} {file : L
   module _ (offset size : ℕ) {g1 : Gate} {n1 : Moment} {bytes : List ℕ}
       (r : Reading file offset size g n g1 n1 bytes)
       (at count : ℕ) (is_at : at ≡ offset + length bytes)
-          (asks : count ≡ min (size - length bytes) (piece_of n.state))
+      (asks : count ≡ min (size - length bytes) (piece_of n.state))
       (g2 : Gate) (n2 : Moment) (sent : g2 ≡ one_sent g1) (asked : AskedOne n1 n2)
-          (kept : Keeps n1 n2)
+      (kept : Keeps n1 n2)
       (answer : Result (List ℕ) ℕ) (told : (f : Fid) → get n1.state.fids fid ≡ Some f
-          → Tells (read_told n1.state f.ino at count) answer n1 n2) where
+      → Tells (read_told n1.state f.ino at count) answer n1 n2) where
     abbrev told_all : Reply × MachineState
     told_all = (Bytes (part file offset size), machine_of g n.state)
 
@@ -259,16 +257,16 @@ module _ {g : Gate} (n : Moment) (st : IsInStep g n.state) {fid : ℕ} {file : L
     pub refused : (errno : ℕ) → answer ≡ Err errno → AllServed (Refused errno)
     refused errno is = ⊎_elim
         (λ e. absurd (let no : Err errno ≡ Ok (part file at count) = sym is
-            ∙ ap (λ (x : Result (List ℕ) ℕ × ServerState). x.0) e
-            ∙ told_file n1 open_now at count few_now in cc))
+        ∙ ap (λ (x : Result (List ℕ) ℕ × ServerState). x.0) e
+        ∙ told_file n1 open_now at count few_now in cc))
         (λ k.
         let same : Err errno ≡ Err EIO = sym is ∙ k.1 in
         let eio : errno ≡ EIO = cc in
         let rose = k.0 in
         let before = r.kept.rises in
         subst (λ e. AllServed (Refused e)) (sym eio)
-            (hurt st told_all all_messages (Untouched n.state.tree) (r.sent + 1) g2 n2 all_sent
-            (k.2 ∙ r.same) (omega (arith, before, rose)) refl))
+        (hurt st told_all all_messages (Untouched n.state.tree) (r.sent + 1) g2 n2 all_sent
+        (k.2 ∙ r.same) (omega (arith, before, rose)) refl))
         tells
 
     module _ (payload : Data) (is : answer ≡ Ok payload.0.items) (new : List ℕ)
@@ -304,29 +302,29 @@ module _ {g : Gate} (n : Moment) (st : IsInStep g n.state) {fid : ℕ} {file : L
           → AllServed (Bytes new)
       finished good ends =
           let last : (length payload.0.items < count)
-              ⊎ (length bytes + length payload.0.items ≡ size) =
-              ⊎_elim (λ short. inl short) (λ whole. inr (sym new_length ∙ whole)) ends in
+          ⊎ (length bytes + length payload.0.items ≡ size) =
+          ⊎_elim (λ short. inl short) (λ whole. inr (sym new_length ∙ whole)) ends in
           let alike = ends_alike (length (drop offset file)) (length bytes) size (piece_of n.state)
-              count (length payload.0.items) size_is long asks got_is last in
+          count (length payload.0.items) size_is long asks got_is last in
           let one = last_one (length (drop offset file)) (length bytes) size (piece_of n.state)
-              count (length payload.0.items) (length (part file offset size))
-              (some_piece n.state.msize st.roomy) size_is long asks got_is
-              (length-take size (drop offset file)) last in
+          count (length payload.0.items) (length (part file offset size))
+          (some_piece n.state.msize st.roomy) size_is long asks got_is
+          (length-take size (drop offset file)) last in
           let total : all_messages ≡ r.sent + 1 = counts_last r.sent _ all_messages r.rest one in
           subst (λ count. Serves told_all count (Untouched n.state.tree) (g, n) (g2, n2)
-              (Bytes new)) (sym total)
+          (Bytes new)) (sym total)
           (unchanged st told_all (r.sent + 1) (Untouched n.state.tree) good g2 n2 (Bytes new)
-              all_sent state_now (ap Bytes (part_new
-              ∙ same_part file offset (length bytes + count) size alike)) refl)
+          all_sent state_now (ap Bytes (part_new
+          ∙ same_part file offset (length bytes + count) size alike)) refl)
 
       pub goes_on : count ≤ length payload.0.items → length new ≢ size
           → Reading file offset size g n g2 n2 new
       goes_on full more =
           let other : length bytes + length payload.0.items ≢ size = λ e. more (new_length ∙ e) in
           let after = after_one (length (drop offset file)) (length bytes) size (piece_of n.state)
-              count (length payload.0.items) (length (part file offset size))
-              (some_piece n.state.msize st.roomy) size_is long asks got_is
-              (length-take size (drop offset file)) full other in
+          count (length payload.0.items) (length (part file offset size))
+          (some_piece n.state.msize st.roomy) size_is long asks got_is
+          (length-take size (drop offset file)) full other in
           record {
             same = state_now;
             sent = r.sent + 1;
@@ -354,22 +352,25 @@ module _ {g : Gate} {s : ServerState} (st : IsInStep g s) (handle : ℕ) where
 
   kind_is : (h : Handle) → get g.handles handle ≡ Some h
       → IsOfKind h.kind (body_at s.tree.records h.ino)
-  kind_is h at = by_record (get s.tree.records h.ino) refl (handle_good st handle h at).openable
-      where
-    by_body : (b : Body) → h.kind ≡ qid_type (kind_of b) → IsOpenable (Some b) (handle_of h)
-        → IsOfKind h.kind (Some b)
-    by_body (File bytes) kind able = inr ((λ is. let none : 0 ≡ 128 = sym kind
-        ∙ is in absurd (omega arith)), (bytes, refl))
-    by_body (Directory es next above) kind able = inl (kind, refl)
-    by_body (Link target) kind able = absurd able
+  kind_is h at = by_record (get s.tree.records h.ino) refl
+      (handle_good st handle h at).openable where
+        by_body : (b : Body) → h.kind ≡ qid_type (kind_of b) → IsOpenable (Some b) (handle_of h)
+            → IsOfKind h.kind (Some b)
+        by_body (File bytes) kind able = inr (
+          (λ is. let none : 0 ≡ 128 = sym kind
+              ∙ is in absurd (omega arith)),
+          (bytes, refl),
+        )
+        by_body (Directory es next above) kind able = inl (kind, refl)
+        by_body (Link target) kind able = absurd able
 
-    by_record : (r : Option Record) → get s.tree.records h.ino ≡ r
-        → IsOpenable (option_map (λ (r : Record). r.body) r) (handle_of h)
-        → IsOfKind h.kind (option_map (λ (r : Record). r.body) (get s.tree.records h.ino))
-    by_record None is able = absurd able
-    by_record (Some r) is able = subst (λ (o : Option Record). IsOfKind h.kind
-        (option_map (λ (r : Record). r.body) o)) (sym is)
-        (by_body r.body (st.paired.handle_kinds handle h r at is) able)
+        by_record : (r : Option Record) → get s.tree.records h.ino ≡ r
+            → IsOpenable (option_map (λ (r : Record). r.body) r) (handle_of h)
+            → IsOfKind h.kind (option_map (λ (r : Record). r.body) (get s.tree.records h.ino))
+        by_record None is able = absurd able
+        by_record (Some r) is able = subst (λ (o : Option Record). IsOfKind h.kind
+            (option_map (λ (r : Record). r.body) o)) (sym is)
+            (by_body r.body (st.paired.handle_kinds handle h r at is) able)
 
   directory_at : (h : Handle) → get g.handles handle ≡ Some h → h.kind ≡ 128
       → is_directory_at (body_at s.tree.records h.ino) ≡ true
@@ -399,9 +400,9 @@ module _ {g : Gate} (n : Moment) (st : IsInStep g n.state) (handle offset size :
     by_tests directory write kind access =
         ap (λ (o : Option MachineHandle). read_refusal m o) (handle_seen st handle (Some h) at)
         ∙ ap (λ (b : Bool). first_refusal (refused_if b EISDIR
-            ∷ refused_if (h.access == O_WRONLY) EBADF ∷ [])) kind
+        ∷ refused_if (h.access == O_WRONLY) EBADF ∷ [])) kind
         ∙ ap (λ (b : Bool). first_refusal (refused_if directory EISDIR ∷ refused_if b EBADF ∷ []))
-            access
+        access
 
     pub read_directory : h.kind ≡ 128 → refusal ≡ Some EISDIR
     read_directory kind = by_tests true (h.access == O_WRONLY) (directory_at st handle h at kind)
@@ -423,14 +424,19 @@ module _ {g : Gate} (n : Moment) (st : IsInStep g n.state) (handle offset size :
       body_is = (file_body st handle h at kind).1 ∙ ap (λ xs. Some (File xs)) (sym file_is)
 
       pub reads_file : ReadsFile n.state handle (file_at n.state handle)
-      reads_file = record { f = opened h; at = handle_fid st handle h at; readable =
-          ap not (not_one h.access access); body = body_is }
+      reads_file = record {
+        f = opened h;
+        at = handle_fid st handle h at;
+        readable =
+            ap not (not_one h.access access);
+        body = body_is;
+      }
 
       told_is : bytes_read m offset size (get m.handles handle) ≡ Ok
           (part (file_at n.state handle) offset (min size MAX_READ))
       told_is =
           ap (λ (o : Option MachineHandle). bytes_read m offset size o)
-              (handle_seen st handle (Some h) at)
+          (handle_seen st handle (Some h) at)
           ∙ ap (λ b. body_answer (read_body offset (min size MAX_READ)) b) body_is
 
       pub read_served : IsGoodServer n.state → (most : ℕ) → most ≡ min size MAX_READ
@@ -439,8 +445,8 @@ module _ {g : Gate} (n : Moment) (st : IsInStep g n.state) (handle offset size :
           → ServesRequest 0 (read handle offset size 0 None) (g, n) new reply
       read_served good most is new reply served =
           served_after st good 0 (read handle offset size 0 None)
-              (by_tests false false (plain kind) (not_one h.access access)) new reply
+          (by_tests false false (plain kind) (not_one h.access access)) new reply
           (subst (λ (r : Result (List ℕ) ℕ). Serves (bytes_reply r, m)
-              (read_messages (piece_of n.state) (min size MAX_READ) r) (Untouched n.state.tree)
-              (g, n) new reply) (sym told_is)
+          (read_messages (piece_of n.state) (min size MAX_READ) r) (Untouched n.state.tree)
+          (g, n) new reply) (sym told_is)
           (subst (λ k. ServesReading handle offset k (g, n) new reply) is served))

@@ -140,6 +140,6 @@ pub served_short : (frame : List ℕ) (old new : Gate × Moment) (reply : Reply)
     → ServesFrame frame old new reply → IsShort reply
 served_short frame old new reply served = ⊎_elim
     (λ told. subst IsShort (sym told.0) (answer_short old.1.state.settings (machine_at old)
-        (head_of frame).nodeid (request_in_turn (machine_at old).phase frame)))
+    (head_of frame).nodeid (request_in_turn (machine_at old).phase frame)))
     (λ hurt. subst IsShort (sym hurt.1) tt)
     served.outcome

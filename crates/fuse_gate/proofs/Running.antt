@@ -20,9 +20,21 @@ module _ (n0 nm nr n1 : Moment) (g gr : Gate) where
   opens : AttachedBy n0 nm (Ok g) → Keeps n0 nm → Opens n0 (session_of g nm)
   opens a k =
       let b = a.0 in
-      record { root = b.root; limit = b.limit; found = b.found; state = b.state; settings =
-          k.fixed; piece = ap (λ n. min n GREATEST_MSIZE - RREAD_HEADER_SIZE) k.sized; rises =
-          k.rises; steady = k.steady; steadily = k.steadily; sent = b.frames; asked = a.1 }
+      record {
+        root = b.root;
+        limit = b.limit;
+        found = b.found;
+        state = b.state;
+        settings =
+            k.fixed;
+        piece = ap (λ n. min n GREATEST_MSIZE - RREAD_HEADER_SIZE) k.sized;
+        rises =
+            k.rises;
+        steady = k.steady;
+        steadily = k.steadily;
+        sent = b.frames;
+        asked = a.1;
+      }
 
   closes : n1.state ≡ cleared nr.state → n1.faults ≡ nr.faults → n1.asked ≡ nr.asked
       → n1.steady ≡ nr.steady → Closes (session_of gr nr) n1
@@ -50,19 +62,28 @@ unstood s0 s1 stands p0 p1 turns handled _ h = absurd h
 run_by : (n0 nr n1 : Moment) (s0 : Session) (gr : Gate) (stands : Type 0) (p0 p1 : Streams)
     (turns : ℕ) (result : Result Pumped Stopped)
     → Opens n0 s0 → Closes (session_of gr nr) n1
-        → Runs s0 (session_of gr nr) stands p0 p1 turns result → PumpsBy n0 n1 p0 p1 turns result
+    → Runs s0 (session_of gr nr) stands p0 p1 turns result → PumpsBy n0 n1 p0 p1 turns result
 run_by n0 nr n1 s0 gr stands p0 p1 turns (Ok told) b e r =
     (s0, session_of gr nr, b, e, (r.outcome.0, (r.outcome.1.0, tt, r.outcome.1.2)))
 run_by n0 nr n1 s0 gr stands p0 p1 turns (Err told) b e r =
-    inl (s0, session_of gr nr, b, e, (r.outcome.0, unstood s0 (session_of gr nr) stands p0 p1 turns
-        told.handled told.cause r.outcome.1))
+    inl (
+      s0,
+      session_of gr nr,
+      b,
+      e,
+      (
+        r.outcome.0,
+        unstood s0 (session_of gr nr) stands p0 p1 turns
+            told.handled told.cause r.outcome.1,
+      ),
+    )
 
 pub Pumps-run : (n0 nm nr n1 : Moment) (g gr : Gate) (stands : Type 0) (p0 p1 : Streams) (turns : ℕ)
     (result : Result Pumped Stopped)
     → AttachedBy n0 nm (Ok g) → Keeps n0 nm → Runs (session_of g nm) (session_of gr nr) stands p0 p1
-        turns result → nr.state.msize ≡ nm.state.msize
+    turns result → nr.state.msize ≡ nm.state.msize
     → n1.state ≡ cleared nr.state → n1.faults ≡ nr.faults → n1.asked ≡ nr.asked
-        → n1.steady ≡ nr.steady → Pumps n0 n1 p0 p1 turns result
+    → n1.steady ≡ nr.steady → Pumps n0 n1 p0 p1 turns result
 Pumps-run n0 nm nr n1 g gr stands p0 p1 turns result a k r sized state faults asked same =
     let e = closes n0 nm nr n1 g gr state faults asked same in
     record {

@@ -56,9 +56,9 @@ module _ (a : Global) where
   pub node_missing : counted_up (gate a) 3 ≡ gate a
   node_missing = ap (counted_by (gate a) 3) (
       insert_keeps (insert empty 1 (record { ino = 1; count = 1; kind = 128 })) 2 file_node 3
-          (omega arith)
+      (omega arith)
       ∙ insert_keeps empty 1 (record { ino = 1; count = 1; kind = 128 }) 3 (omega arith)
-          ∙ get-empty {X = Node} nat_cmp 3)
+      ∙ get-empty {X = Node} nat_cmp 3)
 
 -- ---- files and attributes
 
@@ -71,7 +71,18 @@ pub bytes_of_none : file_at server 9 ≡ []
 bytes_of_none = ap (λ (o : Option Fid). unwrap_or
     (option_map (λ (f : Fid). bytes_at sample f.ino) o) []) nine
 
-pub attributes_kept : let a : Attr = record { ino = 2; kind = kind.File; mode = 420; uid = 5; gid =
-    6; links = 1; size = 5; atime = born; mtime = born; ctime = born } in file_attributes
+pub attributes_kept : let a : Attr = record {
+  ino = 2;
+  kind = kind.File;
+  mode = 420;
+  uid = 5;
+  gid =
+      6;
+  links = 1;
+  size = 5;
+  atime = born;
+  mtime = born;
+  ctime = born;
+} in file_attributes
     (attributes_of a) ≡ fuse_attributes a
 attributes_kept = refl

@@ -31,22 +31,28 @@ pub record SentAlone (count : ℕ) (g : Gate) (n : Moment) (g1 : Gate) (n1 : Mom
   pub messages : Sent count (g, n) (g1, n1)
 
 pub none_sent : (g : Gate) (n : Moment) → SentAlone 0 g n g n
-none_sent g n = record { gate = refl; messages =
-    record { frames = omega arith; asked = omega arith } }
+none_sent g n = record {
+  gate = refl;
+  messages =
+      record { frames = omega arith; asked = omega arith };
+}
 
 pub one_more_sent : {count : ℕ} {g : Gate} {n : Moment} {g1 : Gate} {n1 : Moment}
     → SentAlone count g n g1 n1 → (g2 : Gate) (n2 : Moment) → g2 ≡ one_sent g1 → AskedOne n1 n2
     → SentAlone (count + 1) g n g2 n2
 one_more_sent {g = g} {g1 = g1} h g2 n2 is asked =
     let frames : g2.nine_frames ≡ min (g1.nine_frames + 1) (2 ^ 64 - 1) =
-        ap (λ (x : Gate). x.nine_frames) is in
+    ap (λ (x : Gate). x.nine_frames) is in
     let before = h.messages.frames in
     let handed = h.messages.asked in
     record {
       gate = is ∙ ap one_sent h.gate ∙ ap (λ k. let x : Gate = record g { nine_frames = k } in x)
           (sym frames);
-      messages = record { frames = omega (arith, before, frames); asked =
-          omega (arith, handed, asked) };
+      messages = record {
+        frames = omega (arith, before, frames);
+        asked =
+            omega (arith, handed, asked);
+      };
     }
 
 pub one_alone : {g : Gate} {n : Moment} (g1 : Gate) (n1 : Moment) → g1 ≡ one_sent g → AskedOne n n1
@@ -59,17 +65,21 @@ module _ (told : Reply × MachineState) (count : ℕ) (part : Tree → Type 0) w
   pub made : (old new : Gate × Moment) (reply : Reply) → IsGoodServer new.1.state
       → ArePaired new.0 new.1.state → LEAST_MSIZE ≤ new.1.state.msize
       → new.1.state.settings ≡ old.1.state.settings
-          → IsGoodMachine old.1.state.settings (kept_state told.1)
+      → IsGoodMachine old.1.state.settings (kept_state told.1)
       → reply ≡ told.0 → machine_at new ≡ told.1 → Sent count old new
-          → Serves told count part old new reply
+      → Serves told count part old new reply
   made old new reply good paired roomy fixed told_good is state messages =
       let apart : AreApart (machine_at new) = subst AreApart (sym state) told_good.apart in
       let all : machine_at new ≡ kept_state told.1 =
-          sym (kept_same new.0 new.1.state paired apart good) ∙ ap kept_state state in
+      sym (kept_same new.0 new.1.state paired apart good) ∙ ap kept_state state in
       record {
-        stands = record { good = subst (λ (x : Settings). IsGoodMachine x (machine_at new))
-            (sym fixed) (subst (IsGoodMachine old.1.state.settings) (sym all) told_good); paired =
-            paired; roomy = roomy };
+        stands = record {
+          good = subst (λ (x : Settings). IsGoodMachine x (machine_at new))
+              (sym fixed) (subst (IsGoodMachine old.1.state.settings) (sym all) told_good);
+          paired =
+              paired;
+          roomy = roomy;
+        };
         sent = count;
         messages = messages;
         outcome = inl (is, all, refl);
@@ -77,8 +87,13 @@ module _ (told : Reply × MachineState) (count : ℕ) (part : Tree → Type 0) w
 
   pub let_go_served : (old new : Gate × Moment) (reply : Reply) → reply ≡ told.0
       → LetsGo told.1 count old new → Serves told count part old new reply
-  let_go_served old new reply is l = record { stands = l.stands; sent = count; messages =
-      l.messages; outcome = inl (is, l.state, refl) }
+  let_go_served old new reply is l = record {
+    stands = l.stands;
+    sent = count;
+    messages =
+        l.messages;
+    outcome = inl (is, l.state, refl);
+  }
 
   pub weaker : (other : Tree → Type 0) → ((t : Tree) → part t → other t)
       → (old new : Gate × Moment) (reply : Reply) → Serves told count part old new reply
@@ -103,13 +118,21 @@ module _ (told : Reply × MachineState) (count : ℕ) (part : Tree → Type 0) w
       record {
         stands = served.stands;
         sent = sent + served.sent;
-        messages = record { frames = omega (arith, frames, more); asked =
-            omega (arith, asked, handed) };
+        messages = record {
+          frames = omega (arith, frames, more);
+          asked =
+              omega (arith, asked, handed);
+        };
         outcome = ⊎_elim
             (λ e. inl (e.0, e.1, ap (λ k. sent + k) e.2))
-            (λ k. let rose = k.0 in inr (omega (arith, rises, rose), k.1, k.2
-                ∙ ap (λ (m : MachineState). let x : MachineState =
-                record m { tree = new.1.state.tree } in x) same, k.3))
+            (λ k. let rose = k.0 in inr (
+              omega (arith, rises, rose),
+              k.1,
+              k.2
+                  ∙ ap (λ (m : MachineState). let x : MachineState =
+                  record m { tree = new.1.state.tree } in x) same,
+              k.3,
+            ))
             served.outcome;
       }
 
@@ -130,8 +153,13 @@ module _ {g : Gate} {n : Moment} (st : IsInStep g n.state) (told : Reply × Mach
     stands = alone_stands sent g1 n1 h same;
     sent = sent;
     messages = h.messages;
-    outcome = inr (rose, refl, ap (λ (x : Gate). machine_of x n1.state) h.gate, subst part
-        (sym (ap (λ (x : ServerState). x.tree) same)) left);
+    outcome = inr (
+      rose,
+      refl,
+      ap (λ (x : Gate). machine_of x n1.state) h.gate,
+      subst part
+          (sym (ap (λ (x : ServerState). x.tree) same)) left,
+    );
   }
 
   -- the machine's state is as it was
@@ -143,22 +171,26 @@ module _ {g : Gate} {n : Moment} (st : IsInStep g n.state) (told : Reply × Mach
     stands = alone_stands count g1 n1 h same;
     sent = count;
     messages = h.messages;
-    outcome = inl (is, ap (machine_of g1) same ∙ ap (λ (x : Gate). machine_of x n.state) h.gate
-        ∙ sym (ap kept_state state ∙ stands_kept st good), refl);
+    outcome = inl (
+      is,
+      ap (machine_of g1) same ∙ ap (λ (x : Gate). machine_of x n.state) h.gate
+          ∙ sym (ap kept_state state ∙ stands_kept st good),
+      refl,
+    );
   }
 
   -- one message, and then an answer: that of what is told, or EIO after a fault
   pub one_message : {A : Type 0} (asked : Result A ℕ × ServerState) (answer : Result A ℕ)
       (view : Result A ℕ → Reply) → view (Err EIO) ≡ Refused EIO
       → (sent : ℕ) (g1 : Gate) (n1 : Moment) → SentAlone sent g n g1 n1 → n.faults ≤ n1.faults
-          → part n.state.tree
+      → part n.state.tree
       → ((answer, n1.state) ≡ asked) ⊎ (Rose n.faults n1.faults × (answer ≡ Err EIO)
-          × (n1.state ≡ n.state))
+      × (n1.state ≡ n.state))
       → ((answer, n1.state) ≡ asked → Serves told count part (g, n) (g1, n1) (view answer))
       → Serves told count part (g, n) (g1, n1) (view answer)
   one_message asked answer view eio sent g1 n1 h rises left either step = ⊎_elim step
       (λ k. subst (λ r. Serves told count part (g, n) (g1, n1) r) (sym (ap view k.1 ∙ eio))
-          (hurt sent g1 n1 h k.2 k.0 left))
+      (hurt sent g1 n1 h k.2 k.0 left))
       either
 
 -- ---- requests
@@ -172,24 +204,24 @@ module _ {g : Gate} {n : Moment} (st : IsInStep g n.state) (good : IsGoodServer 
       let m = machine_of g n.state in
       let part = PartOf n.state.settings m node (Ok r) in
       subst (λ (o : Option ℕ). Serves (refused_or m o (effect_of n.state.settings m node r))
-          (none_or o (effect_messages (piece_of n.state) n.state.settings m node r)) part (g, n)
-          (g, n) (Refused errno)) (sym is)
+      (none_or o (effect_messages (piece_of n.state) n.state.settings m node r)) part (g, n)
+      (g, n) (Refused errno)) (sym is)
       (unchanged st (Refused errno, m) 0 part good g n (Refused errno) (none_sent g n) refl refl
-          refl)
+      refl)
 
   -- none stands
   pub served_after : refusal_before n.state.settings (machine_of g n.state) node r ≡ None
       → (new : Gate × Moment) (reply : Reply)
       → Serves (effect_of n.state.settings (machine_of g n.state) node r)
-          (effect_messages (piece_of n.state) n.state.settings (machine_of g n.state) node r)
-          (Untouched n.state.tree) (g, n) new reply
+      (effect_messages (piece_of n.state) n.state.settings (machine_of g n.state) node r)
+      (Untouched n.state.tree) (g, n) new reply
       → ServesRequest node r (g, n) new reply
   served_after none new reply served =
       let m = machine_of g n.state in
       let part = PartOf n.state.settings m node (Ok r) in
       subst (λ (o : Option ℕ). Serves (refused_or m o (effect_of n.state.settings m node r))
-          (none_or o (effect_messages (piece_of n.state) n.state.settings m node r)) part (g, n) new
-          reply) (sym none)
+      (none_or o (effect_messages (piece_of n.state) n.state.settings m node r)) part (g, n) new
+      reply) (sym none)
       (weaker (effect_of n.state.settings m node r)
-          (effect_messages (piece_of n.state) n.state.settings m node r) (Untouched n.state.tree)
-          part (λ t same. inl (inl same)) (g, n) new reply served)
+      (effect_messages (piece_of n.state) n.state.settings m node r) (Untouched n.state.tree)
+      part (λ t same. inl (inl same)) (g, n) new reply served)

@@ -30,9 +30,14 @@ module _ (s : ServerState) (good : IsGoodServer s) where
       → HasShortFields (attributes_shown (shown_of s.settings (attr_of i r)))
   shown_short i r at =
       let ok = good.tree.records i r at in
-      record { links = (let h = ok.links in omega arith); atime =
-          (let h = ok.atime in omega arith); mtime = (let h = ok.mtime in omega arith); ctime =
-          (let h = ok.ctime in omega arith) }
+      record {
+        links = (let h = ok.links in omega arith);
+        atime =
+            (let h = ok.atime in omega arith);
+        mtime = (let h = ok.mtime in omega arith);
+        ctime =
+            (let h = ok.ctime in omega arith);
+      }
 
 module _ (n n1 : Moment) (good : IsGoodServer n.state) (fid : ℕ) where
   told_short : (i : ℕ) (a : Attributes) (r : Record) → get n.state.tree.records i ≡ Some r
@@ -40,8 +45,8 @@ module _ (n n1 : Moment) (good : IsGoodServer n.state) (fid : ℕ) where
   told_short i a r at tells = ⊎_elim
       (λ e.
       let is : Ok a ≡ Ok (attributes_shown (shown_of n.state.settings (attr_of i r))) =
-          ap (λ (x : Result Attributes ℕ × ServerState). x.0) e
-          ∙ ap (λ o. laid_out (shown_told n.state.settings (attr_or_missing i o))) at in
+      ap (λ (x : Result Attributes ℕ × ServerState). x.0) e
+      ∙ ap (λ o. laid_out (shown_told n.state.settings (attr_or_missing i o))) at in
       let same : a ≡ attributes_shown (shown_of n.state.settings (attr_of i r)) = cc in
       subst HasShortFields (sym same) (shown_short n.state good i r at))
       (λ k. absurd (let clash = k.1 in cc)) tells
@@ -49,9 +54,9 @@ module _ (n n1 : Moment) (good : IsGoodServer n.state) (fid : ℕ) where
   pub short_fields : (answer : Result Attributes ℕ) (a : Attributes) → IsSome (get n.state.fids fid)
       → answer ≡ Ok a
       → ((f : Fid) → get n.state.fids fid ≡ Some f
-          → Tells (attributes_told n.state f.ino) answer n n1) → HasShortFields a
+      → Tells (attributes_told n.state f.ino) answer n n1) → HasShortFields a
   short_fields answer a known is tells =
       let f = some_value (get n.state.fids fid) known in
       let r = fid_stored n.state good fid f.0 f.1 in
       told_short f.0.ino a r.0 r.1 (tells_as (attributes_told n.state f.0.ino) answer (Ok a) n n1 is
-          (tells f.0 f.1))
+      (tells f.0 f.1))

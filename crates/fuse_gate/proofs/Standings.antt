@@ -38,7 +38,7 @@ pub kept_same : (g : Gate) (s : ServerState) → ArePaired g s → AreApart (mac
 kept_same g s paired apart good =
     ap (λ (t : Tree). let m : MachineState = record (machine_of g s) { tree = t } in m)
     (keep_alike s.tree (is_named (mapped node_of g.nodes) (mapped handle_of g.handles))
-        (is_held s.fids)
+    (is_held s.fids)
     (named_held g s paired apart)
     ∙ keep_same s.tree (is_held s.fids) good.kept)
 
@@ -47,9 +47,17 @@ module _ {g : Gate} {s : ServerState} (st : IsInStep g s) where
   pub sent_stands : (k : ℕ) → IsInStep (record g { nine_frames = k }) s
   sent_stands k = record {
     good = st.good;
-    paired = record { fids = st.paired.fids; used = st.paired.used; counted =
-        st.paired.counted; ids = st.paired.ids; known = st.paired.known; node_kinds =
-        st.paired.node_kinds; handle_kinds = st.paired.handle_kinds };
+    paired = record {
+      fids = st.paired.fids;
+      used = st.paired.used;
+      counted =
+          st.paired.counted;
+      ids = st.paired.ids;
+      known = st.paired.known;
+      node_kinds =
+          st.paired.node_kinds;
+      handle_kinds = st.paired.handle_kinds;
+    };
     roomy = st.roomy;
   }
 
@@ -143,7 +151,7 @@ module _ {g : Gate} {s : ServerState} (st : IsInStep g s) where
     by_number a b is enough =
         let left : nat_le a g.used ≡ true = grind (arith, nat_tests) in
         let right : (nat_le b g.used || nat_le NUMBER_LIMIT g.next) ≡ true =
-            grind (arith, nat_tests) in
+        grind (arith, nat_tests) in
         left ∙ sym right
 
   pub full_else : (limit : ℕ) → limit ≡ s.settings.limit → g.used < limit

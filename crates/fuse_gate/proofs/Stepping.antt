@@ -56,12 +56,12 @@ module _ {g : Gate} (n : Moment) (st : IsInStep g n.state) (good : IsGoodServer 
       → ServesFrame frame (g, n) (g, n) (Refused errno)
   refused_frame errno is =
       subst (λ (r : Result Request ℕ). Serves
-          (answer_of n.state.settings m (head_of frame).nodeid r)
-          (request_messages (piece_of n.state) n.state.settings m (head_of frame).nodeid r)
-          (PartOf n.state.settings m (head_of frame).nodeid r) (g, n) (g, n) (Refused errno))
-          (sym is)
+      (answer_of n.state.settings m (head_of frame).nodeid r)
+      (request_messages (piece_of n.state) n.state.settings m (head_of frame).nodeid r)
+      (PartOf n.state.settings m (head_of frame).nodeid r) (g, n) (g, n) (Refused errno))
+      (sym is)
       (unchanged st (Refused errno, m) 0 (PartOf n.state.settings m (head_of frame).nodeid
-          (Err errno)) good g n (Refused errno) (none_sent g n) refl refl refl)
+      (Err errno)) good g n (Refused errno) (none_sent g n) refl refl refl)
 
   module _ (node : ℕ) (r : Request) (is : request_in_turn (phase_of g.phase) frame ≡ Ok r)
       (at : node ≡ (head_of frame).nodeid) where
@@ -69,16 +69,16 @@ module _ {g : Gate} (n : Moment) (st : IsInStep g n.state) (good : IsGoodServer 
         → ServesFrame frame (g, n) new reply
     served_frame new reply served =
         subst (λ (q : Result Request ℕ). Serves
-            (answer_of n.state.settings m (head_of frame).nodeid q)
-            (request_messages (piece_of n.state) n.state.settings m (head_of frame).nodeid q)
-            (PartOf n.state.settings m (head_of frame).nodeid q) (g, n) new reply) (sym is)
+        (answer_of n.state.settings m (head_of frame).nodeid q)
+        (request_messages (piece_of n.state) n.state.settings m (head_of frame).nodeid q)
+        (PartOf n.state.settings m (head_of frame).nodeid q) (g, n) new reply) (sym is)
         (subst (λ i. ServesRequest i r (g, n) new reply) at served)
 
     pub part_of_frame : (new : Moment) → LeavesPartOf node r (g, n) new
         → LeavesPartOfFrame frame (g, n) new
     part_of_frame new part =
         subst (λ (q : Result Request ℕ). PartOf n.state.settings m (head_of frame).nodeid q
-            new.state.tree) (sym is)
+        new.state.tree) (sym is)
         (subst (λ i. LeavesPartOf i r (g, n) new) at part)
 
 -- ---- the bytes of the reply
@@ -98,9 +98,15 @@ served_part frame old new reply served = ⊎_elim
 
 stays_of : (old new : Gate × Moment) → Keeps old.1 new.1
     → Stays (session_of old.0 old.1) (session_of new.0 new.1)
-stays_of old new k = record { settings = k.fixed; piece =
-    ap (λ n. min n GREATEST_MSIZE - RREAD_HEADER_SIZE) k.sized; steady = k.steady; steadily =
-    k.steadily; rises = k.rises }
+stays_of old new k = record {
+  settings = k.fixed;
+  piece =
+      ap (λ n. min n GREATEST_MSIZE - RREAD_HEADER_SIZE) k.sized;
+  steady = k.steady;
+  steadily =
+      k.steadily;
+  rises = k.rises;
+}
 
 module _ (frame : List ℕ) (h : Head) (old new : Gate × Moment) (reply : Reply)
     (before kept after : List ℕ) (head : h ≡ head_of frame) (same : kept ≡ before)
@@ -109,7 +115,7 @@ module _ (frame : List ℕ) (h : Head) (old new : Gate × Moment) (reply : Reply
       → AppendsAnswer (session_of old.0 old.1) (session_of new.0 new.1) frame before after
   appends silent is behind =
       let quiet : is_silent (head_of frame).opcode ≡ silent =
-          ap (λ (x : Head). is_silent x.opcode) (sym head) ∙ sym is in (
+      ap (λ (x : Head). is_silent x.opcode) (sym head) ∙ sym is in (
         put frame silent reply,
         behind,
         record {
@@ -118,11 +124,22 @@ module _ (frame : List ℕ) (h : Head) (old new : Gate × Moment) (reply : Reply
           sent = served.messages.frames;
           asked = served.messages.asked;
           outcome = ⊎_elim
-              (λ e. inl (ap (put frame silent) e.0
-                  ∙ answered frame silent (frame_answer old.1.state.settings (machine_at old)
-                  frame).0 quiet, e.1, e.2))
-              (λ k. inr (k.0, record { answered = ap (put frame silent) k.1
-                  ∙ answered frame silent (Refused EIO) quiet; state = k.2; tree = k.3 }))
+              (λ e. inl (
+                ap (put frame silent) e.0
+                    ∙ answered frame silent (frame_answer old.1.state.settings (machine_at old)
+                    frame).0 quiet,
+                e.1,
+                e.2,
+              ))
+              (λ k. inr (
+                k.0,
+                record {
+                  answered = ap (put frame silent) k.1
+                      ∙ answered frame silent (Refused EIO) quiet;
+                  state = k.2;
+                  tree = k.3;
+                },
+              ))
               served.outcome;
         },
       )

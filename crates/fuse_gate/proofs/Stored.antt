@@ -24,9 +24,9 @@ module _ (t : Tree) (good : IsGoodTree t) (i : ℕ) where
   linked_is_stored : is_linked t.records i ≡ true → IsSome (get t.records i)
   linked_is_stored h = ⊎_elim
       (λ same. subst (λ k. IsSome (get t.records k)) (sym same)
-          (stored_by (get t.records TOP) good.top_is_directory))
+      (stored_by (get t.records TOP) good.top_is_directory))
       (λ ne. named_is_stored t good i (by_test (i == TOP) (name_count t.records i)
-          (grind (arith, nat_tests)) h))
+      (grind (arith, nat_tests)) h))
       (cases_eq i TOP)
 
 either : (a b : Bool) {X : Type 0} → (a ≡ true → X) → (b ≡ true → X) → (a || b) ≡ true → X
@@ -38,8 +38,8 @@ pub stored_exactly : (g : Gate) (s : ServerState) → IsInStep g s → IsGoodSer
     (machine_of g s).nodes (machine_of g s).handles i)
 stored_exactly g s st good i = same_bool _ _
     (λ had. ap (λ b. is_linked s.tree.records i || b) (named_held g s st.paired st.good.apart i)
-        ∙ good.kept i had)
+    ∙ good.kept i had)
     (λ h. either (is_linked s.tree.records i)
-        (is_named (machine_of g s).nodes (machine_of g s).handles i)
+    (is_named (machine_of g s).nodes (machine_of g s).handles i)
     (λ live. linked_is_stored s.tree good.tree i live)
     (λ named. good.stored i (sym (named_held g s st.paired st.good.apart i) ∙ named)) h)

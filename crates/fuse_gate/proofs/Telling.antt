@@ -24,7 +24,7 @@ module _ (n0 n1 : Moment) (s0 s1 : Session) (b : Opens n0 s0) (e : Closes s1 n1)
       let before = h.2.answered in
       let last = h.2.answers in
       counted (before.number + last.number) (omega (arith, before.sent, last.sent))
-          (omega (arith, before.asked, last.asked))
+      (omega (arith, before.asked, last.asked))
   stopped p0 p1 turns handled cause.Torn h = counted h.2.answered.number h.2.answered.sent
       h.2.answered.asked
   stopped p0 p1 turns handled cause.BadLength h =
@@ -38,14 +38,14 @@ pub TellsMessages-from : (n0 n1 : Moment) (p0 p1 : Streams) (turns : ℕ)
     → TellsMessages n0.asked n1.asked result
 TellsMessages-from n0 n1 p0 p1 turns (Ok told) (s0, s1, b, e, k) =
     counted n0 n1 s0 s1 b e told.nine_frames k.0 k.1.2.answered.number k.1.2.answered.sent
-        k.1.2.answered.asked
+    k.1.2.answered.asked
 TellsMessages-from n0 n1 p0 p1 turns (Err told) h = ⊎_elim
     (λ b. stopped n0 n1 b.0 b.1 b.2 b.3 told.nine_frames b.4.0 p0 p1 turns told.handled told.cause
-        b.4.1)
+    b.4.1)
     (λ other. ⊎_elim
     (λ a. subst (λ (c : BridgeError). TellsStopped c n0.asked told.nine_frames n1.asked) (sym a.1)
-        (subst (λ n. Counted n0.asked n n1.asked) (sym a.2) a.3.2))
+    (subst (λ n. Counted n0.asked n n1.asked) (sym a.2) a.3.2))
     (λ m. subst (λ (c : BridgeError). TellsStopped c n0.asked told.nine_frames n1.asked) (sym m.0)
-        tt)
+    tt)
     other.2)
     h

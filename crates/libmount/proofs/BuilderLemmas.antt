@@ -58,17 +58,27 @@ given_same xs i h e = rw (take_more xs i None h, e)
 pub passing_more : {X Y : Type 0} (p : Y → Bool) (v : X → Y) (xs : List X) (i : ℕ) (d : X)
     → i < length xs → p (v (slice_index_or xs i d)) ≡ true →
     filter p (map v (take (i + 1) xs)) ≡ filter p (map v (take i xs)) ++ v (slice_index_or xs i d)
-        ∷ []
+    ∷ []
 passing_more p v xs i d h e =
-    rw (take_more xs i d h, map-append v (take i xs) (slice_index_or xs i d ∷ []), filter-append p
-        (map v (take i xs)) (v (slice_index_or xs i d) ∷ []), e) refl
+    rw (
+      take_more xs i d h,
+      map-append v (take i xs) (slice_index_or xs i d ∷ []),
+      filter-append p
+          (map v (take i xs)) (v (slice_index_or xs i d) ∷ []),
+      e,
+    ) refl
 
 pub passing_same : {X Y : Type 0} (p : Y → Bool) (v : X → Y) (xs : List X) (i : ℕ) (d : X)
     → i < length xs → p (v (slice_index_or xs i d)) ≡ false →
     filter p (map v (take (i + 1) xs)) ≡ filter p (map v (take i xs))
 passing_same p v xs i d h e =
-    rw (take_more xs i d h, map-append v (take i xs) (slice_index_or xs i d ∷ []), filter-append p
-        (map v (take i xs)) (v (slice_index_or xs i d) ∷ []), e) (append-nil _)
+    rw (
+      take_more xs i d h,
+      map-append v (take i xs) (slice_index_or xs i d ∷ []),
+      filter-append p
+          (map v (take i xs)) (v (slice_index_or xs i d) ∷ []),
+      e,
+    ) (append-nil _)
 
 pub join_words : {X Y A : Type 0} (f : Y → List A) (v : X → Y) (mark : List A) (all : List X)
     (x : X) (xs : List X) → IsFirstAndRest all x xs →

@@ -198,8 +198,12 @@ unfolding cut has_escape decoded digits_value number_at number_field number_of f
 row_short = refl
 
 pub items_small : items (0, small_table) ≡ Ok (short_fields 7)
-    ∷ Err (record { message = codes "Cannot parse integer \"bad\": invalid digit"; number = 2; row =
-    codes "bad" }) ∷ []
+    ∷ Err (record {
+      message = codes "Cannot parse integer \"bad\": invalid digit";
+      number = 2;
+      row =
+          codes "bad";
+    }) ∷ []
 unfolding cut has_escape decoded digits_value number_at number_field number_of field_at bad_number
     quoted quoted_byte fields_of optional_at row row_of text_at lines item_of items
 items_small = refl

@@ -10,8 +10,13 @@ use Rattle.libmount.specs.BuilderTexts.{remount_text, tmpfs_options, tmpfs_text}
 use Rattle.libmount.specs.WorkedBuilders.{all_flags, in_memory, no_flags, read_only, two_layers}
 use Rattle.libmount.specs.WorkedBuilders.{writable}
 
-pub bind_printed : bind_text (record { source = codes "/a"; target = codes "/b"; recursive =
-    true; readonly = true }) ≡ codes "recursive bind mount \"/a\" -> \"/b\""
+pub bind_printed : bind_text (record {
+  source = codes "/a";
+  target = codes "/b";
+  recursive =
+      true;
+  readonly = true;
+}) ≡ codes "recursive bind mount \"/a\" -> \"/b\""
 unfolding bind_text quoted quoted_byte
 bind_printed = refl
 
@@ -25,8 +30,15 @@ pub tmpfs_printed : tmpfs_text in_memory ≡ codes
 unfolding tmpfs_text tmpfs_options options_text quoted quoted_byte digits
 tmpfs_printed = refl
 
-pub tmpfs_printed_bare : tmpfs_text (record { target = codes "/tmp"; size = None; nr_inodes =
-    None; mode = None; uid = None; gid = None }) ≡ codes "tmpfs  -> \"/tmp\""
+pub tmpfs_printed_bare : tmpfs_text (record {
+  target = codes "/tmp";
+  size = None;
+  nr_inodes =
+      None;
+  mode = None;
+  uid = None;
+  gid = None;
+}) ≡ codes "tmpfs  -> \"/tmp\""
 unfolding tmpfs_text tmpfs_options options_text quoted quoted_byte
 tmpfs_printed_bare = refl
 

@@ -26,17 +26,24 @@ module _ (mark : List ℕ) where
       → IsCut mark (byte ∷ bytes) (after_byte byte found)
   goes-on byte bytes found here h = ⊎_elim
       (λ (e : EndsAtMark mark bytes found.0 found.1). inl
-          (record { whole = ap (λ (l : List ℕ). byte ∷ l) e.whole; first =
-          before-more byte bytes (length found.0) here e.first }))
+      (record {
+        whole = ap (λ (l : List ℕ). byte ∷ l) e.whole;
+        first =
+            before-more byte bytes (length found.0) here e.first;
+      }))
       (λ (n : HasNoMark mark bytes found.0 found.1). inr
-          (record { all = ap (λ (l : List ℕ). byte ∷ l) n.all; none = n.none; nowhere =
-          before-more byte bytes (length bytes) here n.nowhere }))
+      (record {
+        all = ap (λ (l : List ℕ). byte ∷ l) n.all;
+        none = n.none;
+        nowhere =
+            before-more byte bytes (length bytes) here n.nowhere;
+      }))
       h
 
   step : (b : Bool) (byte : ℕ) (bytes : List ℕ) (found : List ℕ × List ℕ)
       → starts_with nat_eq (byte ∷ bytes) mark ≡ b → IsCut mark bytes found
       → IsCut mark (byte ∷ bytes) (cond b ([], drop (length mark) (byte ∷ bytes))
-          (after_byte byte found))
+      (after_byte byte found))
   step true byte bytes found here h = inl (record
       { whole = begins (byte ∷ bytes) here; first = λ at lt. absurd (omega arith) })
   step false byte bytes found here h = goes-on byte bytes found here h

@@ -38,7 +38,7 @@ module _ (mark bytes : List ℕ) where
   unfolding cut
   Looked-all at past h =
       h.so_far ∙ ap (λ (rest : List ℕ). onto (take at bytes) (cut mark rest))
-          (drop_all at bytes past)
+      (drop_all at bytes past)
       ∙ ap (λ (front : List ℕ). (front, [])) (append-nil (take at bytes) ∙ take_all at bytes past)
 
 module _ (mark bytes : List ℕ) (at : ℕ) (within : at < length bytes) (r : Bool)
@@ -47,35 +47,35 @@ module _ (mark bytes : List ℕ) (at : ℕ) (within : at < length bytes) (r : Bo
       → cut mark bytes ≡ (take at bytes, drop (length mark) (drop at bytes))
   Looked-found h so =
       let stands : starts_with nat_eq (drop at bytes) mark ≡ true =
-          rw (take_rest bytes at) at (sym test ∙ h) in
+      rw (take_rest bytes at) at (sym test ∙ h) in
       so.so_far ∙ ap (onto (take at bytes)) (cut-stands mark (drop at bytes)
-          (omega (arith, length-drop at bytes)) stands)
+      (omega (arith, length-drop at bytes)) stands)
       ∙ ap (λ (front : List ℕ). (front, drop (length mark) (drop at bytes)))
-          (append-nil (take at bytes))
+      (append-nil (take at bytes))
 
   pub Looked-more : r ≡ false → Looked mark bytes at → Looked mark bytes (at + 1)
   Looked-more h so =
       let next : drop at bytes ≡ get_or bytes at 0 ∷ drop (at + 1) bytes =
-          drop_more bytes at 0 within in
+      drop_more bytes at 0 within in
       let passes : starts_with nat_eq (get_or bytes at 0 ∷ drop (at + 1) bytes) mark ≡ false =
-          subst (λ (t : List ℕ). starts_with nat_eq t mark ≡ false) (take_rest bytes at ∙ next)
-          (sym test ∙ h) in
+      subst (λ (t : List ℕ). starts_with nat_eq t mark ≡ false) (take_rest bytes at ∙ next)
+      (sym test ∙ h) in
       record {
         so_far = so.so_far ∙ ap (λ (t : List ℕ). onto (take at bytes) (cut mark t)) next
             ∙ ap (onto (take at bytes)) (cut-passes mark (get_or bytes at 0) (drop (at + 1) bytes)
-                passes)
+            passes)
             ∙ ap (λ (front : List ℕ). (front, (cut mark (drop (at + 1) bytes)).1))
             (sym (append_assoc (take at bytes) (get_or bytes at 0 ∷ [])
-                (cut mark (drop (at + 1) bytes)).0))
+            (cut mark (drop (at + 1) bytes)).0))
             ∙ ap (λ (front : List ℕ). onto front (cut mark (drop (at + 1) bytes)))
-                (sym (take_more bytes at 0 within));
+            (sym (take_more bytes at 0 within));
       }
 
 -- a cut, with the places of its parts
 pub cut-placed : (mark bytes : List ℕ) (a front_place rest_place : ℕ) (front rest : List ℕ)
     → front ≡ (cut mark bytes).0 → rest ≡ (cut mark bytes).1
     → front_place ≡ a → rest_place ≡ a + (length bytes - length rest)
-        → ((front_place, front), (rest_place, rest)) ≡ cut_at mark (a, bytes)
+    → ((front_place, front), (rest_place, rest)) ≡ cut_at mark (a, bytes)
 cut-placed mark bytes a front_place rest_place front rest f r h k =
     (λ j. ((h j, f j), (k j, rest))) ∙ ap (λ (t : List ℕ).
-        ((a, (cut mark bytes).0), (a + (length bytes - length t), t))) r
+    ((a, (cut mark bytes).0), (a + (length bytes - length t), t))) r

@@ -52,9 +52,9 @@ module _ (n : ℕ) (fits : n < 2 ^ 64) where
   digits_value-spelled text h =
       digits_value-whole text h.some
       ∙ ap (λ (front : List ℕ). judged (fold with_digit 0 front) (length front) (length text))
-          (front-all text h.digits)
+      (front-all text h.digits)
       ∙ judged-ok (decimal_value text) (length text) (length text) (omega (arith, h.value))
-          (omega arith)
+      (omega arith)
       ∙ ap (λ (v : ℕ). Ok v) h.value
 
   no-plus : (d : ℕ) → is_digit d ≡ true → (d == 43) ≡ false

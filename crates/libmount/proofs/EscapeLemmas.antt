@@ -11,7 +11,7 @@ from text at = take (length text - at) (drop at text)
 
 first-escape : (text : List ℕ) → 4 ≤ length text → starts_with_escape text ≡ true
     → decoded text ≡ octal_value (slice_index text 1) (slice_index text 2) (slice_index text 3)
-        ∷ decoded (drop 4 text)
+    ∷ decoded (drop 4 text)
 unfolding decoded
 first-escape [] long h = absurd (omega arith)
 first-escape (a ∷ []) long h = absurd (omega arith)
@@ -57,7 +57,7 @@ decoded-nil = refl
 module _ (text : List ℕ) where
   pub takes-escape : 4 ≤ length text → starts_with_escape text ≡ true
       → (decoded text ≡ octal_value (slice_index text 1) (slice_index text 2) (slice_index text 3)
-          ∷ decoded (from text 4)) × (length (from text 4) < length text)
+      ∷ decoded (from text 4)) × (length (from text 4) < length text)
   takes-escape long h = (
     rw (take_rest text 4) (first-escape text long h),
     rw (take_rest text 4) (omega (arith, length-drop 4 text)),

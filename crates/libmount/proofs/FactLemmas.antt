@@ -16,12 +16,12 @@ same_then a b c same f = rw (← same) f
 
 pub explains_told : {A : Type 0} (facts : Option Facts) (view : Facts → A) (fault answer : A)
     (old new : Calls) → ToldBy facts view fault answer old new → Explains facts view answer old new
-explains_told facts view fault answer old new told = record { answered = by_case told.answered }
-  where
-    by_case : (IsFact facts view answer × (new ≡ old)) ⊎ ((answer ≡ fault) × FaultedIn old new)
-        → (IsFact facts view answer × (new ≡ old)) ⊎ FaultedIn old new
-    by_case (inl fact) = inl fact
-    by_case (inr fault) = inr fault.1
+explains_told facts view fault answer old new told = record
+    { answered = by_case told.answered } where
+      by_case : (IsFact facts view answer × (new ≡ old)) ⊎ ((answer ≡ fault) × FaultedIn old new)
+          → (IsFact facts view answer × (new ≡ old)) ⊎ FaultedIn old new
+      by_case (inl fact) = inl fact
+      by_case (inr fault) = inr fault.1
 
 both_facts : {A B C : Type 0} (facts : Option Facts) (f : Facts → A) (g : Facts → B)
     (join : A → B → C) (a : A) (b : B) → IsFact facts f a → IsFact facts g b
@@ -33,18 +33,19 @@ both_facts (Some w) f g join a b p q = λ j. join (p j) (q j)
 pub explains_both : {A B C : Type 0} (facts later : Option Facts) (f : Facts → A) (g : Facts → B)
     (join : A → B → C) (a : A) (b : B) (x y z : Calls) →
     later ≡ facts → Explains facts f a x y → Explains later g b y z
-        → Explains facts (λ w. join (f w) (g w)) (join a b) x z
+    → Explains facts (λ w. join (f w) (g w)) (join a b) x z
 explains_both {A} {B} {C} facts later f g join a b x y z same first second =
-    record { answered = by_case first.answered
-    (subst (λ w. Explains w g b y z) same second).answered }
-  where
-    by_case : (IsFact facts f a × (y ≡ x)) ⊎ FaultedIn x y → (IsFact facts g b × (z ≡ y))
-        ⊎ FaultedIn y z →
-        (IsFact facts (λ w. join (f w) (g w)) (join a b) × (z ≡ x)) ⊎ FaultedIn x z
-    by_case (inl p) (inl q) = inl (both_facts facts f g join a b p.0 q.0, q.1 ∙ p.1)
-    by_case (inl p) (inr q) = inr (same_then x y z p.1 q)
-    by_case (inr p) (inl q) = inr (faulted_then x y z p q.1)
-    by_case (inr p) (inr q) = inr (faulted_twice x y z p q)
+    record {
+      answered = by_case first.answered
+          (subst (λ w. Explains w g b y z) same second).answered;
+    } where
+      by_case : (IsFact facts f a × (y ≡ x)) ⊎ FaultedIn x y → (IsFact facts g b × (z ≡ y))
+          ⊎ FaultedIn y z →
+          (IsFact facts (λ w. join (f w) (g w)) (join a b) × (z ≡ x)) ⊎ FaultedIn x z
+      by_case (inl p) (inl q) = inl (both_facts facts f g join a b p.0 q.0, q.1 ∙ p.1)
+      by_case (inl p) (inr q) = inr (same_then x y z p.1 q)
+      by_case (inr p) (inl q) = inr (faulted_then x y z p q.1)
+      by_case (inr p) (inr q) = inr (faulted_twice x y z p q)
 
 seen_fact : {A B : Type 0} (facts : Option Facts) (f : Facts → A) (see : A → B) (a : A)
     → IsFact facts f a → IsFact facts (λ w. see (f w)) (see a)
@@ -55,9 +56,9 @@ seen_fact (Some w) f see a p = ap see p
 pub explains_seen : {A B : Type 0} (facts : Option Facts) (f : Facts → A) (see : A → B) (a : A)
     (b : B) (x y : Calls) → b ≡ see a → Explains facts f a x y
     → Explains facts (λ w. see (f w)) b x y
-explains_seen {A} {B} facts f see a b x y is told = record { answered = by_case told.answered }
-  where
-    by_case : (IsFact facts f a × (y ≡ x)) ⊎ FaultedIn x y
-        → (IsFact facts (λ w. see (f w)) b × (y ≡ x)) ⊎ FaultedIn x y
-    by_case (inl p) = inl (rw is (seen_fact facts f see a p.0), p.1)
-    by_case (inr p) = inr p
+explains_seen {A} {B} facts f see a b x y is told = record
+    { answered = by_case told.answered } where
+      by_case : (IsFact facts f a × (y ≡ x)) ⊎ FaultedIn x y
+          → (IsFact facts (λ w. see (f w)) b × (y ≡ x)) ⊎ FaultedIn x y
+      by_case (inl p) = inl (rw is (seen_fact facts f see a p.0), p.1)
+      by_case (inr p) = inr p

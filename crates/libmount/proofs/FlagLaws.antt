@@ -8,7 +8,7 @@ use Rattle.libmount.specs.Builders.{FlagChange, apply_to_flags}
 -- a bit that is kept where no mask takes it, or set
 changed_bit : (change : FlagChange) (flags i : ℕ) →
     bit_at (apply_to_flags change flags) i ≡ max
-        (min (bit_at flags i) (bit_at (2 ^ 64 - 1 - change.cleared) i)) (bit_at change.set i)
+    (min (bit_at flags i) (bit_at (2 ^ 64 - 1 - change.cleared) i)) (bit_at change.set i)
 changed_bit change flags i = bit_at_or _ _ i ∙ ap (λ b. max b (bit_at change.set i))
     (bit_at_and flags _ i)
 
@@ -20,7 +20,7 @@ pub twice_is_once : (change : FlagChange) (flags : ℕ)
 twice_is_once change flags =
     same_from_bits _ _ (λ i. changed_bit change (apply_to_flags change flags) i
     ∙ ap (λ b. max (min b (bit_at (2 ^ 64 - 1 - change.cleared) i)) (bit_at change.set i))
-        (changed_bit change flags i)
+    (changed_bit change flags i)
     ∙ max_min (bit_at flags i) (bit_at (2 ^ 64 - 1 - change.cleared) i) (bit_at change.set i)
     ∙ sym (changed_bit change flags i))
 
@@ -42,11 +42,11 @@ pub cleared_is_gone : (change : FlagChange) (flags i : ℕ) → change.cleared <
     bit_at (apply_to_flags change flags) i ≡ 0
 cleared_is_gone change flags i fits within cleared is =
     changed_bit change flags i ∙ gone_bit _ _ _ (bit_at change.cleared i)
-        (bit_at_not w64 change.cleared i fits within) cleared is
+    (bit_at_not w64 change.cleared i fits within) cleared is
 
 pub other_is_kept : (change : FlagChange) (flags i : ℕ) → change.cleared < 2 ^ 64 → i < 64
     → bit_at change.cleared i ≡ 0 → bit_at change.set i ≡ 0 →
     bit_at (apply_to_flags change flags) i ≡ bit_at flags i
 other_is_kept change flags i fits within cleared is =
     changed_bit change flags i ∙ kept_bit _ _ _ (bit_at change.cleared i) (bit_at-lt flags i)
-        (bit_at_not w64 change.cleared i fits within) cleared is
+    (bit_at_not w64 change.cleared i fits within) cleared is

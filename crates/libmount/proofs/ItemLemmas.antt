@@ -66,8 +66,11 @@ module _ (all : List Item) (ls : List Line) (line : Line) (rest : List Line)
 
 pub takes-none : (all : List Item) (ls ms : List Line) → all ≡ filter_map item_of ls → ls ≡ []
     → ms ≡ [] → (all ≡ []) × (filter_map item_of ms ≡ [])
-takes-none all ls ms so none after = (so ∙ ap (filter_map item_of) none, ap (filter_map item_of)
-    after)
+takes-none all ls ms so none after = (
+  so ∙ ap (filter_map item_of) none,
+  ap (filter_map item_of)
+      after,
+)
 
 pub items-by : (text : Placed) (ls : List Line) → ls ≡ lines text
     → filter_map item_of ls ≡ items text

@@ -10,7 +10,7 @@ use Rattle.libmount.specs.Parts.{is_mark, parts}
 
 numbered-more : (before place : ℕ) (line : List ℕ) (lines : List (List ℕ)) → 0 < length lines
     → numbered before place (line ∷ lines) ≡ (before + 1, (place, line))
-        ∷ numbered (before + 1) (place + (length line + 1)) lines
+    ∷ numbered (before + 1) (place + (length line + 1)) lines
 numbered-more before place line [] some = absurd (omega arith)
 numbered-more before place line (next ∷ lines) some = refl
 
@@ -22,11 +22,11 @@ pub numbered-first : (before place : ℕ) (line : List ℕ) (rest : Option (Bor 
     → BeginsAfter place line rest
     → numbered before place (line ∷ parts line_feed (option_copied rest))
     ≡ (cond (is_some rest) (before + 1) before, (place, line))
-        ∷ numbered (cond (is_some rest) (before + 1) before) (place_of rest)
-        (parts line_feed (option_copied rest))
+    ∷ numbered (cond (is_some rest) (before + 1) before) (place_of rest)
+    (parts line_feed (option_copied rest))
 numbered-first before place line None h = refl
 numbered-first before place line (Some text) h =
     numbered-more before place line (parts line_feed (Some text.now))
-        (omega (arith, length-slice_split (is_mark line_feed) text.now))
+    (omega (arith, length-slice_split (is_mark line_feed) text.now))
     ∙ ap (λ (p : ℕ). (before + 1, (place, line))
-        ∷ numbered (before + 1) p (parts line_feed (Some text.now))) (sym h)
+    ∷ numbered (before + 1) p (parts line_feed (Some text.now))) (sym h)

@@ -42,7 +42,7 @@ module _ (path : List ℕ) (line : Placed) where
   verdict-some r found h e =
       subst (GivesVerdict (Ok found)) (sym (by_row (Ok (Some r)) h))
       (subst (λ (flags : Option ℕ). GivesVerdict (Ok found) (option_map Ok flags)) e
-          (by_flags found))
+      (by_flags found))
 
 -- what the lines so far leave to say
 abbrev pub last_say : List ℕ → Option (List ℕ) → Result (Option ℕ) Message

@@ -11,8 +11,8 @@ use Rattle.libmount.specs.MountTables.{MountTable}
 cause_of : (told : Result MountTable ℕ) (old new : MountTable) (before now : Calls)
     (fault : MountFault) →
     LeavesBy {A = Unit {0}} told old new (Err fault)
-        → CausedBy {A = Unit {0}} before now (Err fault) → (new ≡ old)
-        × IsCause told before now (error_of fault)
+    → CausedBy {A = Unit {0}} before now (Err fault) → (new ≡ old)
+    × IsCause told before now (error_of fault)
 cause_of told old new before now (Errno errno) leaves cause = (leaves.1, inl (leaves.0, cause))
 cause_of told old new before now Fault leaves cause = (leaves, inr (refl, cause))
 cause_of told old new before now NoMemory leaves cause = (leaves, cause)
@@ -21,19 +21,21 @@ mounts_by : (told : Result MountTable ℕ) (operation : Operation) (old new : Mo
     (before now : Calls) (mounted : Result (Unit {0}) MountFault)
     (result : Result (Unit {0}) OSError) →
     LeavesBy told old new mounted → CausedBy before now mounted → ReportsBy mounted operation result
-        → MountsBy told operation old new before now result
+    → MountsBy told operation old new before now result
 mounts_by told operation old new before now (Ok a) (Ok b) leaves cause reports = (leaves, cause)
 mounts_by told operation old new before now (Ok a) (Err error) leaves cause reports = absurd reports
 mounts_by told operation old new before now (Err why) (Ok b) leaves cause reports = absurd reports
 mounts_by told operation old new before now (Err why) (Err error) leaves cause reports =
     let by_fault = cause_of told old new before now why leaves cause
-        in (reports.1, by_fault.0, rw (reports.0) by_fault.1)
+    in (reports.1, by_fault.0, rw (reports.0) by_fault.1)
 
 pub bare_of : (told : Result MountTable ℕ) (operation : Operation) (old new : MountTable)
     (before now : Calls) (mounted : Result (Unit {0}) MountFault)
     (result : Result (Unit {0}) OSError) →
     Leaves told old new mounted → Caused before now mounted → Reports mounted operation result
-        → MountsBare told operation old new before now result
+    → MountsBare told operation old new before now result
 bare_of told operation old new before now mounted result leaves caused reports =
-    record { mounted = mounts_by told operation old new before now mounted result leaves.exactly
-        caused.cause reports.reported }
+    record {
+      mounted = mounts_by told operation old new before now mounted result leaves.exactly
+          caused.cause reports.reported;
+    }

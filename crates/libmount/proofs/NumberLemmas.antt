@@ -73,9 +73,9 @@ module _ (number d : ℕ) (ds : List ℕ) where
   whole-digit : is_digit d ≡ true → whole number (d ∷ ds) ≡ whole (with_digit number d) ds
   whole-digit h =
       ap (λ (front : List ℕ). judged (fold with_digit number front) (length front)
-          (suc (length ds))) (front-yes d ds h)
+      (suc (length ds))) (front-yes d ds h)
       ∙ judged-suc (fold with_digit (with_digit number d) (take_while is_digit ds))
-          (length (take_while is_digit ds)) (length ds)
+      (length (take_while is_digit ds)) (length ds)
 
   pub whole-ok : (more : ℕ) → Goes number d (Ok more) → whole number (d ∷ ds) ≡ whole more ds
   whole-ok more h = whole-digit h.0 ∙ ap (λ (n : ℕ). whole n ds) (sym h.1)
@@ -85,12 +85,12 @@ module _ (number d : ℕ) (ds : List ℕ) where
   whole-fault Empty fits h = absurd h
   whole-fault InvalidDigit fits h =
       ap (λ (front : List ℕ). judged (fold with_digit number front) (length front)
-          (suc (length ds))) (front-no d ds h)
+      (suc (length ds))) (front-no d ds h)
       ∙ judged-short number 0 (suc (length ds)) fits (omega arith)
   whole-fault TooLarge fits h =
       whole-digit h.0
       ∙ judged-large (fold with_digit (with_digit number d) (take_while is_digit ds))
-          (length (take_while is_digit ds)) (length ds)
+      (length (take_while is_digit ds)) (length ds)
       (omega (arith, h.1, grows (with_digit number d) (take_while is_digit ds)))
 
 pub suc-eq-zero : (n : ℕ) → (suc n == 0) ≡ false

@@ -13,13 +13,13 @@ use Rattle.libmount.specs.Parts.{is_mark, parts, EndsPart}
 module _ (mark : ℕ) (text : List ℕ) where
   pub first-some : (at : ℕ) → position (is_mark mark) text ≡ Some at
       → parts mark (Some text) ≡ take at text
-          ∷ parts mark (Some (take (length text - (at + 1)) (drop (at + 1) text)))
+      ∷ parts mark (Some (take (length text - (at + 1)) (drop (at + 1) text)))
   first-some at h =
       slice_split_first (is_mark mark) text 0 (found-some (is_mark mark) text at h).0
       ∙ ap (λ (part : List ℕ). part ∷ slice_split (is_mark mark) (after_first (is_mark mark) text))
-          (sym (before-some (is_mark mark) text at h))
+      (sym (before-some (is_mark mark) text at h))
       ∙ ap (λ (rest : List ℕ). take at text ∷ slice_split (is_mark mark) rest)
-          (sym (after-some (is_mark mark) text at h))
+      (sym (after-some (is_mark mark) text at h))
 
   pub first-none : position (is_mark mark) text ≡ None → parts mark (Some text) ≡ text ∷ []
   first-none h = split-none (is_mark mark) text (past-none (is_mark mark) text h)
@@ -40,7 +40,7 @@ split-append : (p : ℕ → Bool) (xs : List ℕ) (y : ℕ) (ys : List ℕ) → 
 split-append p [] y ys h = rw h refl
 split-append p (x ∷ xs) y ys h =
     append-step (p x) x (slice_split p xs) (slice_split p ys) (slice_split p (xs ++ y ∷ ys))
-        (omega (arith, length-slice_split p xs)) (split-append p xs y ys h)
+    (omega (arith, length-slice_split p xs)) (split-append p xs y ys h)
 
 one-step : (b : Bool) (x : ℕ) (xs : List ℕ) (all : List (List ℕ)) → b ≡ false → all ≡ xs ∷ []
     → cond b ([] ∷ all) (onto_first x all) ≡ (x ∷ xs) ∷ []
@@ -60,8 +60,11 @@ module _ (mark : ℕ) (text : List ℕ) where
   isnt-mark byte h = grind (arith, nat_tests)
 
   pub IsLast-end : IsLast mark text (length text)
-  IsLast-end = record { within = omega arith; one =
-      rw (drop_all (length text) text (omega arith)) refl }
+  IsLast-end = record {
+    within = omega arith;
+    one =
+        rw (drop_all (length text) text (omega arith)) refl;
+  }
 
   pub IsLast-none : (at : ℕ) → at ≡ 0 → IsLast mark text at → EndsPart mark text None
   IsLast-none at e h = subst (λ (n : ℕ). slice_split (is_mark mark) (drop n text) ≡ drop n text
@@ -75,7 +78,7 @@ module _ (mark : ℕ) (text : List ℕ) where
     here : drop now text ≡ byte ∷ drop at text
     here =
         drop_more text now 0 (omega (arith, back, h.within))
-            ∙ ap (λ (b : ℕ). b ∷ drop (now + 1) text) (sym read)
+        ∙ ap (λ (b : ℕ). b ∷ drop (now + 1) text) (sym read)
         ∙ ap (λ (n : ℕ). byte ∷ drop n text) at-now
 
     pub IsLast-more : (byte ≡ mark → ⊥) → IsLast mark text now
@@ -94,5 +97,5 @@ module _ (mark : ℕ) (text : List ℕ) where
           ∙ ap (λ (l : List ℕ). take now text ++ l) here)
           ∙ split-append (is_mark mark) (take now text) byte (drop at text) (is-mark byte same)
           ∙ ap (λ (l : List (List ℕ)). slice_split (is_mark mark) (take now text) ++ l)
-              (h.one ∙ ap (λ (n : ℕ). drop n text ∷ []) (sym at-now)),
+          (h.one ∙ ap (λ (n : ℕ). drop n text ∷ []) (sym at-now)),
     )

@@ -66,7 +66,7 @@ number_told-alike : (x y : Placed × Placed) → SameField x y
     → Alike SameNumber (number_told x) (number_told y)
 number_told-alike x y h =
     subst (λ (t : List ℕ). Alike SameNumber (number_told x)
-        (number_then (or_bad_number t (number_of t)) y.1)) h.0
+    (number_then (or_bad_number t (number_of t)) y.1)) h.0
     (by_read (or_bad_number x.0.1 (number_of x.0.1)) x.1 y.1 h.1)
 
 number-alike : (p q : Placed) → p.1 ≡ q.1 → Alike SameNumber (number_at p) (number_at q)
@@ -81,7 +81,7 @@ number_inside-alike : (x y : Placed × Placed) → SameField x y
     → Alike SameNumber (number_inside x) (number_inside y)
 number_inside-alike x y h =
     both SameNumber SameNumber (number_at x.0) (number_at y.0) (λ number. Ok (number.0, x.1))
-        (λ number. Ok (number.0, y.1)) (number-alike x.0 y.0 h.0) (λ m n k. h.1)
+    (λ number. Ok (number.0, y.1)) (number-alike x.0 y.0 h.0) (λ m n k. h.1)
 
 number_field-alike : (mark : List ℕ) (p q : Placed) → p.1 ≡ q.1
     → Alike SameNumber (number_field mark p) (number_field mark q)
@@ -103,7 +103,7 @@ text-alike : (p q : Placed) → p.1 ≡ q.1 → Alike SameText (text_at p) (text
 unfolding text_at
 text-alike p q h =
     both SameField SameText (field_at space p) (field_at space q)
-        (λ field. Ok (text_of field.0, field.1)) (λ field. Ok (text_of field.0, field.1))
+    (λ field. Ok (text_of field.0, field.1)) (λ field. Ok (text_of field.0, field.1))
     (field-alike space p q h) (λ x y k. (text_of-alike x.0 y.0 k.0, k.1))
 
 abbrev trimmed : Placed → Placed
@@ -113,10 +113,13 @@ optional-alike : (p q : Placed) → p.1 ≡ q.1 → Alike SameText (optional_at 
 unfolding optional_at
 optional-alike p q h =
     both SameField SameText (field_at dash p) (field_at dash q)
-        (λ field. Ok (text_of (trimmed field.0), field.1))
-        (λ field. Ok (text_of (trimmed field.0), field.1))
-    (field-alike dash p q h) (λ x y k. (text_of-alike (trimmed x.0) (trimmed y.0)
-        (ap without_trailing_spaces k.0), k.1))
+    (λ field. Ok (text_of (trimmed field.0), field.1))
+    (λ field. Ok (text_of (trimmed field.0), field.1))
+    (field-alike dash p q h) (λ x y k. (
+      text_of-alike (trimmed x.0) (trimmed y.0)
+          (ap without_trailing_spaces k.0),
+      k.1,
+    ))
 
 -- ---- a row
 
@@ -181,36 +184,36 @@ module _ (i i' p p' a a' m m' : Numbered) (r r' : Texted) where
       → Alike SameRow (after_options i p a m r w o) (after_options i' p' a' m' r' w' o')
   texts-alike w w' o o' hw ho =
       both SameText SameRow (optional_at o.1) (optional_at o'.1) (after_optional i p a m r w o)
-          (after_optional i' p' a' m' r' w' o') (optional-alike o.1 o'.1 ho.1) (λ x x' hx.
+      (after_optional i' p' a' m' r' w' o') (optional-alike o.1 o'.1 ho.1) (λ x x' hx.
       both SameText SameRow (text_at x.1) (text_at x'.1) (after_type i p a m r w o x)
-          (after_type i' p' a' m' r' w' o' x') (text-alike x.1 x'.1 hx.1) (λ t t' ht.
+      (after_type i' p' a' m' r' w' o' x') (text-alike x.1 x'.1 hx.1) (λ t t' ht.
       both SameText SameRow (text_at t.1) (text_at t'.1) (after_source i p a m r w o x t)
-          (after_source i' p' a' m' r' w' o' x' t') (text-alike t.1 t'.1 ht.1) (λ s s' hs.
+      (after_source i' p' a' m' r' w' o' x' t') (text-alike t.1 t'.1 ht.1) (λ s s' hs.
       both SameText SameRow (text_at s.1) (text_at s'.1) (row_end i p a m r w o x t s)
-          (row_end i' p' a' m' r' w' o' x' t' s') (text-alike s.1 s'.1 hs.1)
-          (λ u u' hu. (hw.0, ho.0)))))
+      (row_end i' p' a' m' r' w' o' x' t' s') (text-alike s.1 s'.1 hs.1)
+      (λ u u' hu. (hw.0, ho.0)))))
 
   root-alike : r.1.1 ≡ r'.1.1 → Alike SameRow (after_root i p a m r) (after_root i' p' a' m' r')
   root-alike h =
       both SameText SameRow (text_at r.1) (text_at r'.1) (after_point i p a m r)
-          (after_point i' p' a' m' r') (text-alike r.1 r'.1 h) (λ w w' hw.
+      (after_point i' p' a' m' r') (text-alike r.1 r'.1 h) (λ w w' hw.
       both SameText SameRow (text_at w.1) (text_at w'.1) (after_options i p a m r w)
-          (after_options i' p' a' m' r' w') (text-alike w.1 w'.1 hw.1) (λ o o' ho.
+      (after_options i' p' a' m' r' w') (text-alike w.1 w'.1 hw.1) (λ o o' ho.
       texts-alike w w' o o' hw ho))
 
 fields-alike : (x y : Placed) → x.1 ≡ y.1 → Alike SameRow (fields_of x) (fields_of y)
 unfolding fields_of
 fields-alike x y h =
     both SameNumber SameRow (number_at x) (number_at y) after_id after_id (number-alike x y h)
-        (λ i i' hi.
+    (λ i i' hi.
     both SameNumber SameRow (number_at i.1) (number_at i'.1) (after_parent i) (after_parent i')
-        (number-alike i.1 i'.1 hi) (λ p p' hp.
+    (number-alike i.1 i'.1 hi) (λ p p' hp.
     both SameNumber SameRow (number_field colon p.1) (number_field colon p'.1) (after_major i p)
-        (after_major i' p') (number_field-alike colon p.1 p'.1 hp) (λ a a' ha.
+    (after_major i' p') (number_field-alike colon p.1 p'.1 hp) (λ a a' ha.
     both SameNumber SameRow (number_field space a.1) (number_field space a'.1) (after_minor i p a)
-        (after_minor i' p' a') (number_field-alike space a.1 a'.1 ha) (λ m m' hm.
+    (after_minor i' p' a') (number_field-alike space a.1 a'.1 ha) (λ m m' hm.
     both SameText SameRow (text_at m.1) (text_at m'.1) (after_root i p a m) (after_root i' p' a' m')
-        (text-alike m.1 m'.1 hm) (λ r r' hr.
+    (text-alike m.1 m'.1 hm) (λ r r' hr.
     root-alike i i' p p' a a' m m' r r' hr.1)))))
 
 -- ---- a line
@@ -230,7 +233,7 @@ module _ (path : List ℕ) where
 
   by_skip : (skip : Bool) (r s : Result Row Message) → Alike SameRow r s
       → verdict_by path (cond skip (Ok None) (r >>= λ fields. Ok (Some fields))) ≡ verdict_by path
-          (cond skip (Ok None) (s >>= λ fields. Ok (Some fields)))
+      (cond skip (Ok None) (s >>= λ fields. Ok (Some fields)))
   by_skip true r s h = refl
   by_skip false r s h = by_rows r s h
 
@@ -240,4 +243,4 @@ module _ (path : List ℕ) where
   verdict-anywhere a b line =
       let bytes = strip_carriage_return line in
       by_skip (is_skipped bytes) (fields_of (a, bytes)) (fields_of (b, bytes))
-          (fields-alike (a, bytes) (b, bytes) refl)
+      (fields-alike (a, bytes) (b, bytes) refl)

@@ -33,8 +33,14 @@ module _ (a b c : Bor (List ℕ)) where
   }
 
 pub LiesIn-refl : (a : Bor (List ℕ)) → LiesIn a a
-LiesIn-refl a = record { start = 0; block = refl; address = omega arith; within =
-    omega arith; bytes = sym (take_all (length a.now) a.now (omega arith)) }
+LiesIn-refl a = record {
+  start = 0;
+  block = refl;
+  address = omega arith;
+  within =
+      omega arith;
+  bytes = sym (take_all (length a.now) a.now (omega arith));
+}
 
 module _ (a b : Bor (List ℕ)) (h : LiesIn a b) where
   pub FieldLiesIn-trans : (field : Field) → FieldLiesIn b field → FieldLiesIn a field

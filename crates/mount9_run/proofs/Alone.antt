@@ -14,7 +14,7 @@ pub header_alone-text : (bytes text rest : List ℕ) → bytes ≡ text ++ rest
 unfolding header_alone header
 header_alone-text bytes text rest e found =
     ap (λ s. without_rest (header_by s)) (ap text_of e ∙ found rest)
-        ∙ rest_away rest (header_of (lines_of text))
+    ∙ rest_away rest (header_of (lines_of text))
 
 pub header_alone-none : (bytes : List ℕ) → text_of bytes ≡ None → header_alone bytes ≡ Err 0
 unfolding header_alone header

@@ -23,8 +23,14 @@ unfolding command with_words with_word split_once is_path
 command_example = refl
 
 pub numbers_example : command (codes "serve" ∷ codes "ids=0" ∷ codes "root=/" ∷ codes "msize=4352"
-    ∷ codes "target=/" ∷ []) ≡ Some (record { target = codes "/"; root = codes "/"; msize =
-    4352; turns = 4096; ids = 0 })
+    ∷ codes "target=/" ∷ []) ≡ Some (record {
+      target = codes "/";
+      root = codes "/";
+      msize =
+          4352;
+      turns = 4096;
+      ids = 0;
+    })
 unfolding command with_words with_word split_once is_path number_of
 numbers_example = refl
 
@@ -53,8 +59,19 @@ stamp_example = refl
 
 pub directory_example : (kind : Kind) (born : Stamp)
     → stamp_text born ≡ codes "1600000000.000000005"
-    → directory_line (record { ino = 1; kind = kind; mode = 493; uid = 0; gid = 0; links = 2; size =
-        0; atime = born; mtime = born; ctime = born }) 1 2
+    → directory_line (record {
+      ino = 1;
+      kind = kind;
+      mode = 493;
+      uid = 0;
+      gid = 0;
+      links = 2;
+      size =
+          0;
+      atime = born;
+      mtime = born;
+      ctime = born;
+    }) 1 2
     ≡ codes "dir 1 0755 0 0 2 1600000000.000000005 1600000000.000000005 1600000000.000000005 1 2\n"
 unfolding directory_line mode_text digits
 directory_example kind born h = rw h refl

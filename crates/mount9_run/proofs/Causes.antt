@@ -88,7 +88,7 @@ module _ (words : List (List ℕ)) (bytes : List ℕ) where
         → mount_refused a.serve.target a.described ≡ o → (r : Result ℕ ℕ)
         → root_given a.serve (linked t) ≡ r
         → (run_of a.serve a.described a.rest).0 ≡ cond b Stopped
-            (by_mount o (by_root r (status_of taken.end)))
+        (by_mount o (by_root r (status_of taken.end)))
     run_by true short o mount r root = ap (λ x. (mounted a.serve t a.rest x).0)
         (refusal_is true short o mount)
     run_by false short (Some e) mount r root =
@@ -125,18 +125,33 @@ module _ (words : List (List ℕ)) (bytes : List ℕ) where
     ended_cause : LEAST_MSIZE ≤ a.serve.msize → mount_refused a.serve.target a.described ≡ None
         → (i : ℕ) → (1 ≤ a.serve.ids) × (at_root ≡ Ok i) → (e : End) → taken.end ≡ e
         → Caused (status_of e)
-    ended_cause long is i root done at = record
-        { accepted = a; long = long; let_in = is; some = root.0; root = i; found = root.1; whole =
-        at }
+    ended_cause long is i root done at = record {
+      accepted = a;
+      long = long;
+      let_in = is;
+      some = root.0;
+      root = i;
+      found = root.1;
+      whole =
+          at;
+    }
     ended_cause long is i root turns_spent at =
-        record { accepted = a; cause = inr (inr
-        (inr (inr (λ over. let clash : turns_spent ≡ done = sym at ∙ over in cc)))) }
-    ended_cause long is i root torn at = record
-        { accepted = a; cause = inr (inr (inr
-        (inr (λ over. let clash : torn ≡ done = sym at ∙ over in cc)))) }
+        record {
+          accepted = a;
+          cause = inr (inr
+              (inr (inr (λ over. let clash : turns_spent ≡ done = sym at ∙ over in cc))));
+        }
+    ended_cause long is i root torn at = record {
+      accepted = a;
+      cause = inr (inr (inr
+          (inr (λ over. let clash : torn ≡ done = sym at ∙ over in cc))));
+    }
     ended_cause long is i root bad_length at =
-        record { accepted = a; cause = inr (inr
-        (inr (inr (λ over. let clash : bad_length ≡ done = sym at ∙ over in cc)))) }
+        record {
+          accepted = a;
+          cause = inr (inr
+              (inr (inr (λ over. let clash : bad_length ≡ done = sym at ∙ over in cc))));
+        }
 
     root_cause : (a.serve.ids ≡ 0) ⊎ ((errno : ℕ) × (at_root ≡ Err errno)) → Caused Stopped
     root_cause why = ⊎_elim (λ none. record { accepted = a; cause = inr (inr (inl none)) })
@@ -149,8 +164,11 @@ module _ (words : List (List ℕ)) (bytes : List ℕ) where
     run_cause true short o mount r root = record
         { accepted = a; cause = inl (below a.serve.msize short) }
     run_cause false short (Some e) mount r root =
-        record { accepted = a; cause = inr (inl
-        (λ none. let clash : Some e ≡ None = sym mount ∙ none in cc)) }
+        record {
+          accepted = a;
+          cause = inr (inl
+              (λ none. let clash : Some e ≡ None = sym mount ∙ none in cc));
+        }
     run_cause false short None mount (Err e) root =
         root_cause (no_root (nat_le a.serve.ids 0) refl e root)
     run_cause false short None mount (Ok i) root =
@@ -160,9 +178,9 @@ module _ (words : List (List ℕ)) (bytes : List ℕ) where
     accepted_cause : Caused (run_of a.serve a.described a.rest).0
     accepted_cause =
         subst Caused (sym (run_by (nat_lt a.serve.msize LEAST_MSIZE) refl
-            (mount_refused a.serve.target a.described) refl (root_given a.serve (linked t)) refl))
+        (mount_refused a.serve.target a.described) refl (root_given a.serve (linked t)) refl))
         (run_cause (nat_lt a.serve.msize LEAST_MSIZE) refl
-            (mount_refused a.serve.target a.described) refl (root_given a.serve (linked t)) refl)
+        (mount_refused a.serve.target a.described) refl (root_given a.serve (linked t)) refl)
 
   cause_by : (o : Option Serve) → command words ≡ o → (r : Result (HeaderRead × List ℕ) ℕ)
       → header bytes ≡ r → Caused (outcome_by o r).0
@@ -187,7 +205,7 @@ module _ (words : List (List ℕ)) (bytes : List ℕ) where
   told_served v =
       accepted_answer v.accepted
       ∙ run_by v.accepted false (at_least v.accepted.serve.msize v.long) None v.let_in (Ok v.root)
-          (given_root v.accepted v.some ∙ v.found)
+      (given_root v.accepted v.some ∙ v.found)
       ∙ ap status_of v.whole
 
   not_done : (e : End) → e ≢ done → status_of e ≡ Stopped
@@ -200,36 +218,35 @@ module _ (words : List (List ℕ)) (bytes : List ℕ) where
   told_stopped v =
       accepted_answer v.accepted
       ∙ run_by v.accepted (nat_lt v.accepted.serve.msize LEAST_MSIZE) refl
-          (mount_refused v.accepted.serve.target v.accepted.described) refl
-          (root_given v.accepted.serve (linked v.accepted.described.tree)) refl
+      (mount_refused v.accepted.serve.target v.accepted.described) refl
+      (root_given v.accepted.serve (linked v.accepted.described.tree)) refl
       ∙ stops (nat_lt v.accepted.serve.msize LEAST_MSIZE) refl
-          (mount_refused v.accepted.serve.target v.accepted.described) refl
-          (root_given v.accepted.serve (linked v.accepted.described.tree)) refl
-    where
-      rooted : (i : ℕ) → root_given v.accepted.serve (linked v.accepted.described.tree) ≡ Ok i
-          → (1 ≤ v.accepted.serve.ids) × (root_of (linked v.accepted.described.tree)
-          (path_names v.accepted.serve.root) ≡ Ok i)
-      rooted i root = some_root v.accepted (nat_le v.accepted.serve.ids 0) refl i root
+      (mount_refused v.accepted.serve.target v.accepted.described) refl
+      (root_given v.accepted.serve (linked v.accepted.described.tree)) refl where
+        rooted : (i : ℕ) → root_given v.accepted.serve (linked v.accepted.described.tree) ≡ Ok i
+            → (1 ≤ v.accepted.serve.ids) × (root_of (linked v.accepted.described.tree)
+            (path_names v.accepted.serve.root) ≡ Ok i)
+        rooted i root = some_root v.accepted (nat_le v.accepted.serve.ids 0) refl i root
 
-      stops : (b : Bool) → nat_lt v.accepted.serve.msize LEAST_MSIZE ≡ b → (o : Option ℕ)
-          → mount_refused v.accepted.serve.target v.accepted.described ≡ o
-          → (r : Result ℕ ℕ) → root_given v.accepted.serve (linked v.accepted.described.tree) ≡ r
-          → cond b Stopped (by_mount o (by_root r
-              (status_of (cut v.accepted.serve.turns v.accepted.rest).end))) ≡ Stopped
-      stops true short o mount r root = refl
-      stops false short (Some e) mount r root = refl
-      stops false short None mount (Err e) root = refl
-      stops false short None mount (Ok i) root = ⊎_elim
-          (λ lt. absurd (let least = not_below v.accepted.serve.msize short in omega
-              (arith, lt, least)))
-          (λ others. ⊎_elim (λ some. absurd (some mount))
-          (λ more. ⊎_elim (λ zero. absurd (let some =
-              (rooted i root).0 in omega (arith, zero, some)))
-          (λ last. ⊎_elim (λ away. absurd (let clash : ◌≡◌ {A = Result ℕ ℕ} (Err away.0) (Ok i) =
-              sym away.1 ∙ (rooted i root).1 in cc))
-          (λ other. not_done (cut v.accepted.serve.turns v.accepted.rest).end other) last) more)
-              others)
-          v.cause
+        stops : (b : Bool) → nat_lt v.accepted.serve.msize LEAST_MSIZE ≡ b → (o : Option ℕ)
+            → mount_refused v.accepted.serve.target v.accepted.described ≡ o
+            → (r : Result ℕ ℕ) → root_given v.accepted.serve (linked v.accepted.described.tree) ≡ r
+            → cond b Stopped (by_mount o (by_root r
+            (status_of (cut v.accepted.serve.turns v.accepted.rest).end))) ≡ Stopped
+        stops true short o mount r root = refl
+        stops false short (Some e) mount r root = refl
+        stops false short None mount (Err e) root = refl
+        stops false short None mount (Ok i) root = ⊎_elim
+            (λ lt. absurd (let least = not_below v.accepted.serve.msize short in omega
+            (arith, lt, least)))
+            (λ others. ⊎_elim (λ some. absurd (some mount))
+            (λ more. ⊎_elim (λ zero. absurd (let some =
+            (rooted i root).0 in omega (arith, zero, some)))
+            (λ last. ⊎_elim (λ away. absurd (let clash : ◌≡◌ {A = Result ℕ ℕ} (Err away.0) (Ok i) =
+            sym away.1 ∙ (rooted i root).1 in cc))
+            (λ other. not_done (cut v.accepted.serve.turns v.accepted.rest).end other) last) more)
+            others)
+            v.cause
 
   -- what valid input writes: the play of its frames
   pub served_outcome : (v : IsValidInput words bytes)
@@ -240,9 +257,9 @@ module _ (words : List (List ℕ)) (bytes : List ℕ) where
       ap (λ o. outcome_by o (header bytes)) a.commanded
       ∙ ap (λ r. outcome_by (Some a.serve) r) a.headed
       ∙ ap (mounted a.serve a.described.tree a.rest)
-          (refusal_is a false (at_least a.serve.msize v.long) None v.let_in)
+      (refusal_is a false (at_least a.serve.msize v.long) None v.let_in)
       ∙ ap (λ r. attached a.serve (linked a.described.tree) r (cut a.serve.turns a.rest))
-          (given_root a v.some ∙ v.found)
+      (given_root a v.some ∙ v.found)
 
   pub served_exactly : (answer ≡ Served) ↔ IsValidInput words bytes
   served_exactly = (caused Served, told_served)

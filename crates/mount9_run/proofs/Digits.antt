@@ -98,29 +98,29 @@ number-decimal text n lt h =
     let e = number_of-some (is_number text) (digits_value 10 text) n h in
     let rest = and-second (nat_lt 0 (length text)) _ e.0 in
     let first : get_or text 0 0 ≡ 48 → length text ≡ 1 =
-        λ zero. eqb-true (length text) 1 (alone (length text == 1) (slice_index text 0 == 48)
-        (and-second (list_all is_ascii_digit text) _ rest) (eq-eqb (slice_index text 0) 48 zero)) in
+    λ zero. eqb-true (length text) 1 (alone (length text == 1) (slice_index text 0 == 48)
+    (and-second (list_all is_ascii_digit text) _ rest) (eq-eqb (slice_index text 0) 48 zero)) in
     let lt' : digits_value 10 text < 2 ^ 64 = subst (λ m. m < 2 ^ 64) (sym e.1) lt in
     sym (decimal-digits_value digits_model text (numbers-are_digits text e.0)
-        (ltb-true _ _ (and-first _ _ e.0)) first lt') ∙ ap decimal e.1
+    (ltb-true _ _ (and-first _ _ e.0)) first lt') ∙ ap decimal e.1
 
 first_of : (n : ℕ) → n < 2 ^ 64 → ((length (decimal n) == 1) || not
     (slice_index (decimal n) 0 == 48)) ≡ true
 first_of zero lt = or-first _ _ (ap (λ (t : List ℕ). length t == 1) (decimal_digit 0 (lit< tt)))
 first_of (suc n) lt =
     let large : 48 < get_or (decimal (suc n)) 0 0 = first_decimal (suc n) (omega arith) lt in
-    or-second (length (decimal (suc n)) == 1) _ (not_eq (slice_index (decimal (suc n)) 0) large)
-  where
-    not_eq : (m : ℕ) → 48 < m → not (m == 48) ≡ true
-    not_eq m h = grind (arith, nat_tests)
+    or-second (length (decimal (suc n)) == 1) _
+    (not_eq (slice_index (decimal (suc n)) 0) large) where
+      not_eq : (m : ℕ) → 48 < m → not (m == 48) ≡ true
+      not_eq m h = grind (arith, nat_tests)
 
 decimal-number : (n : ℕ) → n < 2 ^ 64 → number_of (decimal n) ≡ Some n
 decimal-number n lt =
     let number : is_number (decimal n) ≡ true =
     and-both (nat_lt 0 (length (decimal n))) _
-        (lt-ltb 0 (length (decimal n)) (decimal_nonempty n lt))
+    (lt-ltb 0 (length (decimal n)) (decimal_nonempty n lt))
     (and-both (list_all is_ascii_digit (decimal n)) _ (digits_decimal digits_model n lt)
-        (first_of n lt)) in
+    (first_of n lt)) in
     number_of-value (decimal n) number ∙ ap Some (digits_value-decimal digits_model n lt)
 
 pub number_of_decimal : (text : List ℕ) (n : ℕ) → n < 2 ^ 64

@@ -39,24 +39,24 @@ pub served_ending : (r : Result Pumped StoppedRun) (e : Ending) → ending_of r 
 served_ending (Ok r) e is served = refl
 served_ending (Err r) e is served = absurd (stopped_apart r.handled r.nine_frames r.cause e is
     served) where
-  by_status : (x e : Ending) → ◌≡◌ {A = Result Ending Status} (Ok x) (Ok e) → x.status ≡ Stopped
-      → e.status ≡ Served → ⊥
-  by_status x e is stopped served =
-      let same : x ≡ e = cc in
-      let clash : Stopped ≡ Served = sym stopped ∙ ap (λ (y : Ending). y.status) same ∙ served in cc
+      by_status : (x e : Ending) → ◌≡◌ {A = Result Ending Status} (Ok x) (Ok e) → x.status ≡ Stopped
+          → e.status ≡ Served → ⊥
+      by_status x e is stopped served =
+          let same : x ≡ e = cc in
+          let clash : Stopped ≡ Served = sym stopped ∙ ap (λ (y : Ending). y.status) same ∙ served in cc
 
-  stopped_apart : (handled nine : ℕ) (cause : BridgeError) (e : Ending)
-      → stopped_by handled nine cause ≡ Ok e → e.status ≡ Served → ⊥
-  stopped_apart handled nine error.Torn e is served = by_status _ e is refl served
-  stopped_apart handled nine error.BadLength e is served = by_status _ e is refl served
-  stopped_apart handled nine error.TurnsSpent e is served = by_status _ e is refl served
-  stopped_apart handled nine error.MsizeTooSmall e is served = by_status _ e is refl served
-  stopped_apart handled nine (error.Mount errno) e is served = by_status _ e is refl served
-  stopped_apart handled nine (error.Attach errno) e is served = by_status _ e is refl served
-  stopped_apart handled nine error.NoMemory e is served = absurd cc
-  stopped_apart handled nine error.Read e is served = absurd cc
-  stopped_apart handled nine error.Write e is served = absurd cc
-  stopped_apart handled nine error.Unmount e is served = absurd cc
+      stopped_apart : (handled nine : ℕ) (cause : BridgeError) (e : Ending)
+          → stopped_by handled nine cause ≡ Ok e → e.status ≡ Served → ⊥
+      stopped_apart handled nine error.Torn e is served = by_status _ e is refl served
+      stopped_apart handled nine error.BadLength e is served = by_status _ e is refl served
+      stopped_apart handled nine error.TurnsSpent e is served = by_status _ e is refl served
+      stopped_apart handled nine error.MsizeTooSmall e is served = by_status _ e is refl served
+      stopped_apart handled nine (error.Mount errno) e is served = by_status _ e is refl served
+      stopped_apart handled nine (error.Attach errno) e is served = by_status _ e is refl served
+      stopped_apart handled nine error.NoMemory e is served = absurd cc
+      stopped_apart handled nine error.Read e is served = absurd cc
+      stopped_apart handled nine error.Write e is served = absurd cc
+      stopped_apart handled nine error.Unmount e is served = absurd cc
 
 -- a share that isn't reported wasn't served
 pub unserved : (r : Result Pumped StoppedRun) (s : Status) → ending_of r ≡ Err s → s ≢ Served

@@ -67,20 +67,20 @@ module _ (words : List (List ℕ)) (bytes : List ℕ) (v : IsValidInput words by
 
   text : (outcome words bytes).1 ≡ report (play (share_settings a.serve) t base c.frames).0
       (verdict_of done (length c.frames) (min
-          (total (piece a.serve) (share_settings a.serve) t base c.frames) (2 ^ 64 - 1)))
+      (total (piece a.serve) (share_settings a.serve) t base c.frames) (2 ^ 64 - 1)))
       (play (share_settings a.serve) t base c.frames).1 mount_table
   unfolding a t c base
   text =
       ap (λ (o : Outcome). o.1) (served_outcome words bytes v)
       ∙ (λ j. report (play (share_settings a.serve) (w.whole j) base c.frames).0
       (verdict_of (v.whole j) (length c.frames)
-          (min (total (piece a.serve) (share_settings a.serve) (w.whole j) base c.frames)
-          (2 ^ 64 - 1)))
+      (min (total (piece a.serve) (share_settings a.serve) (w.whole j) base c.frames)
+      (2 ^ 64 - 1)))
       (linked (play (share_settings a.serve) (w.whole j) base c.frames).1) mount_table)
       ∙ ap (λ (x : Tree). report (play (share_settings a.serve) t base c.frames).0
       (verdict_of done (length c.frames) (min
-          (total (piece a.serve) (share_settings a.serve) t base c.frames) (2 ^ 64 - 1))) x
-          mount_table) final
+      (total (piece a.serve) (share_settings a.serve) t base c.frames) (2 ^ 64 - 1))) x
+      mount_table) final
 
   play_report : IsPlayReport words bytes (outcome words bytes).1
   unfolding a t c base
@@ -103,14 +103,17 @@ module _ (words : List (List ℕ)) (bytes : List ℕ) (v : IsValidInput words by
 pub Ran-played : (words : List (List ℕ)) (left s0 s1 : Option (List ℕ)) (in0 in1 out0 out1 : ℕ)
     (s : Status) → s ≡ Served → Headed left
     → Ran (outcome words) left s0 s1 in0 in1 out0 out1 s
-        → IfSome left (λ bytes. SendsPlayReport words bytes s0 s1)
+    → IfSome left (λ bytes. SendsPlayReport words bytes s0 s1)
 Ran-played words None s0 s1 in0 in1 out0 out1 s is headed ran = tt
 Ran-played words (Some bytes) s0 s1 in0 in1 out0 out1 s is headed ran =
     let by : RanBy (outcome words) (Some bytes) s0 s1 in0 in1 out0 out1 Served =
-        subst (RanBy (outcome words) (Some bytes) s0 s1 in0 in1 out0 out1) is ran.answer in
-    let v : IsValidInput words bytes = (served_exactly words bytes).0 by.2.0 in
-    ((outcome words bytes).1, by.2.1, play_report words bytes v
-        (headed v.accepted.described v.accepted.rest v.accepted.headed))
+    subst (RanBy (outcome words) (Some bytes) s0 s1 in0 in1 out0 out1) is ran.answer in
+    let v : IsValidInput words bytes = (served_exactly words bytes).0 by.2.0 in (
+      (outcome words bytes).1,
+      by.2.1,
+      play_report words bytes v
+          (headed v.accepted.described v.accepted.rest v.accepted.headed),
+    )
 
 -- ---- valid input without a fault is served, or there is no memory
 
@@ -118,9 +121,9 @@ pub Ran-valid : (words : List (List ℕ)) (left s0 s1 : Option (List ℕ)) (in0 
     (s : Status) → code ≡ exit_code s
     → Ran (outcome words) left s0 s1 in0 in1 out0 out1 s
     → IfSome left (λ bytes. IsValidInput words bytes → (Faulted in0 in1 → ⊥)
-        → (Faulted out0 out1 → ⊥) → (code ≡ 0) ⊎ (code ≡ 4))
+    → (Faulted out0 out1 → ⊥) → (code ≡ 0) ⊎ (code ≡ 4))
 Ran-valid words None s0 s1 in0 in1 out0 out1 code s is ran = tt
 Ran-valid words (Some bytes) s0 s1 in0 in1 out0 out1 code s is ran = λ v quiet_in quiet_out.
     ⊎_elim (λ e. inl (is ∙ ap exit_code (e ∙ (served_exactly words bytes).1 v)))
-        (λ e. inr (is ∙ ap exit_code e))
+    (λ e. inr (is ∙ ap exit_code e))
     (answers_alike words bytes s0 s1 in0 in1 out0 out1 quiet_in quiet_out s ran)

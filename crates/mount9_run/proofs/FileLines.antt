@@ -19,7 +19,7 @@ unfolding file_line file_head
 file_line-head a bytes =
     let front = fold with_field (codes "file") (attr_fields a) in
     append_assoc front (32 ∷ hex_or_dash bytes) (10 ∷ [])
-        ∙ sym (append_assoc front (32 ∷ []) (hex_or_dash bytes ++ 10 ∷ []))
+    ∙ sym (append_assoc front (32 ∷ []) (hex_or_dash bytes ++ 10 ∷ []))
 
 -- ---- hex in pieces
 
@@ -52,11 +52,11 @@ module _ (bytes piece : List ℕ) (k : ℕ) (is : piece ≡ part bytes k 4096) w
   encode-step n e =
       ap encode_lower (sym (take-append-drop (length piece) (drop k bytes)))
       ∙ encode_with-append _ (take (length piece) (drop k bytes))
-          (drop (length piece) (drop k bytes))
+      (drop (length piece) (drop k bytes))
       ∙ ap (λ p. encode_lower p ++ encode_lower (drop (length piece) (drop k bytes)))
-          (sym piece_front)
+      (sym piece_front)
       ∙ ap (λ r. encode_lower piece ++ encode_lower r)
-          (sym (drop_more k (length piece) bytes) ∙ ap (λ m. drop (k + m) bytes) (sym e))
+      (sym (drop_more k (length piece) bytes) ∙ ap (λ m. drop (k + m) bytes) (sym e))
 
   pub encode-end : length piece ≡ 0 → encode_lower (drop k bytes) ≡ []
   encode-end none =

@@ -54,12 +54,18 @@ abbrev whole : Unit {0} → Result (List ℕ) ℕ
 whole ok = Ok (codes "/a b")
 
 abbrev lined : List ℕ → Result RecordLine ℕ
-lined path = Ok (record { item = file (record { mode = 420; uid = 0; gid = 0; bytes = [] }); path =
-    path })
+lined path = Ok (record {
+  item = file (record { mode = 420; uid = 0; gid = 0; bytes = [] });
+  path =
+      path;
+})
 
 pub file_example : file_at 7 (codes "0644 0 0 - /a\\040b") ≡ Ok
-    (record { item = file (record { mode = 420; uid = 0; gid = 0; bytes = [] }); path =
-    codes "/a b" })
+    (record {
+      item = file (record { mode = 420; uid = 0; gid = 0; bytes = [] });
+      path =
+          codes "/a b";
+    })
 unfolding file_at field_at split_once mode_field mode_of number_at number_field number_of
     bytes_field bytes_of unescaped record_path_at
 file_example = ap (λ (b : Bool). (check 7 b >>= whole) >>= lined) its_path

@@ -56,8 +56,8 @@ named_is_there : (t : Tree) → IsGoodTree t → (names : List (List ℕ)) (j : 
     → found_at t names ≡ Some j → IsSome (get t.records j)
 named_is_there t g names j is =
     walk_is_stored t g names (Ok TOP) (λ i e. subst (λ k. IsSome (get t.records k))
-        (same_number TOP i e) (by_record (get t.records TOP) g.top_is_directory)) j
-        (ok_from (walk_to t (Ok TOP) names) j is)
+    (same_number TOP i e) (by_record (get t.records TOP) g.top_is_directory)) j
+    (ok_from (walk_to t (Ok TOP) names) j is)
 
 by_form : (t : Tree) → IsGoodTree t → (b : Bool) (names : List (List ℕ)) (j : ℕ)
     → cond b (found_at t names) None ≡ Some j → IsSome (get t.records j)
@@ -149,39 +149,39 @@ joined : (path : List ℕ) → is_record_path path ≡ true
 joined path h = by_first path (and_left (is_slash (slice_index path 0)) _ rooted)
     (or_right (length path == 1) _ (and_right (is_root path) _ h)
     (and_right (is_slash (slice_index path 0)) _ rooted)) where
-  rooted : (is_slash (slice_index path 0) && ((length path == 1) || are_joined_names (drop 1 path)))
-      ≡ true
-  rooted = and_right (nat_le (length path) PATH_LIMIT) _ (and_left (is_root path) _ h)
+      rooted : (is_slash (slice_index path 0) && ((length path == 1) || are_joined_names (drop 1 path)))
+          ≡ true
+      rooted = and_right (nat_le (length path) PATH_LIMIT) _ (and_left (is_root path) _ h)
 
-  by_first : (xs : List ℕ) → is_slash (slice_index xs 0) ≡ true
-      → are_joined_names (drop 1 xs) ≡ true → list_all (λ part. is_none (name_fault part))
-      (drop 1 (slice_split is_slash xs)) ≡ true
-  by_first [] slash names = absurd (false≢true slash)
-  by_first (x ∷ xs) slash names = ap (λ (b : Bool). list_all (λ part. is_none (name_fault part))
-      (drop 1 (cond b ([] ∷ slice_split is_slash xs) (onto_first x (slice_split is_slash xs)))))
-      slash ∙ names
+      by_first : (xs : List ℕ) → is_slash (slice_index xs 0) ≡ true
+          → are_joined_names (drop 1 xs) ≡ true → list_all (λ part. is_none (name_fault part))
+          (drop 1 (slice_split is_slash xs)) ≡ true
+      by_first [] slash names = absurd (false≢true slash)
+      by_first (x ∷ xs) slash names = ap (λ (b : Bool). list_all (λ part. is_none (name_fault part))
+          (drop 1 (cond b ([] ∷ slice_split is_slash xs) (onto_first x (slice_split is_slash xs)))))
+          slash ∙ names
 
 behind_last : (path : List ℕ) (i : ℕ) → is_record_path path ≡ true → IsLast path (length path) i
     → name_fault (drop (suc i) path) ≡ None
 behind_last path i form last =
     let cut : path ≡ take i path ++ slice_index path i ∷ drop (suc i) path =
-        split_at path i 0 last.below in
+    split_at path i 0 last.below in
     let slash : is_slash (slice_index path i) ≡ true = ap (λ b. b == 47) last.is in
     let whole = subst (λ (xs : List ℕ). list_all (λ part. is_none (name_fault part))
-        (drop 1 (slice_split is_slash xs)) ≡ true) cut (joined path form) in
+    (drop 1 (slice_split is_slash xs)) ≡ true) cut (joined path form) in
     let fine = parts_behind is_slash (λ part. is_none (name_fault part)) (take i path)
-        (slice_index path i) (drop (suc i) path) slash whole in
+    (slice_index path i) (drop (suc i) path) slash whole in
     let alone : slice_split is_slash (drop (suc i) path) ≡ drop (suc i) path ∷ [] =
-        slice_split_none is_slash (drop (suc i) path) (λ k d less. no_slash k d less) in
+    slice_split_none is_slash (drop (suc i) path) (λ k d less. no_slash k d less) in
     none_of _ (and_left _ true (sym (ap (list_all (λ part. is_none (name_fault part))) alone)
-        ∙ fine)) where
+    ∙ fine)) where
       no_slash : (k d : ℕ) → k < length (drop (suc i) path)
           → is_slash (get_or (drop (suc i) path) k d) ≡ false
       no_slash k d less =
           let within : suc i + k < length path =
-              omega (arith, less, length-drop (suc i) path, last.below) in
+          omega (arith, less, length-drop (suc i) path, last.below) in
           ap is_slash (get_or-drop (suc i) path k d ∙ get_or_default path (suc i + k) d 0 within)
-              ∙ last.behind (suc i + k) (omega arith) within
+          ∙ last.behind (suc i + k) (omega arith) within
 
 -- the same of what the code takes behind the slash
 pub name_behind : (path : List ℕ) (i : ℕ) → is_record_path path ≡ true
@@ -190,8 +190,8 @@ pub name_behind : (path : List ℕ) (i : ℕ) → is_record_path path ≡ true
 name_behind path i form at =
     let one : suc i ≡ i + 1 = omega arith in
     let fine : name_fault (drop (i + 1) path) ≡ None =
-        subst (λ k. name_fault (drop k path) ≡ None) one
-        (behind_last path i form (last_of path (length path) i (sym at))) in
+    subst (λ k. name_fault (drop k path) ≡ None) one
+    (behind_last path i form (last_of path (length path) i (sym at))) in
     ap name_fault (take_rest path (i + 1)) ∙ fine
 
 -- ---- targets
@@ -202,6 +202,10 @@ target_in_range text h =
     let some = and_left (nat_le 1 (length text)) _ h in
     let more = and_right (nat_le 1 (length text)) _ h in
     let few = and_left (nat_le (length text) 4000) _ more in
-    let last = and_right (nat_le (length text) 4000) _ more in
-    (grind (arith, nat_tests), grind (arith, nat_tests), and_left (is_utf8 text) _ last, and_right
-        (is_utf8 text) _ last)
+    let last = and_right (nat_le (length text) 4000) _ more in (
+      grind (arith, nat_tests),
+      grind (arith, nat_tests),
+      and_left (is_utf8 text) _ last,
+      and_right
+          (is_utf8 text) _ last,
+    )

@@ -23,10 +23,10 @@ pub headed_by : (l0 l1 : Option (List ℕ)) (text : List ℕ) → Consumes l0 l1
     → ((rest : List ℕ) → text_of (text ++ rest) ≡ Some (text, rest))
     → (h : HeaderRead) → header_of (lines_of text) ≡ Ok h → IsWholeTree h.tree
     → IfSome l0 (λ bytes. (k : HeaderRead) (rest : List ℕ) → header bytes ≡ Ok (k, rest)
-        → IsWholeTree k.tree)
+    → IsWholeTree k.tree)
 headed_by None l1 text taken whole h read w = tt
 headed_by (Some bytes) None text taken whole h read w = absurd taken
 headed_by (Some bytes) (Some left) text taken whole h read w = λ k rest is.
     subst (λ (x : HeaderRead). IsWholeTree x.tree)
-        (same_header h k left rest (sym (at_front text whole h read left) ∙ sym (ap header taken)
-        ∙ is)) w
+    (same_header h k left rest (sym (at_front text whole h read left) ∙ sym (ap header taken)
+    ∙ is)) w

@@ -61,15 +61,15 @@ pub lines_of-some : (bytes l r : List ℕ) → split_once 10 bytes ≡ Some (l, 
 unfolding split_once lines_of
 lines_of-some bytes l r h =
     let p = by_position (nat_lt (position_or_len is_feed bytes) (length bytes))
-        (position_or_len is_feed bytes) bytes l r h in
+    (position_or_len is_feed bytes) bytes l r h in
     ap whole_parts (slice_split_first is_feed bytes 0 (ltb-true _ _ p.0))
     ∙ whole-cons (before_first is_feed bytes) (slice_split is_feed (after_first is_feed bytes))
-        (omega (arith, length-slice_split is_feed (after_first is_feed bytes)))
+    (omega (arith, length-slice_split is_feed (after_first is_feed bytes)))
     ∙ (rw (p.1, p.2) refl)
 
 pub lines_of-none : (bytes : List ℕ) → split_once 10 bytes ≡ None → lines_of bytes ≡ []
 unfolding split_once lines_of
 lines_of-none bytes h =
     let p = by_none (nat_lt (position_or_len is_feed bytes) (length bytes))
-        (position_or_len is_feed bytes) bytes h in
+    (position_or_len is_feed bytes) bytes h in
     whole-one (slice_split is_feed bytes) (split-none bytes (ltb-false _ _ p))

@@ -99,16 +99,16 @@ module _ (words : List (List ℕ)) (s : Serve) (is : command words ≡ Some s) w
           → Ran (outcome words) l0 s0 s1 in0 in1 out0 out1 answer
       Ran-line line read same tells =
           Ran-later (outcome words) (λ rest. (status.Header, number_line (codes "header") line))
-              text (λ rest. leads_to text rest (Err line) (whole rest) read) l0 l1 s0 s1 in1 in1
-              out0 out1 taken in0 same answer
+          text (λ rest. leads_to text rest (Err line) (whole rest) read) l0 l1 s0 s1 in1 in1
+          out0 out1 taken in0 same answer
           (Ran-told (λ rest. (status.Header, number_line (codes "header") line)) s0 s1 in1 in1 out0
-              out1 l1 status.Header (number_line (codes "header") line) answer tt refl
-              (always l1 (λ bytes. refl)) tells)
+          out1 l1 status.Header (number_line (codes "header") line) answer tt refl
+          (always l1 (λ bytes. refl)) tells)
 
       pub Ran-header : (h : HeaderRead) (between : ℕ) → header_of (lines_of text) ≡ Ok h
           → between ≡ in0 → Ran (run_of s h) l1 s0 s1 between in1 out0 out1 answer
           → Ran (outcome words) l0 s0 s1 in0 in1 out0 out1 answer
       Ran-header h between read same ran =
           Ran-later (outcome words) (run_of s h) text
-              (λ rest. leads_to text rest (Ok h) (whole rest) read) l0 l1 s0 s1 between in1 out0
-              out1 taken in0 same answer ran
+          (λ rest. leads_to text rest (Ok h) (whole rest) read) l0 l1 s0 s1 between in1 out0
+          out1 taken in0 same answer ran

@@ -38,8 +38,11 @@ module _ (f : List ℕ → Outcome) (s0 s1 : Option (List ℕ)) (in0 in1 out0 ou
   whole : (left : Option (List ℕ)) (s : Status) (text : List ℕ)
       → IfSome left (λ bytes. f bytes ≡ (s, text)) → Appends s0 s1 text → Whole f left s0 s1 s
   whole None s text is h = tt
-  whole (Some bytes) s text is h = (ap (λ (o : Outcome). o.0) is, subst (Appends s0 s1)
-      (sym (ap (λ (o : Outcome). o.1) is)) h)
+  whole (Some bytes) s text is h = (
+    ap (λ (o : Outcome). o.0) is,
+    subst (Appends s0 s1)
+        (sym (ap (λ (o : Outcome). o.1) is)) h,
+  )
 
   front : (left : Option (List ℕ)) (s : Status) (text : List ℕ)
       → IfSome left (λ bytes. f bytes ≡ (s, text)) → SentFront s0 s1 text → Front f left s0 s1
@@ -58,9 +61,10 @@ module _ (f : List ℕ → Outcome) (s0 s1 : Option (List ℕ)) (in0 in1 out0 ou
       (answer : Status) → IsTold s → in1 ≡ in0 → IfSome left (λ bytes. f bytes ≡ (s, text))
       → Tells (at_sink s0 out0 k0) (at_sink s1 out1 k1) s text answer
       → Ran f left s0 s1 in0 in1 out0 out1 answer
-  Ran-told left s text answer t same is h = record
-      { answer = subst (RanBy f left s0 s1 in0 in1 out0 out1) (sym h.is)
-      (after left s text t same is h.written h.wrote.answer) }
+  Ran-told left s text answer t same is h = record {
+    answer = subst (RanBy f left s0 s1 in0 in1 out0 out1) (sym h.is)
+        (after left s text t same is h.written h.wrote.answer);
+  }
 
 -- nothing was written, for want of memory or a failed input
 pub Ran-memory : (f : List ℕ → Outcome) (left sent : Option (List ℕ)) (in0 in1 out : ℕ) → in1 ≡ in0

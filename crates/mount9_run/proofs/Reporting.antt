@@ -67,8 +67,8 @@ linked_whole t h none stored = ap (λ (rs : Records). let u : Tree = record t { 
     (same_gets _ _ (λ q.
     retained t.records (is_linked t.records) q
     ∙ passes (is_linked t.records q) (get t.records q)
-        (λ some. or_none (is_linked t.records q) (is_held h q)
-        (ap (λ (m : Holds). is_held m q) none ∙ not_held q) (stored.kept q some))))
+    (λ some. or_none (is_linked t.records q) (is_held h q)
+    (ap (λ (m : Holds). is_held m q) none ∙ not_held q) (stored.kept q some))))
 
 -- ---- counts of faults that stand at 0
 
@@ -89,12 +89,18 @@ cut_took : (end : End) (frames : List (List ℕ)) (left0 left1 : Option (List �
     left1
 cut_took done frames left0 left1 k = k
 cut_took torn frames left0 left1 k = k
-cut_took bad_length frames left0 left1 (more, number, c) =
-    (concat frames ++ more, c, length-append (concat frames) more
-    ∙ ap (λ n. length (concat frames) + n) number)
-cut_took turns_spent frames left0 left1 (more, number, c) =
-    (concat frames ++ more, c, length-append (concat frames) more
-    ∙ ap (λ n. length (concat frames) + n) number)
+cut_took bad_length frames left0 left1 (more, number, c) = (
+  concat frames ++ more,
+  c,
+  length-append (concat frames) more
+      ∙ ap (λ n. length (concat frames) + n) number,
+)
+cut_took turns_spent frames left0 left1 (more, number, c) = (
+  concat frames ++ more,
+  c,
+  length-append (concat frames) more
+      ∙ ap (λ n. length (concat frames) + n) number,
+)
 
 -- out of memory isn't reported
 silent_ending : (handled nine : ℕ) (cause : BridgeError) (e : Ending) → cause ≡ error.NoMemory
@@ -136,42 +142,51 @@ module _ (w : Serve) (n0 n1 : Moment) (settings : n0.state.settings ≡ share_se
       t = linked n0.state.tree
 
       leads : (bytes : List ℕ) → cut w.turns bytes ≡ record { frames = h.frames; end = end }
-          → served w t (cut w.turns bytes) ≡ (status_of end, report r1
-          (verdict_of end handled (min nine (2 ^ 64 - 1))) last mount_table)
+          → served w t (cut w.turns bytes) ≡ (
+            status_of end,
+            report r1
+                (verdict_of end handled (min nine (2 ^ 64 - 1))) last mount_table,
+          )
       leads bytes is =
           let still : s1.faults ≡ s0.faults =
-              omega (arith, same, e.faults, b.rises, h.answered.stays.rises) in
+          omega (arith, same, e.faults, b.rises, h.answered.stays.rises) in
           let below : s0.faults < 2 ^ 64 - 1 =
-              omega (arith, same, zero, e.faults, b.rises, h.answered.stays.rises) in
+          omega (arith, same, zero, e.faults, b.rises, h.answered.stays.rises) in
           let exact = Answered-exact s0 s1 h.frames h.replies h.answered still below in
           let set : s0.settings ≡ share_settings w = b.settings ∙ settings in
           let played : play_from s0.settings s0.state h.frames ≡ play_from (share_settings w)
-              (begun t b.root) h.frames = (λ j. play_from (set j) (b.state j) h.frames) in
+          (begun t b.root) h.frames = (λ j. play_from (set j) (b.state j) h.frames) in
           let pieces : s0.piece ≡ piece w = b.piece
-              ∙ ap (λ n. min n GREATEST_MSIZE - RREAD_HEADER_SIZE) sized in
+          ∙ ap (λ n. min n GREATEST_MSIZE - RREAD_HEADER_SIZE) sized in
           let number : messages_from s0.piece s0.settings s0.state h.frames ≡ messages_from
-              (piece w) (share_settings w) (begun t b.root) h.frames =
-              (λ j. messages_from (pieces j) (set j) (b.state j) h.frames) in
+          (piece w) (share_settings w) (begun t b.root) h.frames =
+          (λ j. messages_from (pieces j) (set j) (b.state j) h.frames) in
           let replies : (play (share_settings w) t b.root h.frames).0 ≡ r1 =
-              sym (h.sent ∙ ap (λ r. r ++ h.replies) start ∙ exact.0
-              ∙ ap (λ (r : List ℕ × MachineState). r.0) played) in
+          sym (h.sent ∙ ap (λ r. r ++ h.replies) start ∙ exact.0
+          ∙ ap (λ (r : List ℕ × MachineState). r.0) played) in
           let final : linked (play (share_settings w) t b.root h.frames).1 ≡ last =
-              sym (ended ∙ ap linked (e.tree ∙ ap (λ (m : MachineState). linked m.tree)
-              (exact.1 ∙ ap (λ (r : List ℕ × MachineState). r.1) played))) in
+          sym (ended ∙ ap linked (e.tree ∙ ap (λ (m : MachineState). linked m.tree)
+          (exact.1 ∙ ap (λ (r : List ℕ × MachineState). r.1) played))) in
           let messages : min (total (piece w) (share_settings w) t b.root h.frames) (2 ^ 64 - 1)
-              ≡ min nine (2 ^ 64 - 1) = omega
-              (arith, exact.2, number, sent, b.sent, h.answered.sent) in
+          ≡ min nine (2 ^ 64 - 1) = omega
+          (arith, exact.2, number, sent, b.sent, h.answered.sent) in
           ap (λ (c : Cut). served w t c) is
           ∙ ap (λ (r : Result ℕ ℕ). attached w t r (record { frames = h.frames; end = end }))
-              root_found
-          ∙ (λ j. (status_of end, report (replies j) (verdict_of end (h.number j) (messages j))
-              (final j) mount_table))
+          root_found
+          ∙ (λ j. (
+            status_of end,
+            report (replies j) (verdict_of end (h.number j) (messages j))
+                (final j) mount_table,
+          ))
 
       leads_known : (left : Option (List ℕ)) → IfSome left
           (λ bytes. cut w.turns bytes ≡ record { frames = h.frames; end = end })
           → IfSome left (λ bytes. served w t (cut w.turns bytes)
-          ≡ (status_of end, report r1 (verdict_of end handled (min nine (2 ^ 64 - 1))) last
-          mount_table))
+          ≡ (
+            status_of end,
+            report r1 (verdict_of end handled (min nine (2 ^ 64 - 1))) last
+                mount_table,
+          ))
       leads_known None is = tt
       leads_known (Some bytes) is = leads bytes is
 
@@ -182,8 +197,8 @@ module _ (w : Serve) (n0 n1 : Moment) (settings : n0.state.settings ≡ share_se
       took_known None is k = tt
       took_known (Some bytes) is k =
           subst (λ (n : Taken). Took n left0 left1)
-              (ap cut_taken (sym is) ∙ ap (λ (r : Result ℕ ℕ). served_taken w r bytes)
-              (sym root_found)) k
+          (ap cut_taken (sym is) ∙ ap (λ (r : Result ℕ ℕ). served_taken w r bytes)
+          (sym root_found)) k
 
       took : IfSome left0 (λ bytes. Took (served_taken w (root_given w t) bytes) left0 left1)
       took = took_known left0 h.cut (cut_took end h.frames left0 left1 h.taken)
@@ -192,7 +207,7 @@ module _ (w : Serve) (n0 n1 : Moment) (settings : n0.state.settings ≡ share_se
         → StopsBy s0 s1 (Unit {0}) p0 p1 w.turns handled cause → (e : Ending)
         → ending_stopped handled nine cause ≡ Ok e
         → IfSome left0 (λ bytes. Took (served_taken w (root_given w (linked n0.state.tree)) bytes)
-            left0 left1)
+        left0 left1)
     took_stopped handled nine sent error.Torn k e is = took handled nine sent torn k.2
     took_stopped handled nine sent error.BadLength k e is = took handled nine sent bad_length k.2
     took_stopped handled nine sent error.TurnsSpent k e is = took handled nine sent turns_spent k.2
@@ -227,7 +242,7 @@ module _ (w : Serve) (n0 n1 : Moment) (settings : n0.state.settings ≡ share_se
     found : root_given w (linked n0.state.tree) ≡ Err errno
     found = ⊎_elim
         (λ is. subst (λ (s : Settings). (if nat_le s.limit 0 then Err ENFILE else root_of
-            (linked n0.state.tree) s.root) ≡ Err errno) settings is)
+        (linked n0.state.tree) s.root) ≡ Err errno) settings is)
         (λ rose. absurd (not_risen n0.faults n1.faults zero same rose.0))
         refused.1
 
@@ -235,22 +250,28 @@ module _ (w : Serve) (n0 n1 : Moment) (settings : n0.state.settings ≡ share_se
     final = sym (ended ∙ ap linked refused.0.tree)
 
     refused_leads : (bytes : List ℕ) → served w (linked n0.state.tree) (cut w.turns bytes)
-        ≡ (status.Stopped, report r1 (halted (error.Attach errno) handled (min nine (2 ^ 64 - 1)))
-        last mount_table)
+        ≡ (
+          status.Stopped,
+          report r1 (halted (error.Attach errno) handled (min nine (2 ^ 64 - 1)))
+              last mount_table,
+        )
     refused_leads bytes =
         let replies : [] ≡ r1 = sym (same_Some _ _ (ap (λ (p : Streams). p.sent) still) ∙ start) in
         let messages : 1 ≡ min nine (2 ^ 64 - 1) = omega (arith, one) in
         ap (λ (r : Result ℕ ℕ). attached w (linked n0.state.tree) r (cut w.turns bytes)) found
-        ∙ (λ j. (status.Stopped, report (replies j)
-            (halted (error.Attach errno) (sym none j) (messages j)) (final j) mount_table))
+        ∙ (λ j. (
+          status.Stopped,
+          report (replies j)
+              (halted (error.Attach errno) (sym none j) (messages j)) (final j) mount_table,
+        ))
 
     took_nothing : (bytes : List ℕ) → Took (served_taken w (root_given w (linked n0.state.tree))
         bytes) left0 left1
     took_nothing bytes =
         subst (λ (n : Taken). Took n left0 left1)
-            (ap (λ (r : Result ℕ ℕ). served_taken w r bytes) (sym found))
+        (ap (λ (r : Result ℕ ℕ). served_taken w r bytes) (sym found))
         (subst (λ (left : Option (List ℕ)). Took (just 0) left0 left)
-            (sym (ap (λ (p : Streams). p.left) still)) ([], Consumes-nil left0, refl))
+        (sym (ap (λ (p : Streams). p.left) still)) ([], Consumes-nil left0, refl))
 
   over : {P : List ℕ → Type 0} (left : Option (List ℕ)) → ((bytes : List ℕ) → P bytes)
       → IfSome left P
@@ -259,17 +280,22 @@ module _ (w : Serve) (n0 n1 : Moment) (settings : n0.state.settings ≡ share_se
 
   shares_by : (result : Result Pumped Stopped) → PumpsBy n0 n1 p0 p1 w.turns result
       → SharesBy w n0.state.tree left0 in0 in1 r1 last result
-  shares_by (Ok r) (s0, s1, b, e, k) = (k.1.0.0, leads_known s0 s1 b e r.handled r.nine_frames k.0
-      done k.1.2 left0 k.1.2.cut)
+  shares_by (Ok r) (s0, s1, b, e, k) = (
+    k.1.0.0,
+    leads_known s0 s1 b e r.handled r.nine_frames k.0
+        done k.1.2 left0 k.1.2.cut,
+  )
   shares_by (Err r) h = ⊎_elim
       (λ b. stopped_by b.0 b.1 b.2 b.3 r.handled r.nine_frames b.4.0 r.cause b.4.1)
       (λ n. ⊎_elim
       (λ a. subst (λ (c : BridgeError). StoppedBy w n0.state.tree left0 in0 in1 r1 last r.handled
-          r.nine_frames c) (sym a.1)
-      (ap (λ (p : Streams). p.read_faults) n.1, over left0
-          (refused_leads r.handled r.nine_frames a.0 n.0 a.2 n.1 a.3)))
+      r.nine_frames c) (sym a.1) (
+        ap (λ (p : Streams). p.read_faults) n.1,
+        over left0
+            (refused_leads r.handled r.nine_frames a.0 n.0 a.2 n.1 a.3),
+      ))
       (λ m. subst (λ (c : BridgeError). StoppedBy w n0.state.tree left0 in0 in1 r1 last r.handled
-          r.nine_frames c) (sym m.0) (ap (λ (p : Streams). p.read_faults) n.1))
+      r.nine_frames c) (sym m.0) (ap (λ (p : Streams). p.read_faults) n.1))
       n.2)
       h
 
@@ -277,7 +303,7 @@ module _ (w : Serve) (n0 n1 : Moment) (settings : n0.state.settings ≡ share_se
   pub took_by : (result : Result Pumped Stopped) → PumpsBy n0 n1 p0 p1 w.turns result → (e : Ending)
       → ending_of result ≡ Ok e
       → IfSome left0 (λ bytes. Took (served_taken w (root_given w (linked n0.state.tree)) bytes)
-          left0 left1)
+      left0 left1)
   took_by (Ok r) (s0, s1, b, e, k) ending is = took s0 s1 b e r.handled r.nine_frames k.0 done k.1.2
   took_by (Err r) h ending is = ⊎_elim
       (λ b. took_stopped b.0 b.1 b.2 b.3 r.handled r.nine_frames b.4.0 r.cause b.4.1 ending is)

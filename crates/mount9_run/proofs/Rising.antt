@@ -50,28 +50,30 @@ module _ {X : Type 0} (key : X → ℕ) where
   above-next k from [] x h is = absurd (cc)
   above-next k from (y ∷ ys) x h is = by_test (nat_lt k (key y)) refl
       (λ is. above-next k (key y + 1) ys x h.1 is) is where
-    by_test : (b : Bool) → nat_lt k (key y) ≡ b
-        → (first_above k ys ≡ Some x → (above k ys ≡ x ∷ above (key x) ys) × (k < key x))
-        → cond b (Some y) (first_above k ys) ≡ Some x
-        → (cond b (y ∷ above k ys) (above k ys) ≡ x
-        ∷ cond (nat_lt (key x) (key y)) (y ∷ above (key x) ys) (above (key x) ys)) × (k < key x)
-    by_test true passes later is =
-        let same : y ≡ x = cc in
-        let lt : k < key y = passes_less k (key y) passes in
-        let rest : above k ys ≡ cond (nat_lt (key y) (key y)) (y ∷ above (key y) ys)
+        by_test : (b : Bool) → nat_lt k (key y) ≡ b
+            → (first_above k ys ≡ Some x → (above k ys ≡ x ∷ above (key x) ys) × (k < key x))
+            → cond b (Some y) (first_above k ys) ≡ Some x
+            → (cond b (y ∷ above k ys) (above k ys) ≡ x
+            ∷ cond (nat_lt (key x) (key y)) (y ∷ above (key x) ys) (above (key x) ys)) × (k < key x)
+        by_test true passes later is =
+            let same : y ≡ x = cc in
+            let lt : k < key y = passes_less k (key y) passes in
+            let rest : above k ys ≡ cond (nat_lt (key y) (key y)) (y ∷ above (key y) ys)
             (above (key y) ys) =
-        above-all k (key y + 1) ys h.1 (omega arith)
+            above-all k (key y + 1) ys h.1 (omega arith)
             ∙ sym (above-all (key y) (key y + 1) ys h.1 (omega arith))
-        ∙ sym (ap (λ b. cond b (y ∷ above (key y) ys) (above (key y) ys))
+            ∙ sym (ap (λ b. cond b (y ∷ above (key y) ys) (above (key y) ys))
             (other_fails (key y) (key y) (omega arith))) in
-        subst (λ z. (y ∷ above k ys ≡ z ∷ cond (nat_lt (key z) (key y)) (y ∷ above (key z) ys)
+            subst (λ z. (y ∷ above k ys ≡ z ∷ cond (nat_lt (key z) (key y)) (y ∷ above (key z) ys)
             (above (key z) ys)) × (k < key z)) same (ap (λ l. y ∷ l) rest, lt)
-    by_test false fails later is =
-        let found = later is in
-        let low : key y ≤ k = fails_other k (key y) fails in
-        let up : k < key x = found.1 in
-        (found.0 ∙ ap (λ l. x ∷ l) (sym (ap (λ b. cond b (y ∷ above (key x) ys) (above (key x) ys))
-            (other_fails (key x) (key y) (omega arith)))), found.1)
+        by_test false fails later is =
+            let found = later is in
+            let low : key y ≤ k = fails_other k (key y) fails in
+            let up : k < key x = found.1 in (
+              found.0 ∙ ap (λ l. x ∷ l) (sym (ap (λ b. cond b (y ∷ above (key x) ys) (above (key x) ys))
+                  (other_fails (key x) (key y) (omega arith)))),
+              found.1,
+            )
 
   pub above-none : (k : ℕ) (xs : List X) → first_above k xs ≡ None → above k xs ≡ []
   above-none k [] is = refl
@@ -100,8 +102,11 @@ module _ {X : Type 0} where
   rises_after : (x : ℕ) (es : List (ℕ × X)) → T (below_all x es) → T (is_sorted nat_cmp es)
       → Rises number (x + 1) es
   rises_after x [] b s = tt
-  rises_after x (e ∷ es) b s = (next_up x e.0 (first _ _ b), rises_after e.0 es (first _ _ s)
-      (second _ _ s))
+  rises_after x (e ∷ es) b s = (
+    next_up x e.0 (first _ _ b),
+    rises_after e.0 es (first _ _ s)
+        (second _ _ s),
+  )
 
   find_first : (e : ℕ × X) (es : List (ℕ × X)) → find nat_cmp e.0 (e ∷ es) ≡ Some e.1
   find_first e es = ap (λ b. cond b (Some e.1) (find nat_cmp e.0 es)) (at_itself e.0)
@@ -113,8 +118,11 @@ module _ {X : Type 0} where
   rises_one : (es : List (ℕ × X)) → T (is_sorted nat_cmp es)
       → ((i : ℕ) (x : X) → find nat_cmp i es ≡ Some x → 1 ≤ i) → Rises number 1 es
   rises_one [] s h = tt
-  rises_one (e ∷ es) s h = (h e.0 e.1 (find_first e es), rises_after e.0 es (first _ _ s)
-      (second _ _ s))
+  rises_one (e ∷ es) s h = (
+    h e.0 e.1 (find_first e es),
+    rises_after e.0 es (first _ _ s)
+        (second _ _ s),
+  )
 
   -- the entries of a map whose keys are at least 1
   pub entries-rise : (m : FinMap nat_cmp X) → ((i : ℕ) (x : X) → get m i ≡ Some x → 1 ≤ i)
@@ -128,18 +136,18 @@ module _ {X : Type 0} where
   found_at k from [] h e is = absurd (cc)
   found_at k from (f ∷ es) h e is = by_test (nat_lt k f.0) (λ is. found_at k (f.0 + 1) es h.1 e is)
       is where
-    by_test : (b : Bool) → (first_where (λ e. nat_lt k e.0) es ≡ Some e
-        → (find nat_cmp e.0 es ≡ Some e.1) × (f.0 + 1 ≤ e.0))
-        → cond b (Some f) (first_where (λ e. nat_lt k e.0) es) ≡ Some e
-        → (find nat_cmp e.0 (f ∷ es) ≡ Some e.1) × (from ≤ e.0)
-    by_test true later is = let same : f ≡ e =
-        cc in subst (λ (e : ℕ × X). (find nat_cmp e.0 (f ∷ es) ≡ Some e.1) × (from ≤ e.0)) same
-        (find_first f es, h.0)
-    by_test false later is =
-        let rest = later is in
-        let low : from ≤ f.0 = h.0 in
-        let up : f.0 + 1 ≤ e.0 = rest.1 in
-        (find_later f es e.0 (λ q. absurd (omega arith)) ∙ rest.0, omega arith)
+        by_test : (b : Bool) → (first_where (λ e. nat_lt k e.0) es ≡ Some e
+            → (find nat_cmp e.0 es ≡ Some e.1) × (f.0 + 1 ≤ e.0))
+            → cond b (Some f) (first_where (λ e. nat_lt k e.0) es) ≡ Some e
+            → (find nat_cmp e.0 (f ∷ es) ≡ Some e.1) × (from ≤ e.0)
+        by_test true later is = let same : f ≡ e =
+            cc in subst (λ (e : ℕ × X). (find nat_cmp e.0 (f ∷ es) ≡ Some e.1) × (from ≤ e.0)) same
+            (find_first f es, h.0)
+        by_test false later is =
+            let rest = later is in
+            let low : from ≤ f.0 = h.0 in
+            let up : f.0 + 1 ≤ e.0 = rest.1 in
+            (find_later f es e.0 (λ q. absurd (omega arith)) ∙ rest.0, omega arith)
 
   -- what the first entry above a key has is what the map has at its key
   pub get-first : (m : FinMap nat_cmp X) → Rises number 1 (entries m) → (k : ℕ) (e : ℕ × X)
@@ -151,7 +159,7 @@ module _ {X : Type 0} where
   entries-retain_keys m p =
       let left : List (ℕ × X) = filter (λ e. p e.0) (entries m) in
       let sorted : T (is_sorted nat_cmp left) =
-          is_sorted-where_key nat_cmp p (entries m) (entries_sorted m) in
+      is_sorted-where_key nat_cmp p (entries m) (entries_sorted m) in
       let same : from_sorted {R = nat_cmp} left ≡ retain_keys m p = same_gets _ _ (λ q.
       get-from_sorted nat_cmp left q sorted
       ∙ find-where_key nat_cmp p q (λ x e. ap p (sym (nat_cmp-IsAntisymmetric q x e))) (entries m)

@@ -27,7 +27,7 @@ kept : {A : Type 0} (d e : Draft) (f : A → Draft) (o : Option A) → ((a : A) 
 kept d e f o same had h =
     let m = mapped f o e h in
     subst (λ (r : Option (List ℕ)). IfSome r (λ (path : List ℕ). is_rooted_path path ≡ true))
-        (sym (same m.0) ∙ ap (λ (x : Draft). x.root) m.2) had
+    (sym (same m.0) ∙ ap (λ (x : Draft). x.root) m.2) had
 
 and_right : (a b : Bool) → (a && b) ≡ true → b ≡ true
 and_right true b h = h
@@ -39,7 +39,7 @@ in_form false value path test h = absurd cc
 in_form true value path test h =
     let same : value ≡ path = cc in
     subst (λ (p : List ℕ). is_rooted_path p ≡ true) same
-        (and_right (nat_le (length value) PATH_LIMIT) (is_rooted_path value) test)
+    (and_right (nat_le (length value) PATH_LIMIT) (is_rooted_path value) test)
 
 -- the root that comes is in form
 came : (old : Option (List ℕ)) (value path : List ℕ)
@@ -52,20 +52,20 @@ module _ (d e : Draft) (had : IsRooted d) (key value : List ℕ) where
       (once d.root (text_in_form is_root value)) ≡ Some e → IsRooted e
   with_root h =
       let m = mapped (λ v. record d { root = Some v }) (once d.root (text_in_form is_root value)) e
-          h in
+      h in
       subst IsRooted m.2 (came d.root value m.0 m.1)
 
   by_key : (target root msize turns ids : Bool) →
       cond target (option_map (λ v. record d { target = Some v })
-          (once d.target (text_in_form is_path value)))
+      (once d.target (text_in_form is_path value)))
       (cond root (option_map (λ v. record d { root = Some v })
-          (once d.root (text_in_form is_root value)))
+      (once d.root (text_in_form is_root value)))
       (cond msize (option_map (λ n. record d { msize = Some n })
-          (once d.msize (number_in 256 65560 value)))
+      (once d.msize (number_in 256 65560 value)))
       (cond turns (option_map (λ n. record d { turns = Some n })
-          (once d.turns (number_in 1 8192 value)))
+      (once d.turns (number_in 1 8192 value)))
       (cond ids (option_map (λ n. record d { ids = Some n })
-          (once d.ids (number_in 0 1000000 value))) None)))) ≡ Some e → IsRooted e
+      (once d.ids (number_in 0 1000000 value))) None)))) ≡ Some e → IsRooted e
   by_key true root msize turns ids h = kept d e (λ v. record d { target = Some v }) _ (λ a. refl)
       had h
   by_key false true msize turns ids h = with_root h
@@ -96,7 +96,7 @@ same_draft d e h = cc
 rest_rooted : (d e : Draft) (w : List ℕ) (ws : List (List ℕ)) → IsRooted d
     → ((x : Draft) → IsRooted x → with_words x ws ≡ Some e → IsRooted e)
     → (o : Option Draft) → with_word d w ≡ o → option_and_then (λ x. with_words x ws) o ≡ Some e
-        → IsRooted e
+    → IsRooted e
 rest_rooted d e w ws had later None at told = absurd cc
 rest_rooted d e w ws had later (Some x) at told = later x (word_rooted d x w had at) told
 
@@ -117,8 +117,8 @@ finish_by d s had None root at h = absurd cc
 finish_by d s had (Some t) None at h = absurd cc
 finish_by d s had (Some t) (Some r) at h =
     let rooted : is_rooted_path r ≡ true = subst
-        (λ (o : Option (List ℕ)). IfSome o (λ (path : List ℕ). is_rooted_path path ≡ true)) at had
-        in
+    (λ (o : Option (List ℕ)). IfSome o (λ (path : List ℕ). is_rooted_path path ≡ true)) at had
+    in
     subst (λ (x : Serve). is_rooted_path x.root ≡ true) (same_serve (completed d t r) s h) rooted
 
 pub command_rooted : (words : List (List ℕ)) (s : Serve) → command words ≡ Some s

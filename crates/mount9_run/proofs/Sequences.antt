@@ -14,8 +14,11 @@ use Rattle.mount9_run.specs.Wrote.{Shown, Wrote, WroteBy}
 
 -- a front of the first text is a front of both
 take_first : (n : ℕ) (p q : List ℕ) → (m : ℕ) × (take m (p ++ q) ≡ take n p)
-take_first n p q = (min n (length p), take-append-le (min n (length p)) p q (omega arith)
-    ∙ take_min n p)
+take_first n p q = (
+  min n (length p),
+  take-append-le (min n (length p)) p q (omega arith)
+      ∙ take_min n p,
+)
 
 -- a front of the second text, after the first
 take_second : (n : ℕ) (p q : List ℕ) → take (length p + n) (p ++ q) ≡ p ++ take n q
@@ -26,8 +29,11 @@ front_first a b p q (n, h) = let m = take_first n p q in (m.0, subst (Appends a 
 
 front_second : (a b c : Option (List ℕ)) (p q : List ℕ) → Appends a b p → SentFront b c q
     → SentFront a c (p ++ q)
-front_second a b c p q h (n, k) = (length p + n, subst (Appends a c) (sym (take_second n p q))
-    (Appends-trans a b c p (take n q) h k))
+front_second a b c p q h (n, k) = (
+  length p + n,
+  subst (Appends a c) (sym (take_second n p q))
+      (Appends-trans a b c p (take n q) h k),
+)
 
 then_by : (a b c : Option (List ℕ)) (f0 f1 f2 : ℕ) (p q : List ℕ) (r : Result (Unit {0}) SinkFault)
     → f1 ≡ f0 → Appends a b p → WroteBy b c f1 f2 q r → WroteBy a c f0 f2 (p ++ q) r
@@ -40,8 +46,11 @@ then_by a b c f0 f1 f2 p q (Err NoMemory) same sent h =
 -- a text after one that was sent
 pub Wrote-then : {X : Type 0} {a b c : Shown X} {p q : List ℕ} {x : Unit {0}}
     {r : Result (Unit {0}) SinkFault} → Wrote a b p (Ok x) → Wrote b c q r → Wrote a c (p ++ q) r
-Wrote-then h k = record { answer = then_by _ _ _ _ _ _ _ _ _ h.answer.0 h.answer.1 k.answer; kept =
-    k.kept ∙ h.kept }
+Wrote-then h k = record {
+  answer = then_by _ _ _ _ _ _ _ _ _ h.answer.0 h.answer.1 k.answer;
+  kept =
+      k.kept ∙ h.kept;
+}
 
 first_by : (a b : Option (List ℕ)) (f0 f1 : ℕ) (p q : List ℕ) (e : SinkFault)
     → WroteBy a b f0 f1 p (Err e) → WroteBy a b f0 f1 (p ++ q) (Err e)
@@ -61,9 +70,12 @@ pub record Writing {X : Type 0} (old new : Shown X) (all rest : List ℕ) : Type
 
 pub Writing-more : {X : Type 0} {a b c : Shown X} {all p rest : List ℕ}
     → Writing a b all (p ++ rest) → Wrote b c p (Ok tt) → Writing a c all rest
-Writing-more {p = p} {rest = rest} h k = record
-    { done = h.done ++ p; whole = h.whole ∙ sym (append_assoc h.done p rest); wrote =
-    Wrote-then h.wrote k }
+Writing-more {p = p} {rest = rest} h k = record {
+  done = h.done ++ p;
+  whole = h.whole ∙ sym (append_assoc h.done p rest);
+  wrote =
+      Wrote-then h.wrote k;
+}
 
 pub Writing-stop : {X : Type 0} {a b c : Shown X} {all p : List ℕ} (rest : List ℕ)
     → Writing a b all (p ++ rest) → (e : SinkFault) → Wrote b c p (Err e) → Wrote a c all (Err e)
@@ -73,8 +85,14 @@ Writing-stop {a = a} {c = c} rest h e k = subst (λ (t : List ℕ). Wrote a c t 
 pub Writing-memory : {X : Type 0} {a b : Shown X} {all rest : List ℕ} → Writing a b all rest
     → Wrote a b all (Err NoMemory)
 Writing-memory {a = a} {b = b} {rest = rest} h = record {
-  answer = (h.wrote.answer.0, (length h.done, subst (Appends a.sent b.sent)
-      (sym (ap (take (length h.done)) h.whole ∙ take-append_seam h.done rest)) h.wrote.answer.1));
+  answer = (
+    h.wrote.answer.0,
+    (
+      length h.done,
+      subst (Appends a.sent b.sent)
+          (sym (ap (take (length h.done)) h.whole ∙ take-append_seam h.done rest)) h.wrote.answer.1,
+    ),
+  );
   kept = h.wrote.kept;
 }
 
@@ -84,8 +102,12 @@ Writing-end {a = a} {b = b} h = subst (λ (t : List ℕ). Wrote a b t (Ok tt))
     (sym (h.whole ∙ append-nil h.done)) h.wrote
 
 pub Writing-start : {X : Type 0} (a : Shown X) (all : List ℕ) → Writing a a all all
-Writing-start a all = record { done = []; whole = refl; wrote =
-    record { answer = (refl, Appends-nil a.sent); kept = refl } }
+Writing-start a all = record {
+  done = [];
+  whole = refl;
+  wrote =
+      record { answer = (refl, Appends-nil a.sent); kept = refl };
+}
 
 pub Writing-at : {X : Type 0} {a b : Shown X} {all rest more : List ℕ} → rest ≡ more
     → Writing a b all rest → Writing a b all more

@@ -26,9 +26,12 @@ took_nothing left = ([], Consumes-nil left, refl)
 took_behind : (text : List ℕ) (k : Taken) (l0 l1 l2 : Option (List ℕ)) → Consumes l0 l1 text
     → Took k l1 l2 → Took (behind (length text) k) l0 l2
 took_behind text everything l0 l1 l2 c k = k
-took_behind text (just n) l0 l1 l2 c (more, d, number) =
-    (text ++ more, Consumes-trans l0 l1 l2 text more c d, length-append text more
-    ∙ ap (λ m. length text + m) number)
+took_behind text (just n) l0 l1 l2 c (more, d, number) = (
+  text ++ more,
+  Consumes-trans l0 l1 l2 text more c d,
+  length-append text more
+      ∙ ap (λ m. length text + m) number,
+)
 
 -- without the line `end` there is no text
 pub endless : (l0 l1 : Option (List ℕ)) → IfSome l0 (λ bytes. IsEndless bytes l0 l1)
@@ -75,7 +78,7 @@ module _ (words : List (List ℕ)) (s : Serve) (is : command words ≡ Some s) w
     took_header (Some bytes) None l2 c k = absurd c
     took_header (Some bytes) (Some rest) l2 c k =
         subst (λ (n : Taken). Took n (Some bytes) l2) (sym (ap (taken words) c ∙ by_header rest))
-            (took_behind text (described_taken s rest read) (Some bytes) (Some rest) l2 c k)
+        (took_behind text (described_taken s rest read) (Some bytes) (Some rest) l2 c k)
 
 -- ---- answers
 

@@ -82,7 +82,7 @@ module _ (left0 left1 left2 : Option (List ℕ)) (in0 in1 in2 : ℕ) (text new :
   pub Taking-end : Here → count < 16777216 → Consumes left1 left2 (b ∷ []) → in2 ≡ in1
       → Scans text start b new (Ok None)
       → (in2 ≡ in0) × Consumes left0 left2 new
-          × ((rest : List ℕ) → text_of (new ++ rest) ≡ Some (new, rest))
+      × ((rest : List ℕ) → text_of (new ++ rest) ≡ Some (new, rest))
   unfolding text_of
   Taking-end h few c quiet (e, ends) = (
     quiet ∙ h.input,
@@ -90,9 +90,9 @@ module _ (left0 left1 left2 : Option (List ℕ)) (in0 in1 in2 : ℕ) (text new :
     λ rest.
         let found : text_from [] (new ++ rest) ≡ Some (new, rest) =
         ap (text_from []) (again rest e) ∙ h.scanned (b ∷ rest) ∙ ap (onto_all text) (ends rest)
-            ∙ ap (λ (l : List ℕ). Some (l, rest)) (sym e) in
+        ∙ ap (λ (l : List ℕ). Some (l, rest)) (sym e) in
         ap within_limit found ∙ (rw (le-leb (length new) 16777216 (omega (arith, one_more h e)))
-            refl),
+        refl),
   )
 
 -- ---- no line `end` stands within the limit
@@ -106,9 +106,21 @@ endless_whole text more none few (Some xs) None l2 c d end h = absurd c
 endless_whole text more none few (Some xs) (Some ys) None c d end h = absurd d
 endless_whole text more none few (Some xs) (Some ys) (Some zs) c d end h = record {
   none = h;
-  took = (text ++ more, Consumes-trans (Some xs) (Some ys) (Some zs) text more c d, omega
-      (arith, none, few, length-append text more, ap length c, length-append text ys, ap length d,
-      length-append more zs, ap length end));
+  took = (
+    text ++ more,
+    Consumes-trans (Some xs) (Some ys) (Some zs) text more c d,
+    omega (
+      arith,
+      none,
+      few,
+      length-append text more,
+      ap length c,
+      length-append text ys,
+      ap length d,
+      length-append more zs,
+      ap length end,
+    ),
+  );
 }
 
 -- as much was taken as a header may have
@@ -132,14 +144,14 @@ module _ (left0 left1 : Option (List ℕ)) (in0 in1 : ℕ) (text : List ℕ) (st
   Taking-none h end =
       let nothing : text_from [] (text ++ []) ≡ None = h.scanned [] in
       Consumes-whole left0 left1 text (λ bytes. text_of bytes ≡ None) h.taken end
-          (text-none (ap (text_from []) (sym (append-nil text)) ∙ nothing))
+      (text-none (ap (text_from []) (sym (append-nil text)) ∙ nothing))
 
   pub Endless-end : (left2 : Option (List ℕ)) (more : List ℕ) → length more ≡ 0 → count < 16777216
       → Taking left0 left1 in0 in1 text start count → Consumes left1 left2 more → IsAtEnd left2
       → IfSome left0 (λ bytes. IsEndless bytes left0 left2)
   Endless-end left2 more none few h c end =
       endless_whole text more none (omega (arith, few, h.number)) left0 left1 left2 h.taken c end
-          (Taking-none h (AtEnd-back left1 left2 more none c end))
+      (Taking-none h (AtEnd-back left1 left2 more none c end))
 
 onto-some : (b : ℕ) (s : Split) (p : List ℕ × List ℕ) → onto b s ≡ Some p → 0 < length p.0
 onto-some b None p h = absurd (none-some p h)
@@ -173,7 +185,7 @@ module _ (left0 left1 : Option (List ℕ)) (in0 in1 : ℕ) (text : List ℕ) (st
   Taking-limit h full =
       Consumes-if left0 left1 text (λ bytes. text_of bytes ≡ None) h.taken (λ rest.
       ap within_limit (h.scanned rest) ∙ too_long text (text_from (drop start text) rest)
-          (λ p e. text-some (drop start text) rest p e) (h.number ∙ full))
+      (λ p e. text-some (drop start text) rest p e) (h.number ∙ full))
 
   pub Endless-limit : Taking left0 left1 in0 in1 text start count → count ≡ 16777216
       → IfSome left0 (λ bytes. IsEndless bytes left0 left1)

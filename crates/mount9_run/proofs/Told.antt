@@ -47,12 +47,12 @@ module _ (w : Serve) (t : Tree) (left s0 s1 : Option (List ℕ)) (in0 in1 out0 o
   told_by st v nine told fits k answer tells =
       let all : min nine (2 ^ 64 - 1) ≡ nine = omega (arith, fits) in
       let text : report replies (v (min nine (2 ^ 64 - 1))) last mount_table ≡ report shown (v nine)
-          (linked last) mount_table = (λ j. report (sym same j) (v (all j)) (sym h.whole j)
-          mount_table) in
+      (linked last) mount_table = (λ j. report (sym same j) (v (all j)) (sym h.whole j)
+      mount_table) in
       Ran-told serves s0 s1 in0 in1 out0 out1 left st
-          (report shown (v nine) (linked last) mount_table) answer told k.0
+      (report shown (v nine) (linked last) mount_table) answer told k.0
       (again (report replies (v (min nine (2 ^ 64 - 1))) last mount_table)
-          (report shown (v nine) (linked last) mount_table) st left text k.1) tells
+      (report shown (v nine) (linked last) mount_table) st left text k.1) tells
 
   -- ---- a share whose ending is reported
 
@@ -100,7 +100,7 @@ module _ (w : Serve) (t : Tree) (left s0 s1 : Option (List ℕ)) (in0 in1 out0 o
       let r = reported result h.answer e is in
       told_by e.status r.verdict (nine_frames_of e.verdict) r.told fits r.leads answer
       (subst (λ (v : Verdict). Tells (at_sink s0 out0 k0) (at_sink s1 out1 k1) e.status
-          (report shown v (linked last) mount_table) answer) (sym r.whole) tells)
+      (report shown v (linked last) mount_table) answer) (sym r.whole) tells)
 
   -- ---- a share after which nothing is reported
 

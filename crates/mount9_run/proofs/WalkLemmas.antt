@@ -123,16 +123,21 @@ module _ (t : Tree) (good : IsGoodTree t) where
   next_by k a None found is = absurd (cc)
   next_by k a (Some e) found is =
       let same : attr_of e.0 e.1 ≡ a = cc in
-      subst (Next t k) same (record { stored = e.1; at =
-          get-first t.records numbers_rise k e found; told = refl; step =
-          (above-next number k 1 (map.entries t.records) e numbers_rise found).0 })
+      subst (Next t k) same (record {
+        stored = e.1;
+        at =
+            get-first t.records numbers_rise k e found;
+        told = refl;
+        step =
+            (above-next number k 1 (map.entries t.records) e numbers_rise found).0;
+      })
 
   pub records-start : records_text (map.entries (linked t).records) ≡ left_text t 0
   records-start =
       ap records_text (entries-retain_keys t.records (is_linked t.records))
       ∙ sym (ap (λ (es : List (ℕ × Record)). records_text
-          (filter (λ (e : ℕ × Record). is_linked t.records e.0) es))
-          (above-all number 0 1 (map.entries t.records) numbers_rise (lit< tt)))
+      (filter (λ (e : ℕ × Record). is_linked t.records e.0) es))
+      (above-all number 0 1 (map.entries t.records) numbers_rise (lit< tt)))
 
   module _ (k : ℕ) (a : Attr) (is : Some a ≡ record_after_of t k) where
     next : Next t k a
@@ -142,19 +147,21 @@ module _ (t : Tree) (good : IsGoodTree t) where
     unfolding linked_text
     records-step =
         ap (λ (es : List (ℕ × Record)). records_text
-            (filter (λ (e : ℕ × Record). is_linked t.records e.0) es)) next.step
+        (filter (λ (e : ℕ × Record). is_linked t.records e.0) es)) next.step
         ∙ by_linked (is_linked t.records a.ino) a.ino next.stored
-            (filter (λ (e : ℕ × Record). is_linked t.records e.0) (left_above t a.ino))
+        (filter (λ (e : ℕ × Record). is_linked t.records e.0) (left_above t a.ino))
         ∙ ap (λ (o : Option Record). cond (is_linked t.records a.ino)
-            (unwrap_or (option_map (record_text a.ino) o) []) [] ++ left_text t a.ino) (sym next.at)
+        (unwrap_or (option_map (record_text a.ino) o) []) [] ++ left_text t a.ino) (sym next.at)
 
     pub records-fewer : length (left_above t a.ino) < length (left_above t k)
     records-fewer = let longer : length (left_above t k) ≡ suc (length (left_above t a.ino)) =
         ap length next.step in omega arith
 
     pub next_is_stored : IsStored t a
-    next_is_stored = record { told = ap (attr_or_missing a.ino) next.at
-        ∙ ap (λ (b : Attr). Ok b) next.told }
+    next_is_stored = record {
+      told = ap (attr_or_missing a.ino) next.at
+          ∙ ap (λ (b : Attr). Ok b) next.told;
+    }
 
   pub records-end : (k : ℕ) → None ≡ record_after_of t k → left_text t k ≡ []
   unfolding records_text
@@ -238,9 +245,9 @@ module _ (t : Tree) (a : Attr) (h : IsStored t a) where
         text_at ∙ directory_body a found.stored.body (kind_at ∙ is)
         ∙ ap (λ (o : Option Record).
         directory_line a (unwrap_or (option_map up_of (option_map (λ (r : Record). r.body) o)) 0)
-            (unwrap_or (option_map next_cookie (option_map (λ (r : Record). r.body) o)) 0)
+        (unwrap_or (option_map next_cookie (option_map (λ (r : Record). r.body) o)) 0)
         ++ entries_text a.ino (unwrap_or (option_and_then entries_of
-            (option_map (λ (r : Record). r.body) o)) [])) (sym found.at)
+        (option_map (λ (r : Record). r.body) o)) [])) (sym found.at)
 
   module _ (is : a.kind ≡ kind.File) where
     pub stored-file : IsTrue (is_file_at (body_at t.records a.ino))
@@ -270,8 +277,8 @@ module _ (t : Tree) (a : Attr) (h : IsStored t a) where
     stored_text-link =
         text_at ∙ link_body a found.stored.body (kind_at ∙ is)
         ∙ ap (λ (o : Option Record). link_line a
-            (unwrap_or (option_map target_of (option_map (λ (r : Record). r.body) o)) []))
-            (sym found.at)
+        (unwrap_or (option_map target_of (option_map (λ (r : Record). r.body) o)) []))
+        (sym found.at)
 
   module _ (good : IsGoodTree t) where
     linked_by : (a.links == 0) ≡ not (is_linked t.records a.ino)
@@ -279,7 +286,7 @@ module _ (t : Tree) (a : Attr) (h : IsStored t a) where
         sym (ap (λ (b : Attr). b.links == 0) found.told)
         ∙ sym (ap has_no_links found.at)
         ∙ no_links (good_is_counted t (λ _. false) good (λ i e. absurd (false≢true e))) a.ino
-            found.stored found.at
+        found.stored found.at
 
     by_test : (b : Bool) → (a.links == 0) ≡ not b → a.links ≡ 0 → b ≡ false
     by_test true e z = absurd (false≢true (sym e ∙ ap (λ n. n == 0) z))

@@ -52,25 +52,25 @@ apart : {A B : Type 0} (p : Place A) (q : Place B)
     → ((v : A) (d : Draft) → q.value (p.put v d) ≡ q.value d)
     → ((v : B) (d : Draft) → p.value (q.put v d) ≡ p.value d)
     → ((v : A) (x : B) (d : Draft) → q.put x (p.put v d) ≡ p.put v (q.put x d))
-        → (new : Option A) (more : Option B) (d : Draft)
+    → (new : Option A) (more : Option B) (d : Draft)
     → option_and_then (take q more) (take p new d) ≡ option_and_then (take p new) (take q more d)
 apart p q keeps_q keeps_p either new more d =
     by_old (p.value d) (q.value d) refl refl new more where
-  by_old : (a : Option _) (b : Option _) → p.value d ≡ a → q.value d ≡ b
-      → (new : Option _) (more : Option _) → option_and_then (take q more) (take_by p new d a)
-      ≡ option_and_then (take p new) (take_by q more d b)
-  by_old (Some x) (Some y) at there new more = refl
-  by_old (Some x) None at there new None = refl
-  by_old (Some x) None at there new (Some w) =
-      sym (ap (take_by p new (q.put w d)) (keeps_p w d ∙ at))
-  by_old None (Some y) at there None more = refl
-  by_old None (Some y) at there (Some v) more =
-      ap (take_by q more (p.put v d)) (keeps_q v d ∙ there)
-  by_old None None at there None None = refl
-  by_old None None at there None (Some w) = sym (ap (take_by p None (q.put w d)) (keeps_p w d ∙ at))
-  by_old None None at there (Some v) None = ap (take_by q None (p.put v d)) (keeps_q v d ∙ there)
-  by_old None None at there (Some v) (Some w) =
-      ap (take_by q (Some w) (p.put v d)) (keeps_q v d ∙ there) ∙ ap Some (either v w d)
+      by_old : (a : Option _) (b : Option _) → p.value d ≡ a → q.value d ≡ b
+          → (new : Option _) (more : Option _) → option_and_then (take q more) (take_by p new d a)
+          ≡ option_and_then (take p new) (take_by q more d b)
+      by_old (Some x) (Some y) at there new more = refl
+      by_old (Some x) None at there new None = refl
+      by_old (Some x) None at there new (Some w) =
+          sym (ap (take_by p new (q.put w d)) (keeps_p w d ∙ at))
+      by_old None (Some y) at there None more = refl
+      by_old None (Some y) at there (Some v) more =
+          ap (take_by q more (p.put v d)) (keeps_q v d ∙ there)
+      by_old None None at there None None = refl
+      by_old None None at there None (Some w) = sym (ap (take_by p None (q.put w d)) (keeps_p w d ∙ at))
+      by_old None None at there (Some v) None = ap (take_by q None (p.put v d)) (keeps_q v d ∙ there)
+      by_old None None at there (Some v) (Some w) =
+          ap (take_by q (Some w) (p.put v d)) (keeps_q v d ∙ there) ∙ ap Some (either v w d)
           ∙ sym (ap (take_by p (Some v) (q.put w d)) (keeps_p w d ∙ at))
 
 -- ---- keys
@@ -170,8 +170,8 @@ kind key = kind_by (bytes_eq key (codes "target")) (bytes_eq key (codes "root"))
 abbrev keyed : Bool → Bool → Bool → Bool → Bool → List ℕ → Draft → Option Draft
 keyed a b c d e v x =
     cond a (with_kind target v x) (cond b (with_kind root v x)
-        (cond c (with_kind msize v x) (cond d (with_kind turns v x)
-        (cond e (with_kind ids v x) None))))
+    (cond c (with_kind msize v x) (cond d (with_kind turns v x)
+    (cond e (with_kind ids v x) None))))
 
 keyed_is : (a b c d e : Bool) (v : List ℕ) (x : Draft)
     → keyed a b c d e v x ≡ with_kind (kind_by a b c d e) v x
@@ -205,10 +205,10 @@ pair_swap (Some p) None d = nothing (with_pair (Some p) d)
 pair_swap (Some p) (Some q) d =
     ap (option_and_then (λ e. with_key e q.0 q.1)) (key_is d p.0 p.1)
     ∙ same_after (with_kind (kind p.0) p.1 d) (λ e. with_key e q.0 q.1) (with_kind (kind q.0) q.1)
-        (λ e. key_is e q.0 q.1)
+    (λ e. key_is e q.0 q.1)
     ∙ swapped (kind p.0) (kind q.0) p.1 q.1 d
     ∙ sym (same_after (with_kind (kind q.0) q.1 d) (λ e. with_key e p.0 p.1)
-        (with_kind (kind p.0) p.1) (λ e. key_is e p.0 p.1))
+    (with_kind (kind p.0) p.1) (λ e. key_is e p.0 p.1))
     ∙ sym (ap (option_and_then (λ e. with_key e p.0 p.1)) (key_is d q.0 q.1))
 
 both : (o : Option Draft) (f g : Draft → Option Draft)
@@ -221,11 +221,11 @@ with_words_swap : (d : Draft) (one other : List ℕ) (after : List (List ℕ))
 unfolding with_words with_word
 with_words_swap d one other after =
     both (with_pair (split_once 61 one) d) (with_pair (split_once 61 other))
-        (λ f. with_words f after)
+    (λ f. with_words f after)
     ∙ ap (option_and_then (λ f. with_words f after))
-        (pair_swap (split_once 61 one) (split_once 61 other) d)
+    (pair_swap (split_once 61 one) (split_once 61 other) d)
     ∙ sym (both (with_pair (split_once 61 other) d) (with_pair (split_once 61 one))
-        (λ f. with_words f after))
+    (λ f. with_words f after))
 
 with_words_swap_later : (d : Draft) (one other : List ℕ) (before after : List (List ℕ))
     → with_words d (before ++ (one ∷ other ∷ after)) ≡ with_words d
@@ -234,8 +234,8 @@ unfolding with_words
 with_words_swap_later d one other [] after = with_words_swap d one other after
 with_words_swap_later d one other (w ∷ ws) after =
     same_after (with_word d w) (λ e. with_words e (ws ++ (one ∷ other ∷ after)))
-        (λ e. with_words e (ws ++ (other ∷ one ∷ after)))
-        (λ e. with_words_swap_later e one other ws after)
+    (λ e. with_words e (ws ++ (other ∷ one ∷ after)))
+    (λ e. with_words_swap_later e one other ws after)
 
 pub command_swap : (first one other : List ℕ) (before after : List (List ℕ))
     → command (first ∷ (before ++ (one ∷ other ∷ after))) ≡ command
@@ -243,4 +243,4 @@ pub command_swap : (first one other : List ℕ) (before after : List (List ℕ))
 unfolding command
 command_swap first one other before after =
     ap (λ (o : Option Draft). cond (bytes_eq first (codes "serve")) (option_and_then finished o)
-        None) (with_words_swap_later no_words one other before after)
+    None) (with_words_swap_later no_words one other before after)

@@ -15,8 +15,8 @@ drop-get [] i x h = cc
 drop-get (y ∷ ys) zero x h = cc
 drop-get (y ∷ ys) (suc i) x h = drop-get ys i x h
 
-module _ (d : Draft) (ws : List (List ℕ)) (i : ℕ) (w : List ℕ) (here : slice_get ws i ≡ Some w)
-    where
+module _ (d : Draft) (ws : List (List ℕ)) (i : ℕ) (w : List ℕ)
+    (here : slice_get ws i ≡ Some w) where
   pub with_words-more : (e : Draft) → with_word d w ≡ Some e
       → with_words d (drop i ws) ≡ with_words e (drop (i + 1) ws)
   unfolding with_words

@@ -77,8 +77,8 @@ module _ (s : ServerState) (g : IsGoodServer s) (fid : ℕ) (none : s.fids ≡ m
       (root_of s.tree s.settings.root)
   core_is =
       ap (λ (o : Option Fid). cond (is_some o) (pair (r_lerror EBADF) s)
-          (attached_if (nat_le s.settings.limit (map.len s.fids)) (root_of s.tree s.settings.root)))
-          no_fid
+      (attached_if (nat_le s.settings.limit (map.len s.fids)) (root_of s.tree s.settings.root)))
+      no_fid
       ∙ ap (λ k. attached_if (nat_le s.settings.limit k) (root_of s.tree s.settings.root)) no_fids
 
   attach_seen : (full : Bool) (root : Result ℕ ℕ)
@@ -132,9 +132,9 @@ pub first_qid : (x : Rmessage) (w : Rwalk) (qs : List QidStruct) (q : QidStruct)
     → (walk_one_view (reply_of x) ≡ None → ⊥) → walk_one_view (reply_of x) ≡ Some (Ok (qid_of q))
 first_qid x w qs q is items at other =
     let seen : walk_one_view (reply_of x) ≡ walk_one_view (r_walk (mapped qid_of w.wqids.items)) =
-        ap (λ (y : Rmessage). walk_one_view (reply_of y)) is in
+    ap (λ (y : Rmessage). walk_one_view (reply_of y)) is in
     seen ∙ one_qid w.wqids.items q (ap (λ (l : List QidStruct). slice_get l 0) (sym items) ∙ sym at)
-        (λ none. other (seen ∙ none))
+    (λ none. other (seen ∙ none))
 
 no_and : (b : Bool) → (b && false) ≡ false
 no_and true = refl
@@ -153,9 +153,9 @@ module _ (s : ServerState) (g : IsGoodServer s) (fid newfid : ℕ) (f : Fid)
   fresh_walk : (names : List (List ℕ)) → walk_core s fid newfid names ≡ walked names
   fresh_walk names =
       ap (λ (o : Option Fid). cond (not (newfid == fid) && is_some o) (pair (r_lerror EBADF) s)
-          (walk_from s fid newfid names (map.get s.fids fid))) fresh
+      (walk_from s fid newfid names (map.get s.fids fid))) fresh
       ∙ ap (λ b. cond b (pair (r_lerror EBADF) s)
-          (walk_from s fid newfid names (map.get s.fids fid))) (no_and (not (newfid == fid)))
+      (walk_from s fid newfid names (map.get s.fids fid))) (no_and (not (newfid == fid)))
       ∙ ap (walk_from s fid newfid names) known
       ∙ ap (λ b. cond (not (newfid == fid) && b) (pair (r_lerror ENFILE) s) (walked names)) no_limit
       ∙ ap (λ b. cond b (pair (r_lerror ENFILE) s) (walked names)) (no_and (not (newfid == fid)))
@@ -300,8 +300,8 @@ module _ (s : ServerState) (g : IsGoodServer s) (fid : ℕ) (f : Fid)
       seen =
           ap (λ (o : Option Fid). read_view (read_by s offset count o)) known
           ∙ ap (λ b. read_view (cond b (read_reply
-              (read_of s.tree f.ino offset (min count (s.msize - RREAD_HEADER_SIZE))))
-              (r_lerror EBADF))) reads
+          (read_of s.tree f.ino offset (min count (s.msize - RREAD_HEADER_SIZE))))
+          (r_lerror EBADF))) reads
           ∙ read_seen (read_of s.tree f.ino offset (min count (s.msize - RREAD_HEADER_SIZE)));
       state = kept_state_good s g;
       whole = refl;

@@ -49,5 +49,10 @@ pub walk_askable : (s : ServerState) (fid newfid : ℕ) (name : List ℕ) → Is
     → newfid < 2 ^ 32 → name_fault name ≡ None → IsAskable s (walk fid newfid (name ∷ []))
 walk_askable s fid newfid name roomy a b named =
     let text = name_is_text name named in
-    record { spells = (a, (b, (omega arith, ((omega (arith, text.0), text.1), tt)))); readable =
-        tt; bounded = tt; short = omega (arith, text.0, roomy.enough, length-append name []) }
+    record {
+      spells = (a, (b, (omega arith, ((omega (arith, text.0), text.1), tt))));
+      readable =
+          tt;
+      bounded = tt;
+      short = omega (arith, text.0, roomy.enough, length-append name []);
+    }

@@ -22,4 +22,4 @@ kept_state_new s n f g none =
     kept_state_kept (record s { fids = insert s.fids n f })
     (λ q had. either (is_linked s.tree.records q) (is_held s.fids q) (is_held (insert s.fids n f) q)
     (more (fid_count s.fids q) (fid_count (insert s.fids n f) q) (fid_weight q f)
-        (fid_count-new s.fids n f none q)) (g.kept q had))
+    (fid_count-new s.fids n f none q)) (g.kept q had))

@@ -64,13 +64,13 @@ walk_from_readable : (s : ServerState) (fid newfid : ℕ) (names : List (List �
 walk_from_readable s fid newfid names None = tt
 walk_from_readable s fid newfid names (Some f) =
     let found : Reply × ServerState = walk_answer s newfid
-        (walk_names s.settings.casefold s.tree names f.ino) in
+    (walk_names s.settings.casefold s.tree names f.ino) in
     let all = walk_told_readable s newfid (walk_names s.settings.casefold s.tree names f.ino) in
     let few = readable_either (nat_lt P9_MAXWELEM (length names)) (r_lerror EINVAL, s) found tt all
-        in
+    in
     readable_either (not (newfid == fid) && nat_le s.settings.limit (map.len s.fids))
-        (r_lerror ENFILE, s) (cond (nat_lt P9_MAXWELEM (length names)) (r_lerror EINVAL, s) found)
-        tt few
+    (r_lerror ENFILE, s) (cond (nat_lt P9_MAXWELEM (length names)) (r_lerror EINVAL, s) found)
+    tt few
 
 got_readable : (settings : Settings) (a : Result Attr ℕ)
     → IsReadableReply (getattr_reply settings a)
@@ -115,8 +115,8 @@ read_readable s offset count few None = tt
 read_readable s offset count few (Some f) =
     let most : ℕ = min count (s.msize - RREAD_HEADER_SIZE) in
     one_readable (is_readable f.open_state) (read_reply (read_of s.tree f.ino offset most))
-        (r_lerror EBADF) (piece_readable most (omega (arith, few)) offset
-        (body_at s.tree.records f.ino)) tt
+    (r_lerror EBADF) (piece_readable most (omega (arith, few)) offset
+    (body_at s.tree.records f.ino)) tt
 
 told_readable : {A : Type 0} (s : ServerState) (reply : A → Reply)
     → ((a : A) → IsReadableReply (reply a)) → (r : Result A ℕ)
@@ -157,13 +157,13 @@ core_readable s (t_read fid offset count) b = read_readable s offset count b (ma
 core_readable s (t_attach fid afid uname aname n_uname) b =
     let root : Reply × ServerState = attached s fid (root_of s.tree s.settings.root) in
     let few = readable_either (nat_le s.settings.limit (map.len s.fids)) (r_lerror ENFILE, s) root
-        tt (attached_readable s fid (root_of s.tree s.settings.root)) in
+    tt (attached_readable s fid (root_of s.tree s.settings.root)) in
     readable_either (map.contains_key s.fids fid) (r_lerror EBADF, s)
-        (cond (nat_le s.settings.limit (map.len s.fids)) (r_lerror ENFILE, s) root) tt few
+    (cond (nat_le s.settings.limit (map.len s.fids)) (r_lerror ENFILE, s) root) tt few
 core_readable s (t_walk fid newfid wnames) b =
     readable_either (not (newfid == fid) && map.contains_key s.fids newfid) (r_lerror EBADF, s)
-        (walk_from s fid newfid wnames (map.get s.fids fid)) tt
-        (walk_from_readable s fid newfid wnames (map.get s.fids fid))
+    (walk_from s fid newfid wnames (map.get s.fids fid)) tt
+    (walk_from_readable s fid newfid wnames (map.get s.fids fid))
 core_readable s (t_getattr fid request_mask) b = getattr_readable s (map.get s.fids fid)
 core_readable s (t_clunk fid) b = clunk_readable s fid (map.get s.fids fid)
 core_readable s (t_version msize protocol) b = absurd b
@@ -218,4 +218,4 @@ pub outcome_readable : (s : ServerState) (m : Message) (r : Reply) (s1 : ServerS
     → IsBounded m → Outcome s m r s1 f0 f1 → IsReadableReply r
 outcome_readable s m r s1 f0 f1 b o =
     ⊎_elim (λ is. subst IsReadableReply (sym (ap (λ (x : Reply × ServerState). x.0) is))
-        (core_readable s m b)) (λ h. hurt_readable s m r h.1) o
+    (core_readable s m b)) (λ h. hurt_readable s m r h.1) o

@@ -36,7 +36,7 @@ frame_read : (m : Message) (limit : ℕ) → MessageSpells m → IsReadableMessa
 frame_read m limit spells readable le below =
     ap (frame_within limit) (sym (append-nil (message_frame 0 m)))
     ∙ frame_again message_kind MessageSpells message_spelling IsReadableMessage message_reading
-        messages_lawful limit (0, m) [] le below (omega arith, (spells, omega arith)) readable
+    messages_lawful limit (0, m) [] le below (omega arith, (spells, omega arith)) readable
 
 same_body : {M : Type 0} (tag n : ℕ) (b c : M) (x y : List ℕ)
     → (let f : (ℕ × M) × List ℕ → Result ((ℕ × M) × List ℕ) WireError =
@@ -56,8 +56,8 @@ body_read : (s : ServerState) → IsGoodServer s → (m : Message) (sent rest : 
 body_read s good m sent rest request tag body read =
     let ask = request.askable in
     let law : frame_within s.msize sent ≡ Ok ((0, Ok m), []) =
-        ap (frame_within s.msize) request.spelled
-        ∙ frame_read m s.msize ask.spells ask.readable ask.short good.below in
+    ap (frame_within s.msize) request.spelled
+    ∙ frame_read m s.msize ask.spells ask.readable ask.short good.below in
     same_body tag 0 body (Ok m) rest [] (sym read ∙ law)
 
 module _ (old new : Moment) (good : IsGoodServer old.state) (m : Message) (sent rest : List ℕ)
@@ -69,8 +69,8 @@ module _ (old new : Moment) (good : IsGoodServer old.state) (m : Message) (sent 
   replied before after bytes empty grew r =
       let body = body_read old.state good m sent rest request r.tag r.body r.read in
       let outcome : Outcome old.state m r.reply new.state old.faults new.faults =
-          subst (λ b. BodyOutcome old.state b r.reply new.state old.faults new.faults) body
-          r.outcome in
+      subst (λ b. BodyOutcome old.state b r.reply new.state old.faults new.faults) body
+      r.outcome in
       record {
         tag = r.tag;
         reply = r.reply;
@@ -95,7 +95,7 @@ module _ (old new : Moment) (good : IsGoodServer old.state) (m : Message) (sent 
     left_by InvalidInput h = absurd h.answer
     left_by NoMemory h = ⊎_elim (λ same. unchanged_left old.state m new.state same)
         (λ x. let is : ◌≡◌ {A = Result Message WireError} (Ok x.1) (Ok m) =
-            body_read old.state good m sent rest request x.0 (Ok x.1) x.2 in
+        body_read old.state good m sent rest request x.0 (Ok x.1) x.2 in
         let same : x.1 ≡ m = cc in
         subst (λ (n : Message). IsLeft old.state n new.state) same x.3)
         h.answer.2
@@ -108,9 +108,9 @@ module _ (old new : Moment) (good : IsGoodServer old.state) (m : Message) (sent 
         let r = h.answer.1.2 in
         let body = body_read old.state good m sent rest request r.tag r.body r.read in
         sized_keeps stays (outcome_sized old.state m request.askable.bounded r.reply new.state
-            old.faults new.faults
+        old.faults new.faults
         (subst (λ b. BodyOutcome old.state b r.reply new.state old.faults new.faults) body
-            r.outcome))
+        r.outcome))
 
 -- a reply that is spelled is read back
 reply_read : (r : Reply) → ReplySpells r → IsReadableReply r
@@ -176,7 +176,9 @@ pub exchanged : {E : Type 0} (res : Result Rmessage E) (m : Message) (old new : 
     (bytes : List ℕ) (w : RepliesWith m old.state new.state old.faults new.faults bytes)
     → IfOk res (λ x. reply_of x ≡ w.reply) → AskedOne old new
     → IfOk res (λ x. IsExchanged m (reply_of x) old new)
-exchanged (Ok x) m old new bytes w e asked = record
-    { outcome = subst (λ r. Outcome old.state m r new.state old.faults new.faults) (sym e)
-    w.outcome; asked = asked }
+exchanged (Ok x) m old new bytes w e asked = record {
+  outcome = subst (λ r. Outcome old.state m r new.state old.faults new.faults) (sym e)
+      w.outcome;
+  asked = asked;
+}
 exchanged (Err e) m old new bytes w h asked = tt

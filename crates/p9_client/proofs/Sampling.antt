@@ -11,12 +11,22 @@ use Rattle.fid_model.proofs.Sampling.{qid_of_top}
 use Rattle.p9_client.specs.Opening.{opened_told, opened_by, read_told}
 
 pub open_read : opened_told server 7 (closed 1) 0
-    ≡ (Ok top_qid, record server { fids = insert server.fids 7
-    (record { ino = 1; open_state = Opened 0 false }) })
+    ≡ (
+      Ok top_qid,
+      record server {
+        fids = insert server.fids 7
+            (record { ino = 1; open_state = Opened 0 false });
+      },
+    )
 open_read =
     ap (opened_by server 7 (closed 1) 0) (open_top 0)
-    ∙ ap (λ q. (Ok q, record server { fids = insert server.fids 7
-        (record { ino = 1; open_state = Opened 0 false }) })) qid_of_top
+    ∙ ap (λ q. (
+      Ok q,
+      record server {
+        fids = insert server.fids 7
+            (record { ino = 1; open_state = Opened 0 false });
+      },
+    )) qid_of_top
 
 pub open_written : opened_told server 7 (closed 1) 1 ≡ (Err EISDIR, server)
 open_written = ap (opened_by server 7 (closed 1) 1) (open_top 1)

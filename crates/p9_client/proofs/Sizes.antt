@@ -58,7 +58,7 @@ walk_sized : (s : ServerState) (fid newfid : ℕ) (names : List (List ℕ)) (f :
 walk_sized s fid newfid names None = refl
 walk_sized s fid newfid names (Some f) =
     either_sized s _ ENFILE _ (either_sized s _ EINVAL _
-        (walked_sized s newfid (walk_names s.settings.casefold s.tree names f.ino)))
+    (walked_sized s newfid (walk_names s.settings.casefold s.tree names f.ino)))
 
 opened_sized : (s : ServerState) (fid flags : ℕ) (f : Fid) (told : Result (Unit {0} × Tree) ℕ)
     → (lopen_answer s fid flags f told).1.msize ≡ s.msize
@@ -140,5 +140,11 @@ outcome_sized s m b r s1 f0 f1 o = ⊎_elim (λ e. ap (λ (x : Reply × ServerSt
 -- what always stays, and the size
 pub sized_keeps : {old new : Moment} → Stays old new → new.state.msize ≡ old.state.msize
     → Keeps old new
-sized_keeps h same = record { fixed = h.fixed; sized = same; rises = h.rises; steady =
-    h.steady; steadily = h.steadily }
+sized_keeps h same = record {
+  fixed = h.fixed;
+  sized = same;
+  rises = h.rises;
+  steady =
+      h.steady;
+  steadily = h.steadily;
+}

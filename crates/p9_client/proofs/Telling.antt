@@ -36,11 +36,16 @@ module _ {A : Type 0} {view : Reply → Option (Result A ℕ)} {s : ServerState}
   asks r s1 f0 f1 o given seen = ⊎_elim
       (λ e.
       let same : given ≡ told.0 = same_Some given told.0
-          (sym seen ∙ ap (λ (x : Reply × ServerState). view x.0) e ∙ tells.seen) in
+      (sym seen ∙ ap (λ (x : Reply × ServerState). view x.0) e ∙ tells.seen) in
       let after : s1 ≡ told.1 = ap (λ (x : Reply × ServerState). x.1) e ∙ tells.state in
       inl (λ j. (same j, after j)))
-      (λ h. inr (h.0, same_Some given (Err EIO) (sym seen ∙ tells.hurt r h.1), h.2, tells.leaves
-          s1.tree h.3))
+      (λ h. inr (
+        h.0,
+        same_Some given (Err EIO) (sym seen ∙ tells.hurt r h.1),
+        h.2,
+        tells.leaves
+            s1.tree h.3,
+      ))
       o
 
   -- no reply of another kind comes
@@ -48,7 +53,7 @@ module _ {A : Type 0} {view : Reply → Option (Result A ℕ)} {s : ServerState}
       → ⊥
   no_other r s1 f0 f1 o other = ⊎_elim
       (λ e. let none : Some told.0 ≡ None = sym tells.seen
-          ∙ sym (ap (λ (x : Reply × ServerState). view x.0) e) ∙ other in absurd cc)
+      ∙ sym (ap (λ (x : Reply × ServerState). view x.0) e) ∙ other in absurd cc)
       (λ h. let eio : Some (Err EIO) ≡ None = sym (tells.hurt r h.1) ∙ other in absurd cc)
       o
 
@@ -57,7 +62,7 @@ module _ {A : Type 0} {view : Reply → Option (Result A ℕ)} {s : ServerState}
   unfinished s1 f0 f1 u = ⊎_elim (λ left. tells.leaves s1.tree (front_part s m s1.tree left.1))
       (λ replied. ⊎_elim
       (λ e. subst (λ (x : ServerState). part s.tree x.tree)
-          (sym (ap (λ (x : Reply × ServerState). x.1) e ∙ tells.state)) tells.whole)
+      (sym (ap (λ (x : Reply × ServerState). x.1) e ∙ tells.state)) tells.whole)
       (λ h. tells.leaves s1.tree h.3)
       replied.1)
       u
@@ -73,7 +78,7 @@ pub fid_answered : {A : Type 0} {view : Reply → Option (Result A ℕ)}
     {told : ServerState → Fid → Result A ℕ × ServerState} {part : Tree → Tree → Type 0} {fid : ℕ}
     {m : Message} {r : Reply} {old new : Moment} {given : Result A ℕ}
     → FidTells view old.state m told part fid → IsExchanged m r old new → view r ≡ Some given
-        → FidAnswered told part fid given old new
+    → FidAnswered told part fid given old new
 fid_answered {r = r} {old = old} {new = new} {given = given} tells e seen = record {
   asks = λ f known. asks (tells f known) r new.state old.faults new.faults e.outcome given seen;
   asked = e.asked;
@@ -82,10 +87,13 @@ fid_answered {r = r} {old = old} {new = new} {given = given} tells e seen = reco
 pub answered : {A : Type 0} {view : Reply → Option (Result A ℕ)} {told : Result A ℕ × ServerState}
     {part : Tree → Tree → Type 0} {m : Message} {r : Reply} {old new : Moment} {given : Result A ℕ}
     → Tells view old.state m told part → IsExchanged m r old new → view r ≡ Some given
-        → Answered told part given old new
+    → Answered told part given old new
 answered {r = r} {old = old} {new = new} {given = given} tells e seen =
-    record { asks = asks tells r new.state old.faults new.faults e.outcome given seen; asked =
-    e.asked }
+    record {
+      asks = asks tells r new.state old.faults new.faults e.outcome given seen;
+      asked =
+          e.asked;
+    }
 
 -- a fid that is there
 pub fid_at : (o : Option Fid) → IsSome o → (f : Fid) × (o ≡ Some f)

@@ -28,13 +28,13 @@ one_more : (n : ℕ) (fids : Fids) (f : Fid) → HasFids n fids
 one_more n fids f h = record {
   known = λ i low high. ⊎_elim
       (λ e. subst IsSome (sym (ap (map.get (map.insert fids (n + 1) f)) e
-          ∙ inserted fids (n + 1) f)) refl)
+      ∙ inserted fids (n + 1) f)) refl)
       (λ ne. subst IsSome (sym (insert_keeps fids (n + 1) f i ne)) (h.known i low (omega arith)))
       (cases_eq i (n + 1));
   fresh = λ i above. insert_keeps fids (n + 1) f i (λ e. omega arith) ∙ h.fresh i (omega arith);
   count = map.len-insert nat_cmp_total fids (n + 1) f
       ∙ ap (λ (o : Option Fid). cond (is_some o) (map.len fids) (map.len fids + 1))
-          (h.fresh (n + 1) (omega arith))
+      (h.fresh (n + 1) (omega arith))
       ∙ ap (λ k. k + 1) h.count;
 }
 
@@ -58,8 +58,11 @@ module _ (s s1 : ServerState) (f0 f1 : ℕ) where
   module _ (q : Qid) where
     named_fids : (newfid : ℕ) (r : Result ℕ ℕ) → Asks (named s newfid r) Untouched (Ok q) s s1 f0 f1
         → after s newfid s1
-    named_fids newfid (Ok i) h = (closed i, ap (λ (x : Result Qid ℕ × ServerState). x.1.fids)
-        (told_by s s1 f0 f1 (named s newfid (Ok i)) q h))
+    named_fids newfid (Ok i) h = (
+      closed i,
+      ap (λ (x : Result Qid ℕ × ServerState). x.1.fids)
+          (told_by s s1 f0 f1 (named s newfid (Ok i)) q h),
+    )
     named_fids newfid (Err e) h = let bad = ap (λ (x : Result Qid ℕ × ServerState). x.0)
         (told_by s s1 f0 f1 (named s newfid (Err e)) q h) in absurd (cc)
 
@@ -113,8 +116,8 @@ module _ (s s1 : ServerState) (f0 f1 : ℕ) where
     opened_to_read None at some a = absurd (false≢true some)
     opened_to_read (Some f) at some a =
         ap (λ (fids : Fids). is_readable_at (map.get fids 3))
-            (opened_fids (qid_of q) f (open_check_of s.tree f.ino 0)
-            (answered (opened_told s 3 f 0) (a f at)))
+        (opened_fids (qid_of q) f (open_check_of s.tree f.ino 0)
+        (answered (opened_told s 3 f 0) (a f at)))
         ∙ ap is_readable_at (inserted s.fids 3 (opened f 0))
 
     pub opened_readable : HasFids 3 s.fids → ((f : Fid) → map.get s.fids 3 ≡ Some f
@@ -129,10 +132,13 @@ module _ (s s1 : ServerState) (f0 f1 : ℕ) where
       → Asks (copied_told s f.ino 3) Untouched r s s1 f0 f1) → HasFids 3 s1.fids
   copied_by r u is None at some h a = absurd (false≢true some)
   copied_by r u is (Some f) at some h a =
-      made 2 s s1 h (closed f.ino, ap (λ (x : Result (Unit {0}) ℕ × ServerState). x.1.fids)
-          (told_by s s1 f0 f1 (copied_told s f.ino 3) u
-          (subst (λ (r : Result (Unit {0}) ℕ). Asks (copied_told s f.ino 3) Untouched r s s1 f0 f1)
-          is (a f at))))
+      made 2 s s1 h (
+        closed f.ino,
+        ap (λ (x : Result (Unit {0}) ℕ × ServerState). x.1.fids)
+            (told_by s s1 f0 f1 (copied_told s f.ino 3) u
+            (subst (λ (r : Result (Unit {0}) ℕ). Asks (copied_told s f.ino 3) Untouched r s s1 f0 f1)
+            is (a f at))),
+      )
 
   pub copied_fids : (r : Result (Unit {0}) ℕ) (u : Unit {0}) → r ≡ Ok u → HasFids 2 s.fids
       → ((f : Fid) → map.get s.fids 2 ≡ Some f

@@ -24,9 +24,12 @@ same_reply r told e = cc
 
 -- a short reply fits every frame
 pub short_sized : (s0 s1 : ServerState) (r : Reply) → 256 ≤ s0.msize → IsShort r → IsSized s0 s1 r
-short_sized s0 s1 r roomy short = record { fits =
-    record { spells = short.spells; short = (let few = short.short in omega arith) }; room =
-    inl short }
+short_sized s0 s1 r roomy short = record {
+  fits =
+      record { spells = short.spells; short = (let few = short.short in omega arith) };
+  room =
+      inl short;
+}
 
 -- what a step keeps beside its answer
 pub record Kept (old new : Moment) : Type 0 where
@@ -36,18 +39,28 @@ pub record Kept (old new : Moment) : Type 0 where
 
 stays_by : (old new : Moment) → Kept old new → old.faults ≤ new.faults
     → Steadily old.steady old.faults new.faults → Stays old new
-stays_by old new kept rises steadily = record
-    { fixed = kept.settings; sized = (let same = kept.msize in omega arith); rises = rises; steady =
-    kept.steady; steadily = steadily }
+stays_by old new kept rises steadily = record {
+  fixed = kept.settings;
+  sized = (let same = kept.msize in omega arith);
+  rises = rises;
+  steady =
+      kept.steady;
+  steadily = steadily;
+}
 
 module _ {A : Type 0} (m : Message) (reply : A → Reply) (old new : Moment) where
   module _ (stays : Stays old new) where
     replied : (told : Reply) (r : Rmessage) → Outcome old.state m told new.state old.faults
         new.faults → ◌≡◌ {A = Result Reply WireError} (Ok (reply_of r)) (Ok told)
         → IsSized old.state new.state (reply_of r) → Answered (Ok m) old new (Ok r)
-    replied told r outcome is sized = record { answer =
-        (subst (λ (x : Reply). Outcome old.state m x new.state old.faults new.faults)
-        (sym (same_reply r told is)) outcome, sized); stays = stays }
+    replied told r outcome is sized = record {
+      answer = (
+        subst (λ (x : Reply). Outcome old.state m x new.state old.faults new.faults)
+            (sym (same_reply r told is)) outcome,
+        sized,
+      );
+      stays = stays;
+    }
 
     stays_sized : (step : Result A HostError) (result : Result Rmessage WireError)
         → Steps m reply old new step → result_view reply_of result ≡ reply_told reply step
@@ -80,10 +93,16 @@ module _ {A : Type 0} (m : Message) (reply : A → Reply) (old new : Moment) whe
       → 256 ≤ old.state.msize → new.state.settings ≡ old.state.settings
       → new.state.msize ≤ old.state.msize → new.steady ≡ old.steady
       → Steps m reply old new step → result_view reply_of result ≡ reply_told reply step
-          → IfOk result (λ r. IsShort (reply_of r)) → Answered (Ok m) old new result
+      → IfOk result (λ r. IsShort (reply_of r)) → Answered (Ok m) old new result
   answered_smaller step result roomy fixed sized steady s is short =
-      stays_sized (record { fixed = fixed; sized = sized; rises = s.rises; steady =
-      steady; steadily = s.steadily }) step result s is (if_short result roomy short)
+      stays_sized (record {
+        fixed = fixed;
+        sized = sized;
+        rises = s.rises;
+        steady =
+            steady;
+        steadily = s.steadily;
+      }) step result s is (if_short result roomy short)
 
   module _ (kept : Kept old new) where
     -- a short reply
@@ -104,15 +123,23 @@ module _ {A : Type 0} (m : Message) (reply : A → Reply) (old new : Moment) whe
         (if_fits result same fits)
 
 pub stays_refl : (old : Moment) → Stays old old
-stays_refl old = record { fixed = refl; sized = omega arith; rises = omega arith; steady =
-    refl; steadily = λ on. refl }
+stays_refl old = record {
+  fixed = refl;
+  sized = omega arith;
+  rises = omega arith;
+  steady =
+      refl;
+  steadily = λ on. refl;
+}
 
 -- a malformed body
 pub answered_malformed : (fault : WireError) (old : Moment) (r : Rmessage) → 256 ≤ old.state.msize
     → reply_of r ≡ lerror EINVAL → IsShort (reply_of r) → Answered (Err fault) old old (Ok r)
 answered_malformed fault old r roomy is short =
-    record { answer = ((is, refl), short_sized old.state old.state (reply_of r) roomy short);
-    stays = stays_refl old }
+    record {
+      answer = ((is, refl), short_sized old.state old.state (reply_of r) roomy short);
+      stays = stays_refl old;
+    }
 
 -- no step depends on the fields that the server ignores
 pub any_mask : {A : Type 0} (reply : A → Reply) (s0 s1 : ServerState) (steady : Bool)

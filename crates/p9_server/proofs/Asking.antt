@@ -149,7 +149,7 @@ module _ {A B : Type 0} (m : Message) (reply : A → Reply) (view : B → Reply)
   unknown_step is none = passed_on (λ (r : Result A HostError). IsStep m reply s s steady f f r) r e
       passed
       (refused_so m reply view s kept steady (by_fid told (get s.fids n)) is s refl f f EBADF e
-          (by_unknown told (get s.fids n) e none) refl)
+      (by_unknown told (get s.fids n) e none) refl)
 
   -- or it isn't open so
   pub unopened_step : (is_open : OpenState → Bool)
@@ -158,4 +158,4 @@ module _ {A B : Type 0} (m : Message) (reply : A → Reply) (view : B → Reply)
   unopened_step is_open is none = passed_on (λ (r : Result A HostError). IsStep m reply s s steady f
       f r) r e passed
       (refused_so m reply view s kept steady (by_open_fid is_open told (get s.fids n)) is s refl f f
-          EBADF e (by_unopened told is_open (get s.fids n) e none) refl)
+      EBADF e (by_unopened told is_open (get s.fids n) e none) refl)

@@ -40,8 +40,8 @@ core_by s fid (Some e) = (lerror e, s)
 
 core_cases : (s : ServerState) (fid : ℕ) (known full : Bool) →
     cond known (pair (lerror EBADF) s) (cond full (pair (lerror ENFILE) s)
-        (attached_by s fid (root_of s.tree s.settings.root))) ≡ core_by s fid
-        (cond known (Some EBADF) (cond full (Some ENFILE) None))
+    (attached_by s fid (root_of s.tree s.settings.root))) ≡ core_by s fid
+    (cond known (Some EBADF) (cond full (Some ENFILE) None))
 core_cases s fid true full = refl
 core_cases s fid false true = refl
 core_cases s fid false false = refl
@@ -84,7 +84,7 @@ module _ (t : Tree) (fids : Fids) (msize : ℕ) (settings : Settings) (n : ℕ)
     pub attach_failed : t' ≡ t → (e : HostError) → Finds t (root_of t settings.root) (Err e)
         → Causes {A = Attr} steady f0 f1 (Err e)
         → IsStep (attach n 0 [] [] 0) attaches state (server_state t' fids msize settings) steady f0
-            f1 (Err e)
+        f1 (Err e)
     attach_failed same (Errno e) f c = step_refused (attach n 0 [] [] 0) attaches state
         (server_state t' fids msize settings) steady f0 f1 e (core_root (Err e) f.exactly) kept
         (λ j. server_state (same j) fids msize settings) c.counted
@@ -100,15 +100,15 @@ module _ (t : Tree) (fids : Fids) (msize : ℕ) (settings : Settings) (n : ℕ)
       pub attach_done : (q : QidStruct) → fids' ≡ insert fids n (closed a.ino)
           → qid_plain q ≡ qid_of a
           → IsStep (attach n 0 [] [] 0) attaches state (server_state t' fids' msize settings) steady
-              f0 f1 (Ok q)
+          f0 f1 (Ok q)
       attach_done q is seen = step_ok (attach n 0 [] [] 0) attaches state
           (server_state t' fids' msize settings) steady f0 f1 q
           ((λ j. pair (attached ((seen ∙ sym (ap qid_told finds.exactly.1)) j))
-              (server_state (swept j) fids' msize settings))
+          (server_state (swept j) fids' msize settings))
           ∙ (λ j. pair (attached (qid_told (stat_of t a.ino)))
-              (kept_state (server_state t (is j) msize settings)))
+          (kept_state (server_state t (is j) msize settings)))
           ∙ sym (ap (λ (x : Reply × ServerState). pair x.0 (kept_state x.1))
-              (core_root (Ok a.ino) finds.exactly.0))) count
+          (core_root (Ok a.ino) finds.exactly.0))) count
 
       pub attach_no_memory : (e : HostError) → fids' ≡ fids
           → ◌≡◌ {A = Result (Unit {0}) HostError} (Err e) (Err NoMemory)
@@ -117,10 +117,10 @@ module _ (t : Tree) (fids : Fids) (msize : ℕ) (settings : Settings) (n : ℕ)
       attach_no_memory e is none =
           let memory : e ≡ NoMemory = cc in
           let same : server_state t' fids' msize settings ≡ state =
-              (λ j. server_state (swept j) fids' msize settings)
-              ∙ (λ j. kept_state (server_state t (is j) msize settings))
-              ∙ kept_state_kept state kept in
+          (λ j. server_state (swept j) fids' msize settings)
+          ∙ (λ j. kept_state (server_state t (is j) msize settings))
+          ∙ kept_state_kept state kept in
           subst (λ (d : HostError). IsStep (attach n 0 [] [] 0) attaches state
-              (server_state t' fids' msize settings) steady f0 f1 (Err d)) (sym memory)
+          (server_state t' fids' msize settings) steady f0 f1 (Err d)) (sym memory)
           (step_no_memory (attach n 0 [] [] 0) attaches state (server_state t' fids' msize settings)
-              steady f0 f1 same count)
+          steady f0 f1 same count)

@@ -36,12 +36,12 @@ module _ (h : Holds) (fids : Fids) (msize : ℕ) (settings : Settings)
   pub absent_step : None ≡ get fids n → (fids' : Fids) → fids' ≡ remove fids n → (t : Tree)
       → IsKept t.records (is_named fids) → (steady : Bool) (f : ℕ)
       → IsStep {A = Unit {0}} (clunk n) (λ _. clunked) (server_state t fids msize settings)
-          (server_state t fids' msize settings) steady f f (Err (Errno EBADF))
+      (server_state t fids' msize settings) steady f f (Err (Errno EBADF))
   absent_step none fids' is t kept steady f =
       step_refused (clunk n) (λ _. clunked) (server_state t fids msize settings)
       (server_state t fids' msize settings) steady f f EBADF
       (ap (clunk_by (server_state t fids msize settings) n) (sym none)) kept
-          (λ j. server_state t ((is ∙ remove_absent fids n (sym none)) j) msize settings) refl
+      (λ j. server_state t ((is ∙ remove_absent fids n (sym none)) j) msize settings) refl
 
   module _ (f : Fid) (at : Some f ≡ get fids n) where
     pub gone_held : (ino : ℕ) → ino ≡ f.ino → 0 < hold_count h ino
@@ -53,7 +53,7 @@ module _ (h : Holds) (fids : Fids) (msize : ℕ) (settings : Settings)
       fewer : (i : ℕ) → hold_count h' i ≡ fid_count (remove fids n) i
       fewer i =
           let had = (less_counts_of h h' f.ino (gone_held f.ino refl)
-              (less ∙ ap (held_less h) is)).counts i in
+          (less ∙ ap (held_less h) is)).counts i in
           let gone = fid_count-gone fids n f (sym at) i in
           let same = sound.held i in
           omega arith
@@ -67,18 +67,25 @@ module _ (h : Holds) (fids : Fids) (msize : ℕ) (settings : Settings)
           omega arith
 
       pub gone_sound : IsSound h' fids' msize settings
-      gone_sound = record { held = subst (AreFids h') (sym rest) fewer; few = fewer_fids; bounded =
-          sound.bounded; roomy = sound.roomy; below = sound.below; plain = sound.plain }
+      gone_sound = record {
+        held = subst (AreFids h') (sym rest) fewer;
+        few = fewer_fids;
+        bounded =
+            sound.bounded;
+        roomy = sound.roomy;
+        below = sound.below;
+        plain = sound.plain;
+      }
 
       pub gone_step : (t t' : Tree) → t' ≡ keep (is_held h') t → (steady : Bool) (f0 f1 : ℕ)
           → f1 ≡ f0
           → IsStep (clunk n) (λ _. clunked) (server_state t fids msize settings)
-              (server_state t' fids' msize settings) steady f0 f1 (Ok (tt {0}))
+          (server_state t' fids' msize settings) steady f0 f1 (Ok (tt {0}))
       gone_step t t' swept steady f0 f1 count =
           step_ok (clunk n) (λ _. clunked) (server_state t fids msize settings)
           (server_state t' fids' msize settings) steady f0 f1 tt
           ((λ j. pair clunked (server_state ((swept ∙ keep_named h' fids' gone_sound.held t) j)
-              fids' msize settings))
+          fids' msize settings))
           ∙ (λ j. pair clunked (kept_state (server_state t (rest j) msize settings)))
           ∙ ap (λ (o : Option Fid). pair (clunk_by (server_state t fids msize settings) n o).0
-              (kept_state (clunk_by (server_state t fids msize settings) n o).1)) at) count
+          (kept_state (clunk_by (server_state t fids msize settings) n o).1)) at) count

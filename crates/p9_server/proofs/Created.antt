@@ -38,14 +38,14 @@ directory_by : (i : ℕ) (o : Option Record) (a : Attr) → attr_or_missing i o 
 directory_by i None a is = absurd (cc)
 directory_by i (Some r) a is = by_body r.body refl
     ∙ ap (λ (b : Attr). is_directory_kind b.kind) (let same : attr_of i r ≡ a = cc in same) where
-  by_body : (b : Body) → r.body ≡ b → is_directory_at (Some r.body) ≡ is_directory_kind
-      (attr_of i r).kind
-  by_body (File bytes) is = ap (λ (b : Body). is_directory_at (Some b)) is
-      ∙ sym (ap (λ (b : Body). is_directory_kind (attr_of i (record r { body = b })).kind) is)
-  by_body (Directory es next above) is = ap (λ (b : Body). is_directory_at (Some b)) is
-      ∙ sym (ap (λ (b : Body). is_directory_kind (attr_of i (record r { body = b })).kind) is)
-  by_body (Link target) is = ap (λ (b : Body). is_directory_at (Some b)) is
-      ∙ sym (ap (λ (b : Body). is_directory_kind (attr_of i (record r { body = b })).kind) is)
+      by_body : (b : Body) → r.body ≡ b → is_directory_at (Some r.body) ≡ is_directory_kind
+          (attr_of i r).kind
+      by_body (File bytes) is = ap (λ (b : Body). is_directory_at (Some b)) is
+          ∙ sym (ap (λ (b : Body). is_directory_kind (attr_of i (record r { body = b })).kind) is)
+      by_body (Directory es next above) is = ap (λ (b : Body). is_directory_at (Some b)) is
+          ∙ sym (ap (λ (b : Body). is_directory_kind (attr_of i (record r { body = b })).kind) is)
+      by_body (Link target) is = ap (λ (b : Body). is_directory_at (Some b)) is
+          ∙ sym (ap (λ (b : Body). is_directory_kind (attr_of i (record r { body = b })).kind) is)
 
 -- an attribute tells a directory
 pub told_directory : (t : Tree) (i : ℕ) (a : Attr) → stat_of t i ≡ Ok a
@@ -72,7 +72,7 @@ module _ (t : Tree) (good : IsGoodTree t) (dir : ℕ) (name : List ℕ) (mode in
       (sym (made_by (create_refused t dir name) t.next ino
       (with_new t dir name (empty_file t.moment mode)) u made).1)
       (with_new_kept t good dir name (empty_file t.moment mode)
-          (new_file t.moment mode dir good.moment) free fine held held (λ q ne. refl) kept)
+      (new_file t.moment mode dir good.moment) free fine held held (λ q ne. refl) kept)
 
   -- the directory is linked
   pub created_linked : is_linked t.records dir ≡ true
@@ -94,11 +94,11 @@ pub kept_without : (t : Tree) (fids : Fids) (n : ℕ) (old new : Fid) → get fi
     → IsKept t.records (is_named (insert fids n new))
 kept_without t fids n old new at linked kept q stored = ⊎_elim
     (λ same. or_true (is_linked t.records q) (is_named (insert fids n new) q)
-        (ap (is_linked t.records) same ∙ linked))
+    (ap (is_linked t.records) same ∙ linked))
     (λ other. or_more (is_linked t.records q) (is_named fids q) (is_named (insert fids n new) q)
     (λ named. let step = fid_count-replaced fids n new old at q in let none : fid_weight q old ≡ 0 =
-        not_own other in more (fid_count fids q) (fid_count (insert fids n new) q) (omega arith)
-        named) (kept q stored))
+    not_own other in more (fid_count fids q) (fid_count (insert fids n new) q) (omega arith)
+    named) (kept q stored))
     (cases_eq q old.ino) where
       not_own : q ≢ old.ino → fid_weight q old ≡ 0
       not_own other = grind (arith, nat_tests)
@@ -135,9 +135,13 @@ module _ (t : Tree) (dir : ℕ) (name : List ℕ) (flags mode : ℕ) where
     pub uncreated : (t1 u : Tree) → t1 ≡ t → (e : HostError)
         → Leaves {A = ℕ} (create_of t1 dir name mode) t1 u (Err e)
         → Creates t u dir name flags mode (Err e)
-    uncreated t1 u same (Errno e) l = record { exactly =
-        (made_so ∙ ap (λ (v : Tree). create_of v dir name mode) (sym same)
-        ∙ l.exactly.0, l.exactly.1 ∙ same) }
+    uncreated t1 u same (Errno e) l = record {
+      exactly = (
+        made_so ∙ ap (λ (v : Tree). create_of v dir name mode) (sym same)
+            ∙ l.exactly.0,
+        l.exactly.1 ∙ same,
+      );
+    }
     uncreated t1 u same Fault l = record { exactly = inl (l.exactly ∙ same) }
     uncreated t1 u same NoMemory l = record { exactly = l.exactly ∙ same }
 
@@ -151,13 +155,22 @@ module _ (t : Tree) (dir : ℕ) (name : List ℕ) (flags mode : ℕ) where
           → IfOk r (λ a. stat_of u ino ≡ Ok a) → OnErr r (r ≡ Err Fault)
           → Creates t v dir name flags mode r
       created_told v left (Ok a) told fault =
-          record { exactly = (created_so ∙ (λ j. let x : Result (ℕ × Tree) ℕ =
-          Ok (sym (told_ino u ino a told) j, sym left j) in x),
-          (λ j. stat_of (left j) (told_ino u ino a told j)) ∙ told) }
+          record {
+            exactly = (
+              created_so ∙ (λ j. let x : Result (ℕ × Tree) ℕ =
+                  Ok (sym (told_ino u ino a told) j, sym left j) in x),
+              (λ j. stat_of (left j) (told_ino u ino a told j)) ∙ told,
+            );
+          }
       created_told v left (Err e) told fault = let is : e ≡ Fault =
           cc in subst (λ (e : HostError). Creates t v dir name flags mode (Err e)) (sym is)
-          (record { exactly = inr (ino, created_so
-              ∙ (λ j. let x : Result (ℕ × Tree) ℕ = Ok (ino, sym left j) in x)) })
+          (record {
+            exactly = inr (
+              ino,
+              created_so
+                  ∙ (λ j. let x : Result (ℕ × Tree) ℕ = Ok (ino, sym left j) in x),
+            );
+          })
 
 -- the name of a file that an open makes has no fault
 pub fine_name : (in_directory : Bool) (name : List ℕ) (flags : ℕ)
@@ -173,12 +186,12 @@ pub still_created : (t u v : Tree) (h0 h1 h2 : Holds) (ino : ℕ) → h1 ≡ hel
     → (dir : ℕ) (name : List ℕ) (mode : ℕ) → IsGoodTree t → name_fault name ≡ None
     → create_of t dir name mode ≡ Ok (ino, u) → IsKept t.records (is_held h0)
     → (r : Result Attr HostError) → OnOk r (v ≡ u) → OnErr r (h2 ≡ held_less h1 ino)
-        → OnErr r (IsKept u.records (is_held h2) → v ≡ u) → v ≡ u
+    → OnErr r (IsKept u.records (is_held h2) → v ≡ u) → v ≡ u
 still_created t u v h0 h1 h2 ino more dir name mode good fine made kept (Ok a) ok less stays = ok
 still_created t u v h0 h1 h2 ino more dir name mode good fine made kept (Err e) ok less stays =
     stays (created_kept t good dir name mode ino u fine made (is_held h2)
-        (kept_more t h0 h2 kept (λ i.
+    (kept_more t h0 h2 kept (λ i.
     let up = (more_counts_of h0 h1 ino more).counts i in
     let down = (less_counts_of h1 h2 ino (more_held h0 h1 ino (more_counts_of h0 h1 ino more))
-        less).counts i in
+    less).counts i in
     omega arith)))

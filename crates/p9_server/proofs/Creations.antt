@@ -61,7 +61,7 @@ module _ (h : Holds) (fids : Fids) (msize : ℕ) (settings : Settings)
         let down = (less_counts_of h1 h2 dir held less).counts i in
         let step = fid_count-replaced fids n (opened (closed ino) flags) f.0 f.1 i in
         let own : fid_weight i f.0 ≡ cond (dir == i) 1 0 =
-            ap (λ (k : ℕ). cond {A = ℕ} (k == i) 1 0) f.2 in
+        ap (λ (k : ℕ). cond {A = ℕ} (k == i) 1 0) f.2 in
         let same = ap (λ (m : Fids). fid_count m i) is in
         let here = sound.held i in
         omega arith
@@ -71,12 +71,19 @@ module _ (h : Holds) (fids : Fids) (msize : ℕ) (settings : Settings)
         let f = named fids n dir known in
         let there : contains_key fids n ≡ true = ap is_some f.1 in
         ap len is ∙ len-insert nat_cmp_total fids n (opened (closed ino) flags)
-            ∙ ap (λ b. cond b (len fids) (len fids + 1)) there
+        ∙ ap (λ b. cond b (len fids) (len fids + 1)) there
 
     pub moved_sound : IsSound h2 fids' msize settings
-    moved_sound = record { held = moved_held; few =
-        (let few = sound.few in let same = moved_len in omega arith); bounded =
-        sound.bounded; roomy = sound.roomy; below = sound.below; plain = sound.plain }
+    moved_sound = record {
+      held = moved_held;
+      few =
+          (let few = sound.few in let same = moved_len in omega arith);
+      bounded =
+          sound.bounded;
+      roomy = sound.roomy;
+      below = sound.below;
+      plain = sound.plain;
+    }
 
     pub moved_tree : (u v : Tree) → v ≡ keep (is_held h2) u
         → v ≡ keep (is_named (insert fids n (opened (closed ino) flags))) u
@@ -98,9 +105,9 @@ module _ (t : Tree) (fids : Fids) (msize : ℕ) (settings : Settings) (n : ℕ) 
   unknown_step f e is =
       let none = by_unknown asked (get fids n) e is in
       subst (λ (e : HostError). IsStep (lcreate n name flags mode gid) creates state state steady f
-          f (Err e)) (sym none.1)
+      f (Err e)) (sym none.1)
       (step_refused (lcreate n name flags mode gid) creates state state steady f f EBADF
-          (ap (lcreate_answer state n flags) none.0) kept refl refl)
+      (ap (lcreate_answer state n flags) none.0) kept refl refl)
 
   module _ (dir : ℕ) (known : Ok dir ≡ ino_told (get fids n)) (u : Tree) (f0 f1 : ℕ) where
     core_is : (r : Result (ℕ × Tree) ℕ) → new_file_of t dir name flags mode ≡ r
@@ -108,7 +115,7 @@ module _ (t : Tree) (fids : Fids) (msize : ℕ) (settings : Settings) (n : ℕ) 
     core_is r is =
         let f = by_known asked (get fids n) dir known in
         ap (lcreate_answer state n flags) (f.2 ∙ ap (λ (i : ℕ). new_file_of t i name flags mode) f.3
-            ∙ is)
+        ∙ is)
 
     abbrev with_file : ℕ → Fids
     with_file ino = insert fids n (opened (closed ino) flags)
@@ -131,20 +138,20 @@ module _ (t : Tree) (fids : Fids) (msize : ℕ) (settings : Settings) (n : ℕ) 
         → keep (is_named (with_file ino)) u ≡ u
     all_kept good ino is = by_refusal (new_file_refused (is_directory_at (body_at t.records dir))
         name flags) refl where
-      by_refusal : (o : Option ℕ) → new_file_refused (is_directory_at (body_at t.records dir)) name
-          flags ≡ o → keep (is_named (with_file ino)) u ≡ u
-      by_refusal (Some e) other = absurd (let wrong : Err e ≡ Ok (ino, u) =
-          sym (ap (λ o. unless_some o (create_of t dir name mode)) other) ∙ is in cc)
-      by_refusal None free =
-          let made : create_of t dir name mode ≡ Ok (ino, u) =
+          by_refusal : (o : Option ℕ) → new_file_refused (is_directory_at (body_at t.records dir)) name
+              flags ≡ o → keep (is_named (with_file ino)) u ≡ u
+          by_refusal (Some e) other = absurd (let wrong : Err e ≡ Ok (ino, u) =
+              sym (ap (λ o. unless_some o (create_of t dir name mode)) other) ∙ is in cc)
+          by_refusal None free =
+              let made : create_of t dir name mode ≡ Ok (ino, u) =
               sym (ap (λ o. unless_some o (create_of t dir name mode)) free) ∙ is in
-          let fine = fine_name (is_directory_at (body_at t.records dir)) name flags (ap unless free)
+              let fine = fine_name (is_directory_at (body_at t.records dir)) name flags (ap unless free)
               in
-          let f = named fids n dir known in
-          let linked = created_linked t good dir name mode ino u fine made in
-          keep_same u (is_named (with_file ino))
+              let f = named fids n dir known in
+              let linked = created_linked t good dir name mode ino u fine made in
+              keep_same u (is_named (with_file ino))
               (created_kept t good dir name mode ino u fine made (is_named (with_file ino))
-          (kept_without t fids n f.0 (opened (closed ino) flags) f.1
+              (kept_without t fids n f.0 (opened (closed ino) flags) f.1
               (ap (is_linked t.records) f.2 ∙ linked) kept))
 
     part : IsGoodTree t → (u ≡ t) ⊎ ((ino : ℕ) × (new_file_of t dir name flags mode ≡ Ok (ino, u)))
@@ -158,9 +165,13 @@ module _ (t : Tree) (fids : Fids) (msize : ℕ) (settings : Settings) (n : ℕ) 
         → IsStep (lcreate n name flags mode gid) creates state stayed steady f0 f1 (Err e)
     failed_step good (Errno e) o c = step_refused (lcreate n name flags mode gid) creates state
         stayed steady f0 f1 e (core_is (Err e) o.exactly.0) kept (stayed_same o.exactly.1) c.counted
-    failed_step good Fault o c = record { answer =
-        inr (c.counted.0.1, refl, refl, part good o.exactly); rises = c.counted.0.0; steadily =
-        not_steady steady f0 f1 c.counted.1 }
+    failed_step good Fault o c = record {
+      answer =
+          inr (c.counted.0.1, refl, refl, part good o.exactly);
+      rises = c.counted.0.0;
+      steadily =
+          not_steady steady f0 f1 c.counted.1;
+    }
     failed_step good NoMemory o c = step_no_memory (lcreate n name flags mode gid) creates state
         stayed steady f0 f1 (stayed_same o.exactly) c.counted
 
@@ -168,10 +179,10 @@ module _ (t : Tree) (fids : Fids) (msize : ℕ) (settings : Settings) (n : ℕ) 
         → qid_plain q ≡ attr_qid a → (fids' : Fids) → fids' ≡ with_file a.ino → (v : Tree)
         → v ≡ keep (is_named (with_file a.ino)) u → f1 ≡ f0
         → IsStep (lcreate n name flags mode gid) creates state (server_state v fids' msize settings)
-            steady f0 f1 (Ok q)
+        steady f0 f1 (Ok q)
     created_step q a o seen fids' is v swept count =
         step_ok (lcreate n name flags mode gid) creates state (server_state v fids' msize settings)
         steady f0 f1 q
         ((λ j. pair (r_lcreate ((seen ∙ sym (ap qid_told o.exactly.1)) j) 0)
-            (server_state (swept j) (is j) msize settings))
-            ∙ sym (created_answer a.ino o.exactly.0)) count
+        (server_state (swept j) (is j) msize settings))
+        ∙ sym (created_answer a.ino o.exactly.0)) count

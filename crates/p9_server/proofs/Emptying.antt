@@ -39,9 +39,11 @@ or_false false = refl
 
 -- what no fid holds is kept where it is linked
 pub keep_linked : (t : Tree) → keep (is_named empty) t ≡ linked t
-keep_linked t = λ j. record t { records = retain_keys t.records
-    (λ i. (ap (λ n. is_linked t.records i || nat_lt 0 n) (no_fid i)
-    ∙ or_false (is_linked t.records i)) j) }
+keep_linked t = λ j. record t {
+  records = retain_keys t.records
+      (λ i. (ap (λ n. is_linked t.records i || nat_lt 0 n) (no_fid i)
+      ∙ or_false (is_linked t.records i)) j);
+}
 
 roomy_by : (small : Bool) (msize : ℕ) (o : Option ConfigError) → nat_lt msize 256 ≡ small
     → None ≡ cond small (Some MsizeTooSmall) o → 256 ≤ msize

@@ -27,11 +27,11 @@ pub more_counts : (h : Holds) (i : ℕ) → IsMore h (held_more h i) i
 more_counts h i = record {
   counts = λ q. ⊎_elim
       (λ is. own i q (hold_count (held_more h i) q) (hold_count h q) is
-          (ap (hold_count (held_more h i)) is
-          ∙ count_at (held_more h i) i _ (inserted h i (hold_count h i + 1))
-          ∙ ap (λ j. hold_count h j + 1) (sym is)))
+      (ap (hold_count (held_more h i)) is
+      ∙ count_at (held_more h i) i _ (inserted h i (hold_count h i + 1))
+      ∙ ap (λ j. hold_count h j + 1) (sym is)))
       (λ ne. other i q (hold_count (held_more h i) q) (hold_count h q) ne
-          (ap (λ o. unwrap_or o 0) (insert_keeps h i (hold_count h i + 1) q ne)))
+      (ap (λ o. unwrap_or o 0) (insert_keeps h i (hold_count h i + 1) q ne)))
       (cases_eq q i);
 }
 
@@ -53,10 +53,10 @@ pub less_counts : (h : Holds) (i : ℕ) → 0 < hold_count h i → IsMore (held_
 less_counts h i some = record {
   counts = λ q. ⊎_elim
       (λ is. own i q (hold_count h q) (hold_count (held_less h i) q) is
-          (ap (hold_count h) is ∙ less_at (nat_lt 1 (hold_count h i)) h i some refl
-          ∙ ap (λ j. hold_count (held_less h i) j + 1) (sym is)))
+      (ap (hold_count h) is ∙ less_at (nat_lt 1 (hold_count h i)) h i some refl
+      ∙ ap (λ j. hold_count (held_less h i) j + 1) (sym is)))
       (λ ne. other i q (hold_count h q) (hold_count (held_less h i) q) ne
-          (less_there (nat_lt 1 (hold_count h i)) h i q ne))
+      (less_there (nat_lt 1 (hold_count h i)) h i q ne))
       (cases_eq q i);
 }
 

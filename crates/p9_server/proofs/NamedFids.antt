@@ -47,7 +47,7 @@ new_kept : (t : Tree) (fids : Fids) (n : ℕ) (f : Fid) → get fids n ≡ None
 new_kept t fids n f none kept q stored = either (is_linked t.records q) (is_named fids q)
     (is_named (insert fids n f) q)
     (more (fid_count fids q) (fid_count (insert fids n f) q) (fid_weight q f)
-        (fid_count-new fids n f none q)) (kept q stored)
+    (fid_count-new fids n f none q)) (kept q stored)
 
 module _ (h : Holds) (fids : Fids) (n ino : ℕ)
     (held : (i : ℕ) → hold_count h i ≡ fid_count fids i + cond (ino == i) 1 0) where
@@ -93,7 +93,7 @@ module _ (h : Holds) (fids : Fids) (n ino : ℕ)
           let now = fid_count-replaced fids n (closed ino) f.0 f.1 i in
           let same = ap (λ (f : Fids). fid_count f i) is in
           let own : fid_weight i f.0 ≡ cond (old == i) 1 0 =
-              ap (λ (k : ℕ). cond {A = ℕ} (k == i) 1 0) f.2 in
+          ap (λ (k : ℕ). cond {A = ℕ} (k == i) 1 0) f.2 in
           omega arith
 
 -- ---- the server's holds
@@ -113,8 +113,15 @@ module _ (h : Holds) (fids : Fids) (msize : ℕ) (settings : Settings)
   sound_roomy i = let room = sound_room i in omega arith
 
   pub sound_same : (h' : Holds) → IsSame h h' → IsSound h' fids msize settings
-  sound_same h' same = record { held = λ i. same.counts i ∙ sound.held i; few = sound.few; bounded =
-      sound.bounded; roomy = sound.roomy; below = sound.below; plain = sound.plain }
+  sound_same h' same = record {
+    held = λ i. same.counts i ∙ sound.held i;
+    few = sound.few;
+    bounded =
+        sound.bounded;
+    roomy = sound.roomy;
+    below = sound.below;
+    plain = sound.plain;
+  }
 
   -- one hold more, for the fid that is to come
   pub sound_more : (h' : Holds) (ino : ℕ) → IsMore h h' ino → (i : ℕ)
@@ -124,8 +131,15 @@ module _ (h : Holds) (fids : Fids) (msize : ℕ) (settings : Settings)
 
   pub sound_with : (h' : Holds) (fids' : Fids) → AreFids h' fids' → len fids' ≤ settings.limit
       → IsSound h' fids' msize settings
-  sound_with h' fids' held few = record { held = held; few = few; bounded = sound.bounded; roomy =
-      sound.roomy; below = sound.below; plain = sound.plain }
+  sound_with h' fids' held few = record {
+    held = held;
+    few = few;
+    bounded = sound.bounded;
+    roomy =
+        sound.roomy;
+    below = sound.below;
+    plain = sound.plain;
+  }
 
   few_by : (b : Bool) (n l m : ℕ) → n ≤ l → (b ≡ false → n < l) → m ≡ cond b n (n + 1) → m ≤ l
   few_by true n l m few below is = omega arith

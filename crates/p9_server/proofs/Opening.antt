@@ -42,8 +42,12 @@ use Rattle.p9_server.proofs.Stepping.{pair, not_steady, step_ok, step_refused, s
 pub first_refused : (t u : Tree) (ino flags : ℕ) (e : HostError) → u ≡ t
     → Answers {A = Unit {0}} (open_check_of t ino flags) (Err e) → Opens t u ino flags (Err e)
 first_refused t u ino flags (Errno e) same a =
-    record { exactly = (ap (λ (r : Result (Unit {0}) ℕ). emptied_where r t ino flags) a.exactly,
-    same) }
+    record {
+      exactly = (
+        ap (λ (r : Result (Unit {0}) ℕ). emptied_where r t ino flags) a.exactly,
+        same,
+      );
+    }
 first_refused t u ino flags Fault same a = record { exactly = inl same }
 first_refused t u ino flags NoMemory same a = record { exactly = same }
 
@@ -64,16 +68,23 @@ module _ (t u : Tree) (ino flags : ℕ) (may : open_check_of t ino flags ≡ Ok 
       → (result : Result Attr HostError) → Answers (stat_of u ino) result
       → (result ≡ Err NoMemory → ⊥) → Opens t u' ino flags result
   then_told l h stored held u' same (Ok a) s free =
-      record { exactly = (opens_so ∙ l.exactly
-      ∙ (λ j. let r : Result (Unit {0} × Tree) ℕ = Ok (tt, sym same j) in r), ap
-      (λ (v : Tree). stat_of v ino) same ∙ s.exactly) }
+      record {
+        exactly = (
+          opens_so ∙ l.exactly
+              ∙ (λ j. let r : Result (Unit {0} × Tree) ℕ = Ok (tt, sym same j) in r),
+          ap
+              (λ (v : Tree). stat_of v ino) same ∙ s.exactly,
+        );
+      }
   then_told l h stored held u' same (Err (Errno e)) s free =
       absurd (cc_errno (only_fault u h ino stored held (Errno e) s free)) where
-    cc_errno : ◌≡◌ {A = Result Attr HostError} (Err (Errno e)) (Err Fault) → ⊥
-    cc_errno is = cc
+        cc_errno : ◌≡◌ {A = Result Attr HostError} (Err (Errno e)) (Err Fault) → ⊥
+        cc_errno is = cc
   then_told l h stored held u' same (Err Fault) s free =
-      record { exactly = inr (opens_so ∙ l.exactly
-      ∙ (λ j. let r : Result (Unit {0} × Tree) ℕ = Ok (tt, sym same j) in r)) }
+      record {
+        exactly = inr (opens_so ∙ l.exactly
+            ∙ (λ j. let r : Result (Unit {0} × Tree) ℕ = Ok (tt, sym same j) in r));
+      }
   then_told l h stored held u' same (Err NoMemory) s free = absurd (free refl)
 
 -- ---- the fids
@@ -84,7 +95,7 @@ module _ (fids : Fids) (n ino flags : ℕ) (known : Ok ino ≡ ino_told (get fid
       let f = named fids n ino known in
       let step = fid_count-replaced fids n (opened (closed ino) flags) f.0 f.1 i in
       let weight : fid_weight i f.0 ≡ fid_weight i (opened (closed ino) flags) =
-          ap (λ (k : ℕ). cond {A = ℕ} (k == i) 1 0) f.2 in
+      ap (λ (k : ℕ). cond {A = ℕ} (k == i) 1 0) f.2 in
       omega arith
 
   same_len : len (insert fids n (opened (closed ino) flags)) ≡ len fids
@@ -92,7 +103,7 @@ module _ (fids : Fids) (n ino flags : ℕ) (known : Ok ino ≡ ino_told (get fid
       let f = named fids n ino known in
       let there : contains_key fids n ≡ true = ap is_some f.1 in
       len-insert nat_cmp_total fids n (opened (closed ino) flags)
-          ∙ ap (λ b. cond b (len fids) (len fids + 1)) there
+      ∙ ap (λ b. cond b (len fids) (len fids + 1)) there
 
   pub opened_sound : (h h' : Holds) → h' ≡ h → (msize : ℕ) (settings : Settings)
       → IsSound h fids msize settings → (fids' : Fids)
@@ -127,9 +138,9 @@ module _ (t : Tree) (fids : Fids) (msize : ℕ) (settings : Settings) (n flags :
   unknown_step f e is =
       let none = unnamed fids n e is in
       subst (λ (e : HostError). IsStep (lopen n flags) opens state state steady f f (Err e))
-          (sym none.1)
+      (sym none.1)
       (step_refused (lopen n flags) opens state state steady f f EBADF
-          (ap (lopen_by state n flags) none.0) kept refl refl)
+      (ap (lopen_by state n flags) none.0) kept refl refl)
 
   module _ (ino : ℕ) (known : Ok ino ≡ ino_told (get fids n)) (t' : Tree)
       (kept' : IsKept t'.records (is_named fids)) (f0 f1 : ℕ) where
@@ -138,11 +149,14 @@ module _ (t : Tree) (fids : Fids) (msize : ℕ) (settings : Settings) (n flags :
     core_is r is =
         let f = named fids n ino known in
         ap (lopen_by state n flags) f.1 ∙ ap (λ (i : ℕ). lopen_answer state n flags f.0
-            (open_of t i flags)) f.2 ∙ ap (lopen_answer state n flags f.0) is
+        (open_of t i flags)) f.2 ∙ ap (lopen_answer state n flags f.0) is
 
     own : opened (named fids n ino known).0 flags ≡ opened (closed ino) flags
-    own j = opened (record { ino = (named fids n ino known).2 j; open_state =
-        (closed ino).open_state }) flags
+    own j = opened (record {
+      ino = (named fids n ino known).2 j;
+      open_state =
+          (closed ino).open_state;
+    }) flags
 
     abbrev after : ServerState
     after = server_state t' (insert fids n (opened (closed ino) flags)) msize settings
@@ -153,9 +167,9 @@ module _ (t : Tree) (fids : Fids) (msize : ℕ) (settings : Settings) (n flags :
     opened_answer is =
         ap (λ (x : Reply × ServerState). pair x.0 (kept_state x.1)) (core_is (Ok (tt, t')) is)
         ∙ (λ j. pair (r_lopen (qid_told (stat_of t' ((named fids n ino known).2 j))) 0)
-            (kept_state (server_state t' (insert fids n (own j)) msize settings)))
+        (kept_state (server_state t' (insert fids n (own j)) msize settings)))
         ∙ (λ j. pair (r_lopen (qid_told (stat_of t' ino)) 0)
-            (kept_state_kept after (still_kept fids n ino flags known t' kept') j))
+        (kept_state_kept after (still_kept fids n ino flags known t' kept') j))
 
     abbrev stayed : ServerState
     stayed = server_state t' fids msize settings
@@ -173,9 +187,13 @@ module _ (t : Tree) (fids : Fids) (msize : ℕ) (settings : Settings) (n flags :
         → IsStep (lopen n flags) opens state stayed steady f0 f1 (Err e)
     failed_step (Errno e) o c = step_refused (lopen n flags) opens state stayed steady f0 f1 e
         (core_is (Err e) o.exactly.0) kept (stayed_same o.exactly.1) c.counted
-    failed_step Fault o c = record { answer =
-        inr (c.counted.0.1, refl, refl, part o.exactly); rises = c.counted.0.0; steadily =
-        not_steady steady f0 f1 c.counted.1 }
+    failed_step Fault o c = record {
+      answer =
+          inr (c.counted.0.1, refl, refl, part o.exactly);
+      rises = c.counted.0.0;
+      steadily =
+          not_steady steady f0 f1 c.counted.1;
+    }
     failed_step NoMemory o c = step_no_memory (lopen n flags) opens state stayed steady f0 f1
         (stayed_same o.exactly) c.counted
 
@@ -187,4 +205,4 @@ module _ (t : Tree) (fids : Fids) (msize : ℕ) (settings : Settings) (n flags :
     opened_step q a o seen fids' is count = step_ok (lopen n flags) opens state
         (server_state t' fids' msize settings) steady f0 f1 q
         ((λ j. pair (r_lopen ((seen ∙ sym (ap qid_told o.exactly.1)) j) 0)
-            (server_state t' (is j) msize settings)) ∙ sym (opened_answer o.exactly.0)) count
+        (server_state t' (is j) msize settings)) ∙ sym (opened_answer o.exactly.0)) count

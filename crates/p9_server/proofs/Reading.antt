@@ -88,9 +88,9 @@ module _ {A : Type 0} (items : A → List ℕ) (t : Tree) (fids : Fids) (msize :
   unreadable_step f e is =
       let none = refused_by t fids msize settings offset count (get fids n) e is in
       subst (λ (e : HostError). IsStep (read n offset count) reads before before steady f f (Err e))
-          (sym none.1)
+      (sym none.1)
       (step_refused (read n offset count) reads before before steady f f EBADF
-          (ap (λ (r : Reply). pair r before) none.0) kept refl refl)
+      (ap (λ (r : Reply). pair r before) none.0) kept refl refl)
 
   module _ (ino : ℕ) (known : Ok ino ≡ readable_told (get fids n)) (t' : Tree) (same : t' ≡ t)
       (f0 f1 : ℕ) where
@@ -106,7 +106,7 @@ module _ {A : Type 0} (items : A → List ℕ) (t : Tree) (fids : Fids) (msize :
         let f = taken_by t fids msize settings offset count (get fids n) ino known in
         ap (λ (r : Reply). pair r (kept_state before)) f.2
         ∙ ap (λ (i : ℕ). pair (read_reply (read_of t i offset
-            (min count (msize - RREAD_HEADER_SIZE)))) (kept_state before)) f.3
+        (min count (msize - RREAD_HEADER_SIZE)))) (kept_state before)) f.3
         ∙ ap (λ (r : Result (List ℕ) ℕ). pair (read_reply r) (kept_state before)) is
         ∙ (λ j. pair (read_reply r) (kept_state_kept before kept j))
 
@@ -121,16 +121,16 @@ module _ {A : Type 0} (items : A → List ℕ) (t : Tree) (fids : Fids) (msize :
           f0 f1 (Ok v)
       read_step v k r front calm = step_ok (read n offset count) reads before after steady f0 f1 v
           ((λ j. pair (r_read (front j)) (after_read j))
-              ∙ sym (told (Ok (take k new)) (sym (ap (λ (m : ℕ). read_of t ino offset m) is)
-              ∙ r.exactly.0))) calm
+          ∙ sym (told (Ok (take k new)) (sym (ap (λ (m : ℕ). read_of t ino offset m) is)
+          ∙ r.exactly.0))) calm
 
       pub failed_step : (e : HostError) → Reads (read_of t ino offset most) old new (Err e)
           → Causes {A = ℕ} steady f0 f1 (Err e)
           → IsStep (read n offset count) reads before after steady f0 f1 (Err e)
       failed_step (Errno e) r c = step_errno (read n offset count) reads before after steady f0 f1 e
           ((λ j. pair (lerror e) (after_read j))
-              ∙ sym (told (Err e) (sym (ap (λ (m : ℕ). read_of t ino offset m) is) ∙ r.exactly.0)))
-              c.counted
+          ∙ sym (told (Err e) (sym (ap (λ (m : ℕ). read_of t ino offset m) is) ∙ r.exactly.0)))
+          c.counted
       failed_step Fault r c = step_fault (read n offset count) reads before after steady f0 f1 refl
           after_read c.counted.0 c.counted.1
       failed_step NoMemory r c = step_no_memory (read n offset count) reads before after steady f0

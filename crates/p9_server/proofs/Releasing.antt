@@ -25,8 +25,11 @@ pub record Releasing (t0 t : Tree) (h : Holds) (fids : Fids) : Type 0 where
 
 pub releasing_none : (t : Tree) (h : Holds) (fids : Fids) → AreFids h fids
     → IsKept t.records (is_held h) → Releasing t t h fids
-releasing_none t h fids held kept = record { held = held; tree =
-    sym (keep_same t (is_named fids) (kept_named h fids held t kept)) }
+releasing_none t h fids held kept = record {
+  held = held;
+  tree =
+      sym (keep_same t (is_named fids) (kept_named h fids held t kept));
+}
 
 fewer : (a b w : ℕ) → a + w ≡ b → nat_lt 0 a ≡ true → nat_lt 0 b ≡ true
 fewer a b w e h = grind (arith, nat_tests)
@@ -53,9 +56,9 @@ module _ (t0 t : Tree) (h : Holds) (fids : Fids) (r : Releasing t0 t h fids) (n 
       tree =
           swept ∙ keep_named h' fids' left_held t ∙ ap (keep (is_named fids')) r.tree
           ∙ keep_twice t0 good (is_named fids) (is_named fids')
-              (λ i. let gone = fid_count-gone fids n f at i in let now =
-              ap (λ (f : Fids). fid_count f i) rest in fewer (fid_count fids' i) (fid_count fids i)
-              (fid_weight i f) (omega arith));
+          (λ i. let gone = fid_count-gone fids n f at i in let now =
+          ap (λ (f : Fids). fid_count f i) rest in fewer (fid_count fids' i) (fid_count fids i)
+          (fid_weight i f) (omega arith));
     }
 
   pub fids_fall : (fids' : Fids) → fids' ≡ remove fids n → len fids' < len fids

@@ -53,10 +53,14 @@ module _ (old new : Moment) (asked : ℕ) (l0 l1 w0 w1 w2 : Option (List ℕ))
       → ReadsFrame old.state.msize l0 l1 in0 in1 (Err e)
       → Handled {X = Unit {0}} old new l0 l1 w0 w0 in0 in1 out0 out0 (Err e)
   unread same calm InvalidInput r = absurd r.frame
-  unread same calm InvalidData r = record { answer =
-      ((r.frame.0, refl), (same, calm, kept_refl w0), r.frame.1, r.frame.2) }
-  unread same calm UnexpectedEof r = record { answer =
-      ((r.frame.0, refl), (same, calm, kept_refl w0), r.frame.1, r.frame.2) }
+  unread same calm InvalidData r = record {
+    answer =
+        ((r.frame.0, refl), (same, calm, kept_refl w0), r.frame.1, r.frame.2);
+  }
+  unread same calm UnexpectedEof r = record {
+    answer =
+        ((r.frame.0, refl), (same, calm, kept_refl w0), r.frame.1, r.frame.2);
+  }
   unread same calm Read r = record { answer = (r.frame, refl, (same, calm, kept_refl w0)) }
   unread same calm Write r = absurd r.frame
   unread same calm NoMemory r = record { answer = ((r.frame, refl), kept_refl w0, inl same) }
@@ -76,8 +80,14 @@ module _ (old new : Moment) (asked : ℕ) (l0 l1 w0 w1 w2 : Option (List ℕ))
         → Handled {X = Unit {0}} old new l0 l1 w0 w1 in0 in1 out0 out1 (Err e)
     unanswered e a = subst (λ (d : WireError). Handled {X = Unit {0}} old new l0 l1 w0 w1 in0 in1
         out0 out1 (Err d)) (sym a.answer.0)
-        (record { answer = ((read.frame.0, room), kept, left_unanswered old.state new.state l0 l1
-            frame.tag (result_view message_of frame.msg) read.frame.1 a.answer.1) })
+        (record {
+          answer = (
+            (read.frame.0, room),
+            kept,
+            left_unanswered old.state new.state l0 l1
+                frame.tag (result_view message_of frame.msg) read.frame.1 a.answer.1,
+          );
+        })
 
     module _ (r : Rmessage) (a : Answered (result_view message_of frame.msg)
         (record old { asked = asked }) new (Ok r)) where
@@ -86,8 +96,14 @@ module _ (old new : Moment) (asked : ℕ) (l0 l1 w0 w1 w2 : Option (List ℕ))
           → out2 ≡ out1 → Handled {X = Unit {0}} old new l0 l1 w0 w2 in0 in1 out0 out2 (Err e)
       unsent e long more still = subst (λ (d : WireError). Handled {X = Unit {0}} old new l0 l1 w0
           w2 in0 in1 out0 out2 (Err d)) (sym long.0)
-          (record { answer = ((read.frame.0, still ∙ room), kept_twice w0 w1 w2 kept more, inl
-              (⊎_elim (λ short. absurd (long.1 short)) (λ same. same) a.answer.1.room)) })
+          (record {
+            answer = (
+              (read.frame.0, still ∙ room),
+              kept_twice w0 w1 w2 kept more,
+              inl
+                  (⊎_elim (λ short. absurd (long.1 short)) (λ same. same) a.answer.1.room),
+            );
+          })
 
       -- the reply, or a front of it
       replied : Replied old.state new.state old.faults new.faults l0 l1
@@ -107,13 +123,28 @@ module _ (old new : Moment) (asked : ℕ) (l0 l1 w0 w1 w2 : Option (List ℕ))
       pub answered_sent : (res : Result (Unit {0}) WireError)
           → IsSent (reply_frame frame.tag (reply_of r)) w1 w2 out1 out2 res
           → Handled old new l0 l1 w0 w2 in0 in1 out0 out2 res
-      answered_sent (Ok x) s = record { answer =
-          ((read.frame.0, s.sent.1 ∙ room), (reply_frame frame.tag (reply_of r), kept_appends w0 w1
-          w2 _ kept s.sent.0, replied)) }
-      answered_sent (Err Write) s = record { answer =
-          (read.frame.0, subst (λ (n : ℕ). Faulted n out2) room s.sent.1,
-          (reply_frame frame.tag (reply_of r),
-          (s.sent.0.0, kept_appends w0 w1 w2 _ kept s.sent.0.1), replied)) }
+      answered_sent (Ok x) s = record {
+        answer = (
+          (read.frame.0, s.sent.1 ∙ room),
+          (
+            reply_frame frame.tag (reply_of r),
+            kept_appends w0 w1
+                w2 _ kept s.sent.0,
+            replied,
+          ),
+        );
+      }
+      answered_sent (Err Write) s = record {
+        answer = (
+          read.frame.0,
+          subst (λ (n : ℕ). Faulted n out2) room s.sent.1,
+          (
+            reply_frame frame.tag (reply_of r),
+            (s.sent.0.0, kept_appends w0 w1 w2 _ kept s.sent.0.1),
+            replied,
+          ),
+        );
+      }
       answered_sent (Err InvalidInput) s = absurd s.sent
       answered_sent (Err InvalidData) s = absurd s.sent
       answered_sent (Err UnexpectedEof) s = absurd s.sent

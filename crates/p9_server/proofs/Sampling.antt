@@ -62,7 +62,7 @@ walk_from_none = ap (λ o. begun server.fids 1 o (get server.fids 9)) eight
 pub walk_without_room : walk_start with_open.fids 2 8 9 17 ≡ Err ENFILE
 walk_without_room =
     ap (λ o. begun with_open.fids 17 o (get with_open.fids 8)) nine_with_open
-        ∙ ap (begun with_open.fids 17 None) eight_open
+    ∙ ap (begun with_open.fids 17 None) eight_open
     ∙ ap (λ full. start_from false full 17 (Some opened_file)) no_room
 
 pub walk_of_many : walk_start server.fids 2 7 8 17 ≡ Err EINVAL

@@ -22,7 +22,7 @@ pub never_without_room : (tag : ℕ) (r : Reply) (s0 s1 : Option (List ℕ)) (r0
     → Sends {T = Unit {0}} (reply_frame tag r) s0 s1 r0 r1 f0 f1 (Err fault) → ⊥
 never_without_room tag r s0 s1 r0 r1 f0 f1 fault room is sends =
     let none = subst (λ (e : SinkFault). Sends {T = Unit {0}} (reply_frame tag r) s0 s1 r0 r1 f0 f1
-        (Err e)) is sends in
+    (Err e)) is sends in
     let less = none.1 in
     let all = reply_length tag r in
     omega arith

@@ -51,14 +51,14 @@ module _ {A : Type 0} (reply : A → Reply) (t : Tree) (fids : Fids) (size : ℕ
       → (fids' : Fids) → fids' ≡ empty → (size' : ℕ) → size' ≡ min size msize → (f0 f1 : ℕ)
       → f1 ≡ f0
       → (a : A) → reply a ≡ agreed (min size msize) (spoken protocol)
-          → IsStep (version msize protocol) reply before (server_state t' fids' size' settings)
-          steady f0 f1 (Ok a)
+      → IsStep (version msize protocol) reply before (server_state t' fids' size' settings)
+      steady f0 f1 (Ok a)
   begun_step roomy t' swept fids' none size' sized f0 f1 count a seen =
       step_ok (version msize protocol) reply before (server_state t' fids' size' settings) steady f0
       f1 a
       ((λ j. pair (seen j) (server_state (swept j) (none j) (sized j) settings))
       ∙ sym (ap (λ (x : Reply × ServerState). pair x.0 (kept_state x.1)) (core_by false roomy)))
-          count
+      count
 
 -- ---- the greatest size of a frame
 

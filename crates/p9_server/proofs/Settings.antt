@@ -131,11 +131,15 @@ runs_none wanted step t is = subst (λ (b : Bool). Runs (step_if b step) t t (Ok
 
 runs_one : (step : Step) (t u : Tree) (r : Result (Unit {0}) HostError) → Leaves (step t) t u r
     → Runs (step ∷ []) t u r
-runs_one step t u (Ok x) l = record { exactly =
-    ap (λ (s : Result (Unit {0} × Tree) ℕ). run_on s t (run [])) l.exactly }
-runs_one step t u (Err (Errno e)) l = record { exactly =
-    ap (λ (s : Result (Unit {0} × Tree) ℕ). run_on s t (run [])) l.exactly.0
-    ∙ (λ j. (Err e, sym l.exactly.1 j)) }
+runs_one step t u (Ok x) l = record {
+  exactly =
+      ap (λ (s : Result (Unit {0} × Tree) ℕ). run_on s t (run [])) l.exactly;
+}
+runs_one step t u (Err (Errno e)) l = record {
+  exactly =
+      ap (λ (s : Result (Unit {0} × Tree) ℕ). run_on s t (run [])) l.exactly.0
+      ∙ (λ j. (Err e, sym l.exactly.1 j));
+}
 runs_one step t u (Err Fault) l = record { exactly = inl l.exactly }
 runs_one step t u (Err NoMemory) l = record { exactly = inl l.exactly }
 
@@ -150,8 +154,12 @@ runs_step wanted step t u r is l = subst (λ (b : Bool). Runs (step_if b step) t
 body_by : (i : ℕ) (o : Option Record) (a : Attr) → attr_or_missing i o ≡ Ok a → (b : Body)
     × (option_map (λ (r : Record). r.body) o ≡ Some b) × (kind_of b ≡ a.kind)
 body_by i None a is = absurd (cc)
-body_by i (Some r) a is = (r.body, refl, ap (λ (b : Attr). b.kind)
-    (let same : attr_of i r ≡ a = cc in same))
+body_by i (Some r) a is = (
+  r.body,
+  refl,
+  ap (λ (b : Attr). b.kind)
+      (let same : attr_of i r ≡ a = cc in same),
+)
 
 kind_by : (state : OpenState) (b : Body) → size_refused state b ≡ kind_size_refused state
     (kind_of b)
@@ -183,7 +191,7 @@ pub unstated : (f : Fid) (size : ℕ) (t u : Tree) (h : Holds) → AreStored t.r
 unstated f size t u h stored held same e a other =
     let is : e ≡ Fault = let fault = only_fault t h f.ino stored held e a other in cc in
     subst (λ (e : HostError). Leaves {A = Unit {0}} (resize_step f size t) t u (Err e)) (sym is)
-        (record { exactly = same })
+    (record { exactly = same })
 
 -- ---- times
 
@@ -232,27 +240,27 @@ refused_both (Some b) t u v = refl
 -- times that a host refuses, it refuses also with fewer nanoseconds
 pub clamped_times : (t : Tree) (ino : ℕ) (set0 given0 set1 given1 : Bool) (s0 s1 : Stamp)
     → set_times_of t ino (new_time set0 given0 (clamped s0)) (new_time set1 given1 (clamped s1))
-        ≡ set_times_of t ino (new_time set0 given0 s0) (new_time set1 given1 s1)
+    ≡ set_times_of t ino (new_time set0 given0 s0) (new_time set1 given1 s1)
 clamped_times t ino set0 given0 set1 given1 s0 s1 =
     by_test (is_timely (new_time set0 given0 s0) && is_timely (new_time set1 given1 s1)) refl where
-  by_test : (b : Bool) → (is_timely (new_time set0 given0 s0) && is_timely
-      (new_time set1 given1 s1)) ≡ b
-      → set_times_of t ino (new_time set0 given0 (clamped s0)) (new_time set1 given1 (clamped s1))
+      by_test : (b : Bool) → (is_timely (new_time set0 given0 s0) && is_timely
+          (new_time set1 given1 s1)) ≡ b
+          → set_times_of t ino (new_time set0 given0 (clamped s0)) (new_time set1 given1 (clamped s1))
           ≡ set_times_of t ino (new_time set0 given0 s0) (new_time set1 given1 s1)
-  by_test true is = let both = both_true (is_timely (new_time set0 given0 s0))
-      (is_timely (new_time set1 given1 s1)) is in
-      (λ j. set_times_of t ino (timely_same set0 given0 s0 both.0 j)
+      by_test true is = let both = both_true (is_timely (new_time set0 given0 s0))
+          (is_timely (new_time set1 given1 s1)) is in
+          (λ j. set_times_of t ino (timely_same set0 given0 s0 both.0 j)
           (timely_same set1 given1 s1 both.1 j))
-  by_test false is =
-      let test : (is_timely (new_time set0 given0 (clamped s0)) && is_timely
+      by_test false is =
+          let test : (is_timely (new_time set0 given0 (clamped s0)) && is_timely
           (new_time set1 given1 (clamped s1))) ≡ false =
           (λ j. clamped_timely set0 given0 s0 j && clamped_timely set1 given1 s1 j) ∙ is in
-      let late = λ (a m : TimeSet). with_changed (retimed a m t.moment) ino t in
-      ap (λ (b : Bool). unless_refused {A = Unit {0}}
+          let late = λ (a m : TimeSet). with_changed (retimed a m t.moment) ino t in
+          ap (λ (b : Bool). unless_refused {A = Unit {0}}
           (refused_at (λ x. cond b None (Some EINVAL)) (body_at t.records ino)) tt
           (late (new_time set0 given0 (clamped s0)) (new_time set1 given1 (clamped s1)))) test
-      ∙ refused_both (body_at t.records ino) t _ _
-      ∙ sym (ap (λ (b : Bool). unless_refused {A = Unit {0}}
+          ∙ refused_both (body_at t.records ino) t _ _
+          ∙ sym (ap (λ (b : Bool). unless_refused {A = Unit {0}}
           (refused_at (λ x. cond b None (Some EINVAL)) (body_at t.records ino)) tt
           (late (new_time set0 given0 s0) (new_time set1 given1 s1))) is)
 
@@ -290,9 +298,9 @@ module _ (t : Tree) (fids : Fids) (msize : ℕ) (settings : Settings)
           mtime_nsec) ≡ pair (setattr_reply x) after
       set_answer x is =
           ap (λ (o : Option Fid). pair (setattr_by before c o).0
-              (kept_state (setattr_by before c o).1)) (sym at)
+          (kept_state (setattr_by before c o).1)) (sym at)
           ∙ (λ j. pair (setattr_reply (is j).0)
-              (kept_state (server_state (is j).1 fids msize settings)))
+          (kept_state (server_state (is j).1 fids msize settings)))
           ∙ (λ j. pair (setattr_reply x) (kept_state_kept after kept' j))
 
       front : IsAfterFront (steps c f) t t' → IsAfterFront (steps_at c (get fids n)) t t'
@@ -308,11 +316,19 @@ module _ (t : Tree) (fids : Fids) (msize : ℕ) (settings : Settings)
       set_step (Err (Errno e)) h k = step_errno
           (setattr n valid mode uid gid size atime_sec atime_nsec mtime_sec mtime_nsec) sets before
           after steady f0 f1 e (sym (set_answer (Err e) h.exactly)) k.counted
-      set_step (Err Fault) h k = record { answer =
-          inr (k.counted.0.1, refl, refl, front h.exactly); rises = k.counted.0.0; steadily =
-          not_steady steady f0 f1 k.counted.1 }
-      set_step (Err NoMemory) h k = record { answer = (refl, front h.exactly); rises =
-          (let same = k.counted in omega arith); steadily = λ on. k.counted }
+      set_step (Err Fault) h k = record {
+        answer =
+            inr (k.counted.0.1, refl, refl, front h.exactly);
+        rises = k.counted.0.0;
+        steadily =
+            not_steady steady f0 f1 k.counted.1;
+      }
+      set_step (Err NoMemory) h k = record {
+        answer = (refl, front h.exactly);
+        rises =
+            (let same = k.counted in omega arith);
+        steadily = λ on. k.counted;
+      }
 
 -- ---- all steps
 
@@ -333,7 +349,7 @@ module _ (c : Changes) (f : Fid) (t0 t1 t2 t3 : Tree) (mode : Runs (mode_steps c
   size_stopped e size =
       runs_stopped (sized ++ times_steps c f) (ctime_steps c f) t0 t3 e
       (runs_stopped sized (times_steps c f) t0 t3 e
-          (runs_then owned (size_steps c f) t0 t2 t3 (Err e) to_owner size))
+      (runs_then owned (size_steps c f) t0 t2 t3 (Err e) to_owner size))
 
   module _ (size : Runs (size_steps c f) t2 t3 (Ok tt)) (t4 : Tree) where
     to_size : Runs sized t0 t3 (Ok tt)

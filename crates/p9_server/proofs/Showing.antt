@@ -93,9 +93,9 @@ module _ (t : Tree) (fids : Fids) (msize : ℕ) (settings : Settings) (n : ℕ)
   unknown_step f e is =
       let none = unnamed fids n e is in
       subst (λ (e : HostError). IsStep (getattr n 0) shows state state steady f f (Err e))
-          (sym none.1)
+      (sym none.1)
       (step_refused (getattr n 0) shows state state steady f f EBADF
-          (ap (λ (o : Option Fid). pair (getattr_by state o) state) none.0) kept refl refl)
+      (ap (λ (o : Option Fid). pair (getattr_by state o) state) none.0) kept refl refl)
 
   module _ (ino : ℕ) (known : Ok ino ≡ ino_told (get fids n)) (t' : Tree) (same : t' ≡ t)
       (f0 f1 : ℕ) where

@@ -37,8 +37,12 @@ module _ {A : Type 0} (m : Message) (reply : A → Reply) (s0 s1 : ServerState) 
 
   pub step_errno : (e : ℕ) → pair (lerror e) s1 ≡ answer s0 m → f1 ≡ f0
       → IsStep m reply s0 s1 steady f0 f1 (Err (Errno e))
-  step_errno e same count = record { answer = inl same; rises = omega arith; steadily =
-      λ on. count }
+  step_errno e same count = record {
+    answer = inl same;
+    rises = omega arith;
+    steadily =
+        λ on. count;
+  }
 
   -- a refusal that leaves the state
   pub step_refused : (e : ℕ) → core s0 m ≡ pair (lerror e) s0
@@ -46,15 +50,23 @@ module _ {A : Type 0} (m : Message) (reply : A → Reply) (s0 s1 : ServerState) 
       → IsStep m reply s0 s1 steady f0 f1 (Err (Errno e))
   step_refused e told kept same count =
       step_errno e ((λ j. pair (lerror e) (same j))
-          ∙ (λ j. pair (lerror e) (sym (kept_state_kept s0 kept) j))
-          ∙ sym (ap (λ (x : Reply × ServerState). pair x.0 (kept_state x.1)) told)) count
+      ∙ (λ j. pair (lerror e) (sym (kept_state_kept s0 kept) j))
+      ∙ sym (ap (λ (x : Reply × ServerState). pair x.0 (kept_state x.1)) told)) count
 
   pub step_fault : IsHurtReply s0 m (lerror EIO) → s1 ≡ s0 → Faulted f0 f1 → steady ≡ false
       → IsStep m reply s0 s1 steady f0 f1 (Err Fault)
-  step_fault hurt same fault loose = record { answer =
-      inr (fault.1, hurt, same_alone s0 s1 same, same_part s0 m s1 same); rises =
-      fault.0; steadily = not_steady steady f0 f1 loose }
+  step_fault hurt same fault loose = record {
+    answer =
+        inr (fault.1, hurt, same_alone s0 s1 same, same_part s0 m s1 same);
+    rises =
+        fault.0;
+    steadily = not_steady steady f0 f1 loose;
+  }
 
   pub step_no_memory : s1 ≡ s0 → f1 ≡ f0 → IsStep m reply s0 s1 steady f0 f1 (Err NoMemory)
-  step_no_memory same count = record { answer = unchanged_left s0 m s1 same; rises =
-      omega arith; steadily = λ on. count }
+  step_no_memory same count = record {
+    answer = unchanged_left s0 m s1 same;
+    rises =
+        omega arith;
+    steadily = λ on. count;
+  }

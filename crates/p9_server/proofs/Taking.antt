@@ -30,8 +30,8 @@ attr_there i e (Some r) some is = cc
 pub only_fault : (t : Tree) (h : Holds) (ino : ℕ) → AreStored t.records (is_held h)
     → 0 < hold_count h ino → (e : HostError)
     → Answers {A = Attr} (stat_of t ino) (Err e)
-        → (◌≡◌ {A = Result Attr HostError} (Err e) (Err NoMemory) → ⊥)
-        → ◌≡◌ {A = Result Attr HostError} (Err e) (Err Fault)
+    → (◌≡◌ {A = Result Attr HostError} (Err e) (Err NoMemory) → ⊥)
+    → ◌≡◌ {A = Result Attr HostError} (Err e) (Err Fault)
 only_fault t h ino stored held (Errno e) a other =
     absurd (attr_there ino e (get t.records ino) (stored ino (held_test (hold_count h ino) held))
     a.exactly)
@@ -69,7 +69,7 @@ module _ (t0 t1 t2 : Tree) (h0 h1 h2 : Holds) (ino : ℕ) (same : t1 ≡ t0)
       → (IsKept t1.records (is_held h2) → t2 ≡ t1) → t2 ≡ t0
   back_tree kept less stays =
       stays (subst (λ (t : Tree). IsKept t.records (is_held h2)) (sym same)
-          (kept_more t0 h0 h2 kept (λ i. let e = (back less).counts i in omega arith))) ∙ same
+      (kept_more t0 h0 h2 kept (λ i. let e = (back less).counts i in omega arith))) ∙ same
 
   pub took_tree : (r : Result Attr HostError) → IsKept t0.records (is_held h0) → OnOk r (t2 ≡ t1)
       → OnErr r (h2 ≡ held_less h1 ino) → OnErr r (IsKept t1.records (is_held h2) → t2 ≡ t1)
@@ -92,8 +92,13 @@ module _ (t0 t1 t2 : Tree) (h0 h1 h2 : Holds) (ino : ℕ) (same : t1 ≡ t0)
       → IfOk r (λ a. stat_of t1 ino ≡ Ok a) → OnErr r (r ≡ Err Fault) → Finds t0 told r
   took_finds told is (Ok a) tells failed =
       let number = told_ino t1 ino a tells in
-      record { exactly = (is ∙ ap Ok (sym number), ap (λ (t : Tree). stat_of t a.ino) (sym same)
-          ∙ ap (stat_of t1) number ∙ tells) }
+      record {
+        exactly = (
+          is ∙ ap Ok (sym number),
+          ap (λ (t : Tree). stat_of t a.ino) (sym same)
+              ∙ ap (stat_of t1) number ∙ tells,
+        );
+      }
   took_finds told is (Err e) tells failed = subst (Finds t0 told) (sym failed)
       (record { exactly = tt })
 

@@ -60,7 +60,7 @@ module _ (t : Tree) (fids : Fids) (msize : ℕ) (settings : Settings) (n : ℕ)
   no_target_step reply r e passed a c = passed_on
       (λ (r : Result _ HostError). IsStep (readlink n) reply before after steady f0 f1 r) r e passed
       (failed_step (readlink n) reply target before kept steady told refl after after_target f0 f1
-          (readlink_of t ino) (λ k none. told_is ∙ ap (fitting_target msize) none) refl e a c)
+      (readlink_of t ino) (λ k none. told_is ∙ ap (fitting_target msize) none) refl e a c)
 
   module _ {A : Type 0} (reply : A → Reply) (text : List ℕ) (is : readlink_of t ino ≡ Ok text)
       (calm : f1 ≡ f0) where

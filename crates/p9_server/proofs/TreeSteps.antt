@@ -129,8 +129,8 @@ held_alike h fids held = λ j i. nat_lt 0 (held i j)
 -- ---- the step
 
 module _ {A B : Type 0} (m : Message) (reply : A → Reply) (told_reply : B → Reply) (t : Tree)
-    (fids : Fids) (msize : ℕ) (settings : Settings) (steady : Bool) (told : Result (A × Tree) ℕ)
-    where
+    (fids : Fids) (msize : ℕ) (settings : Settings) (steady : Bool)
+    (told : Result (A × Tree) ℕ) where
   abbrev pub state : ServerState
   state = server_state t fids msize settings
 
@@ -142,7 +142,7 @@ module _ {A B : Type 0} (m : Message) (reply : A → Reply) (told_reply : B → 
     refused_step e r f =
         subst (λ (e : HostError). IsStep m told_reply state state steady f f (Err e)) (sym r.1)
         (step_refused m told_reply state state steady f f r.0
-            (core_is ∙ ap (tree_answer state reply) r.2) kept refl refl)
+        (core_is ∙ ap (tree_answer state reply) r.2) kept refl refl)
 
     module _ (hurt : IsHurtReply state m (lerror EIO)) (t' : Tree) (f0 f1 : ℕ) where
       abbrev after : ServerState
@@ -167,9 +167,9 @@ module _ {A B : Type 0} (m : Message) (reply : A → Reply) (told_reply : B → 
             → IsStep m told_reply state after steady f0 f1 (Ok b)
         done_step a b l seen count = step_ok m told_reply state after steady f0 f1 b
             ((λ j. pair (seen j) after) ∙ (λ j. pair (reply a)
-                (sym (kept_state_kept after kept') j))
+            (sym (kept_state_kept after kept') j))
             ∙ sym (ap (λ (x : Reply × ServerState). pair x.0 (kept_state x.1))
-                (core_is ∙ ap (tree_answer state reply) l.exactly))) count
+            (core_is ∙ ap (tree_answer state reply) l.exactly))) count
 
 -- the host's answer is passed on
 module _ {A : Type 0} (m : Message) (reply : A → Reply) (t : Tree) (fids : Fids) (msize : ℕ)
@@ -177,10 +177,10 @@ module _ {A : Type 0} (m : Message) (reply : A → Reply) (t : Tree) (fids : Fid
   pub passed_step : core (server_state t fids msize settings) m ≡ tree_answer
       (server_state t fids msize settings) reply told → IsKept t.records (is_named fids)
       → IsHurtReply (server_state t fids msize settings) m (lerror EIO) → (t' : Tree) (f0 f1 : ℕ)
-          → IsKept t'.records (is_named fids) → (r : Result A HostError) → Leaves told t t' r
-          → Causes steady f0 f1 r
+      → IsKept t'.records (is_named fids) → (r : Result A HostError) → Leaves told t t' r
+      → Causes steady f0 f1 r
       → IsStep m reply (server_state t fids msize settings) (server_state t' fids msize settings)
-          steady f0 f1 r
+      steady f0 f1 r
   passed_step core_is kept hurt t' f0 f1 kept' (Ok a) l c =
       done_step m reply reply t fids msize settings steady told core_is kept hurt t' f0 f1 kept' a a
       l refl c.counted

@@ -19,11 +19,14 @@ pub at_once : (m : Message) (told : Reply) (old : Moment) → IsGoodServer old.s
     → IsShort (reply_of r) → Answered (Ok m) old old (Ok r)
 at_once m told old good none r is short =
     let same : (told, old.state) ≡ answer old.state m =
-        sym (ap (λ (x : Reply × ServerState). (x.0, kept_state x.1)) none
-        ∙ ap (λ (u : ServerState). (told, u)) (kept_state_good old.state good)) in
+    sym (ap (λ (x : Reply × ServerState). (x.0, kept_state x.1)) none
+    ∙ ap (λ (u : ServerState). (told, u)) (kept_state_good old.state good)) in
     record {
-      answer = (inl ((λ j. (is j, old.state)) ∙ same), short_sized old.state old.state (reply_of r)
-          good.roomy short);
+      answer = (
+        inl ((λ j. (is j, old.state)) ∙ same),
+        short_sized old.state old.state (reply_of r)
+            good.roomy short,
+      );
       stays = stays_refl old;
     }
 

@@ -42,7 +42,7 @@ core_by s newfid names (Err e) = (lerror e, s)
 some_cases : (s : ServerState) (newfid : ℕ) (names : List (List ℕ)) (i : ℕ) (other_full long : Bool)
     →
     cond other_full (pair (lerror ENFILE) s) (cond long (pair (lerror EINVAL) s)
-        (walk_answer s newfid (walk_names s.settings.casefold s.tree names i)))
+    (walk_answer s newfid (walk_names s.settings.casefold s.tree names i)))
     ≡ core_by s newfid names (cond other_full (Err ENFILE) (cond long (Err EINVAL) (Ok i)))
 some_cases s newfid names i true long = refl
 some_cases s newfid names i false true = refl
@@ -50,7 +50,7 @@ some_cases s newfid names i false false = refl
 
 from_cases : (s : ServerState) (fid newfid : ℕ) (names : List (List ℕ)) (o : Option Fid) →
     walk_from s fid newfid names o ≡ core_by s newfid names
-        (start_from (newfid == fid) (nat_le s.settings.limit (len s.fids)) (length names) o)
+    (start_from (newfid == fid) (nat_le s.settings.limit (len s.fids)) (length names) o)
 from_cases s fid newfid names None = refl
 from_cases s fid newfid names (Some f) = some_cases s newfid names f.ino
     (not (newfid == fid) && nat_le s.settings.limit (len s.fids))
@@ -59,7 +59,7 @@ from_cases s fid newfid names (Some f) = some_cases s newfid names f.ino
 known_cases : (s : ServerState) (newfid : ℕ) (names : List (List ℕ)) (known : Bool) (r : Result ℕ ℕ)
     →
     cond known (pair (lerror EBADF) s) (core_by s newfid names r) ≡ core_by s newfid names
-        (cond known (Err EBADF) r)
+    (cond known (Err EBADF) r)
 known_cases s newfid names true r = refl
 known_cases s newfid names false r = refl
 
@@ -68,10 +68,10 @@ core_is : (s : ServerState) (fid newfid : ℕ) (names : List (List ℕ))
     (walk_start s.fids s.settings.limit fid newfid (length names))
 core_is s fid newfid names =
     ap (cond (not (newfid == fid) && contains_key s.fids newfid) (pair (lerror EBADF) s))
-        (from_cases s fid newfid names (get s.fids fid))
+    (from_cases s fid newfid names (get s.fids fid))
     ∙ known_cases s newfid names (not (newfid == fid) && contains_key s.fids newfid)
-        (start_from (newfid == fid) (nat_le s.settings.limit (len s.fids)) (length names)
-        (get s.fids fid))
+    (start_from (newfid == fid) (nat_le s.settings.limit (len s.fids)) (length names)
+    (get s.fids fid))
 
 -- what a start says: the fid is known, a new one has room, and the names are few
 record Starts (fids : Fids) (limit fid newfid count start : ℕ) : Type 0 where
@@ -102,8 +102,8 @@ room_by fids limit fid newfid f at false is unfilled absent = below limit (len f
 some_starts : (fids : Fids) (limit fid newfid count start : ℕ) (f : Fid) → get fids fid ≡ Some f
     → (full long : Bool)
     → (not (newfid == fid) && nat_le limit (len fids)) ≡ full → nat_lt P9_MAXWELEM count ≡ long
-        → Ok start ≡ cond full (Err ENFILE) (cond long (Err EINVAL) (Ok f.ino))
-        → Starts fids limit fid newfid count start
+    → Ok start ≡ cond full (Err ENFILE) (cond long (Err EINVAL) (Ok f.ino))
+    → Starts fids limit fid newfid count start
 some_starts fids limit fid newfid count start f at true long full_is long_is e = absurd (cc)
 some_starts fids limit fid newfid count start f at false true full_is long_is e = absurd (cc)
 some_starts fids limit fid newfid count start f at false false full_is long_is e = record {
@@ -204,28 +204,36 @@ module _ {V : Type 0} (items : V → List QidStruct) (t : Tree) (fids : Fids) (m
           → IsStep (walk fid newfid names) (walks items) state after steady f0 f1 (Ok v)
       walk_some some (Errno e) no_memory w c =
           let many : 1 ≤ length (map qid_plain (items v)) = let l =
-              length-map (items v) qid_plain in omega arith in
+          length-map (items v) qid_plain in omega arith in
           let told : walk_core state fid newfid names ≡ pair (walks items v) state =
-              stopped_core e w.exactly ∙ stopped_told state newfid e (map qid_plain (items v)) many
-              in
+          stopped_core e w.exactly ∙ stopped_told state newfid e (map qid_plain (items v)) many
+          in
           step_ok (walk fid newfid names) (walks items) state after steady f0 f1 v
           ((λ j. pair (walks items v) (after_same j))
-              ∙ (λ j. pair (walks items v) (sym (kept_state_kept state kept) j))
-              ∙ sym (ap (λ (x : Reply × ServerState). pair x.0 (kept_state x.1)) told)) c.counted
+          ∙ (λ j. pair (walks items v) (sym (kept_state_kept state kept) j))
+          ∙ sym (ap (λ (x : Reply × ServerState). pair x.0 (kept_state x.1)) told)) c.counted
       walk_some some Fault no_memory w c =
           let many : 1 ≤ length (map qid_plain (items v)) = let l =
-              length-map (items v) qid_plain in omega arith in
+          length-map (items v) qid_plain in omega arith in
           let front = w.exactly many in
           let s = starts fids settings.limit fid newfid (length names) start begins in
           let from : IsFrontOfWalk settings.casefold t names s.fid_state.ino
-              (map qid_plain (items v)) =
+          (map qid_plain (items v)) =
           subst (λ (b : Bool). IsFrontOfWalk b t names s.fid_state.ino (map qid_plain (items v)))
-              (sym plain)
+          (sym plain)
           (subst (λ (i : ℕ). IsFrontOfWalk false t names i (map qid_plain (items v))) (sym s.ino)
-              front.1) in
-          record { answer = inr (c.counted.0.1, inr (many, front.0, (s.fid_state, s.known, from)),
-              same_alone state after after_same, same_part state (walk fid newfid names) after
-              after_same); rises = c.counted.0.0; steadily = not_steady steady f0 f1 c.counted.1 }
+          front.1) in
+          record {
+            answer = inr (
+              c.counted.0.1,
+              inr (many, front.0, (s.fid_state, s.known, from)),
+              same_alone state after after_same,
+              same_part state (walk fid newfid names) after
+                  after_same,
+            );
+            rises = c.counted.0.0;
+            steadily = not_steady steady f0 f1 c.counted.1;
+          }
       walk_some some NoMemory no_memory w c = absurd (no_memory refl)
 
       -- one that stops before, why it does
@@ -235,10 +243,10 @@ module _ {V : Type 0} (items : V → List QidStruct) (t : Tree) (fids : Fids) (m
           → IsStep (walk fid newfid names) (walks items) state after steady f0 f1 (Err e)
       walk_none (Errno e) none w c =
           let empty : map qid_plain (items v) ≡ [] =
-              ⊎_elim (λ e. no_qids (items v) e) (λ e. absurd (cc)) none in
+          ⊎_elim (λ e. no_qids (items v) e) (λ e. absurd (cc)) none in
           step_refused (walk fid newfid names) (walks items) state after steady f0 f1 e
-              (stopped_core e w.exactly ∙ ap (λ (q : List Qid). walk_answer state newfid (q, Err e))
-              empty) kept after_same c.counted
+          (stopped_core e w.exactly ∙ ap (λ (q : List Qid). walk_answer state newfid (q, Err e))
+          empty) kept after_same c.counted
       walk_none Fault none w c = step_fault (walk fid newfid names) (walks items) state after steady
           f0 f1 (inl refl) after_same c.counted.0 c.counted.1
       walk_none NoMemory none w c = step_no_memory (walk fid newfid names) (walks items) state after
@@ -249,8 +257,8 @@ module _ {V : Type 0} (items : V → List QidStruct) (t : Tree) (fids : Fids) (m
           → IfOk r (λ q. (q ≡ v) × (1 ≤ length (items v)) × (e ≢ NoMemory))
           → IfErr r (λ d. (d ≡ e) × ((items v ≡ []) ⊎ (e ≡ NoMemory)))
           → Walks t names start (map qid_plain (items v)) (Err e)
-              → Causes {A = ℕ} steady f0 f1 (Err e)
-              → IsStep (walk fid newfid names) (walks items) state after steady f0 f1 r
+          → Causes {A = ℕ} steady f0 f1 (Err e)
+          → IsStep (walk fid newfid names) (walks items) state after steady f0 f1 r
       walk_stopped e (Ok q) told failed w c =
           subst (λ (x : V). IsStep (walk fid newfid names) (walks items) state after steady f0 f1
           (Ok x)) (sym told.0) (walk_some told.1 e told.2 w c)
@@ -263,17 +271,17 @@ module _ {V : Type 0} (items : V → List QidStruct) (t : Tree) (fids : Fids) (m
       pub walk_done : (v : V) (at : ℕ) → Walks t names start (map qid_plain (items v)) (Ok at)
           → fids' ≡ insert fids newfid (closed at)
           → IsStep (walk fid newfid names) (walks items) state
-              (server_state t' fids' msize settings) steady f0 f1 (Ok v)
+          (server_state t' fids' msize settings) steady f0 f1 (Ok v)
       walk_done v at w is = step_ok (walk fid newfid names) (walks items) state
           (server_state t' fids' msize settings) steady f0 f1 v
           ((λ j. pair (walks items v) (server_state (swept j) fids' msize settings))
           ∙ (λ j. pair (walks items v) (kept_state (server_state t (is j) msize settings)))
           ∙ (λ j. pair (walk_answer state newfid (w.exactly.0 j, Ok at)).0
-              (kept_state (walk_answer state newfid (w.exactly.0 j, Ok at)).1))
+          (kept_state (walk_answer state newfid (w.exactly.0 j, Ok at)).1))
           ∙ (λ j. pair (walk_answer state newfid
-              ((walk_names false t names start).0, sym w.exactly.1 j)).0
-              (kept_state (walk_answer state newfid
-              ((walk_names false t names start).0, sym w.exactly.1 j)).1))
+          ((walk_names false t names start).0, sym w.exactly.1 j)).0
+          (kept_state (walk_answer state newfid
+          ((walk_names false t names start).0, sym w.exactly.1 j)).1))
           ∙ sym (ap (λ (x : Reply × ServerState). pair x.0 (kept_state x.1)) core_start)) count
 
       pub walk_no_memory : (e : HostError) → fids' ≡ fids
@@ -283,10 +291,10 @@ module _ {V : Type 0} (items : V → List QidStruct) (t : Tree) (fids : Fids) (m
       walk_no_memory e is none =
           let memory : e ≡ NoMemory = cc in
           let same : server_state t' fids' msize settings ≡ state =
-              (λ j. server_state (swept j) fids' msize settings)
-              ∙ (λ j. kept_state (server_state t (is j) msize settings))
-              ∙ kept_state_kept state kept in
+          (λ j. server_state (swept j) fids' msize settings)
+          ∙ (λ j. kept_state (server_state t (is j) msize settings))
+          ∙ kept_state_kept state kept in
           subst (λ (d : HostError). IsStep (walk fid newfid names) (walks items) state
-              (server_state t' fids' msize settings) steady f0 f1 (Err d)) (sym memory)
+          (server_state t' fids' msize settings) steady f0 f1 (Err d)) (sym memory)
           (step_no_memory (walk fid newfid names) (walks items) state
-              (server_state t' fids' msize settings) steady f0 f1 same count)
+          (server_state t' fids' msize settings) steady f0 f1 same count)

@@ -38,12 +38,12 @@ module _ (t : Tree) where
       ap (λ (i : ℕ). walk rest i) same
   walk-append (name ∷ names) rest start at is =
       by_step (λ i. walk-append names rest i at) (step_to false t start name) is where
-    by_step : ((i : ℕ) → Joins names rest i at) → (r : Result ℕ ℕ)
-        → (walked_on t (walk names) r).1 ≡ Ok at
-        → walked_on t (walk (names ++ rest)) r
+        by_step : ((i : ℕ) → Joins names rest i at) → (r : Result ℕ ℕ)
+            → (walked_on t (walk names) r).1 ≡ Ok at
+            → walked_on t (walk (names ++ rest)) r
             ≡ ((walked_on t (walk names) r).0 ++ (walk rest at).0, (walk rest at).1)
-    by_step later (Err e) is = absurd (cc)
-    by_step later (Ok i) is = ap (λ (w : Walked). (qid_at t i ∷ w.0, w.1)) (later i is)
+        by_step later (Err e) is = absurd (cc)
+        by_step later (Ok i) is = ap (λ (w : Walked). (qid_at t i ∷ w.0, w.1)) (later i is)
 
 -- ---- a walk that has come to a name
 
@@ -90,8 +90,8 @@ module _ {t0 t : Tree} {h0 h : Holds} {names : List (List ℕ)} {start at k : �
   held_by : (n : ℕ) → n ≡ k → 0 < hold_count h0 start → 0 < hold_count h at
   held_by zero is held =
       let none : (walk_names false t0 (take zero names) start).1 ≡ Ok at =
-          subst (λ (j : ℕ). (walk_names false t0 (take j names) start).1 ≡ Ok at) (sym is) w.stands
-          in
+      subst (λ (j : ℕ). (walk_names false t0 (take j names) start).1 ≡ Ok at) (sym is) w.stands
+      in
       let same : start ≡ at = cc in
       let here = w.holds at in
       let old : 0 < hold_count h0 at = subst (λ (i : ℕ). 0 < hold_count h0 i) same held in
@@ -99,7 +99,7 @@ module _ {t0 t : Tree} {h0 h : Holds} {names : List (List ℕ)} {start at k : �
   held_by (suc n) is held =
       let here = w.holds at in
       let own : own_hold k at at ≡ cond (at == at) 1 0 =
-          ap (λ (j : ℕ). own_hold j at at) (sym is) in
+      ap (λ (j : ℕ). own_hold j at at) (sym is) in
       let one : cond {A = ℕ} (at == at) 1 0 ≡ 1 = grind (arith, nat_tests) in
       omega arith
 
@@ -142,9 +142,11 @@ module _ {t0 t : Tree} {h0 h : Holds} {names : List (List ℕ)} {start at k : �
       joined =
           ap (λ (l : List (List ℕ)). walk_names false t0 l start) now_taken
           ∙ walk-append t0 (take k names) (name ∷ []) start at w.stands
-          ∙ ap (λ (r : Result ℕ ℕ). ((walk_names false t0 (take k names) start).0
-              ++ (walked_on t0 (walk_names false t0 []) r).0,
-              (walked_on t0 (walk_names false t0 []) r).1)) step_is
+          ∙ ap (λ (r : Result ℕ ℕ). (
+            (walk_names false t0 (take k names) start).0
+                ++ (walked_on t0 (walk_names false t0 []) r).0,
+            (walked_on t0 (walk_names false t0 []) r).1,
+          )) step_is
 
       -- the tree stays where the hold before goes
       pub walked_kept : IsKept t0.records (is_held h0) → t1 ≡ t → IsKept t1.records (is_held h2)
@@ -162,7 +164,7 @@ module _ {t0 t : Tree} {h0 h : Holds} {names : List (List ℕ)} {start at k : �
         holds = next_holds;
         count =
             let new = sym (length-map qids' qid_plain) ∙ ap length is_qids
-                ∙ length-append (map qid_plain qids) (qid_of a ∷ []) in
+            ∙ length-append (map qid_plain qids) (qid_of a ∷ []) in
             let old = length-map qids qid_plain in
             let had = w.count in
             omega arith;
@@ -187,14 +189,19 @@ module _ {t0 t : Tree} {h0 h : Holds} {names : List (List ℕ)} {start at k : �
           (λ i. let e = stopped_holds.counts i in omega arith))
 
     refused_names : (e : ℕ) → step_to false t at name ≡ Err e
-        → walk_names false t0 names start ≡ ((walk_names false t0 (take k names) start).0
-        ++ [], Err e)
+        → walk_names false t0 names start ≡ (
+          (walk_names false t0 (take k names) start).0
+              ++ [],
+          Err e,
+        )
     refused_names e told =
         ap (λ (l : List (List ℕ)). walk_names false t0 l start) all_names
         ∙ walk-append t0 (take k names) (name ∷ drop (suc k) names) start at w.stands
-        ∙ ap (λ (r : Result ℕ ℕ). ((walk_names false t0 (take k names) start).0
-            ++ (walked_on t0 (walk_names false t0 (drop (suc k) names)) r).0,
-            (walked_on t0 (walk_names false t0 (drop (suc k) names)) r).1))
+        ∙ ap (λ (r : Result ℕ ℕ). (
+          (walk_names false t0 (take k names) start).0
+              ++ (walked_on t0 (walk_names false t0 (drop (suc k) names)) r).0,
+          (walked_on t0 (walk_names false t0 (drop (suc k) names)) r).1,
+        ))
         (ap (λ (u : Tree). step_to false u at name) (sym w.tree) ∙ told)
 
     -- the qids so far are those of the names so far
@@ -207,17 +214,27 @@ module _ {t0 t : Tree} {h0 h : Holds} {names : List (List ℕ)} {start at k : �
 
     pub stopped_walks : (e : HostError) → Finds t (step_to false t at name) (Err e)
         → Walks t0 names start (map qid_plain qids) (Err e)
-    stopped_walks (Errno e) f = record { exactly =
-        (w.found ∙ sym (append-nil _) ∙ sym (ap (λ (x : Walked). x.0) (refused_names e f.exactly)),
-        ap (λ (x : Walked). x.1) (refused_names e f.exactly)) }
-    stopped_walks Fault f = record { exactly =
-        λ some. (let count = length-map qids qid_plain in let had = w.count in omega arith, front) }
+    stopped_walks (Errno e) f = record {
+      exactly = (
+        w.found ∙ sym (append-nil _) ∙ sym (ap (λ (x : Walked). x.0) (refused_names e f.exactly)),
+        ap (λ (x : Walked). x.1) (refused_names e f.exactly),
+      );
+    }
+    stopped_walks Fault f = record {
+      exactly =
+          λ some. (let count = length-map qids qid_plain in let had = w.count in omega arith, front);
+    }
     stopped_walks NoMemory f = record { exactly = tt }
 
   -- all names were walked
   pub walked_all : k ≡ length names → Walks t0 names start (map qid_plain qids) (Ok at)
-  walked_all all = record { exactly = (w.found
-      ∙ ap (λ (l : List (List ℕ)). (walk_names false t0 l start).0) whole, ap
-      (λ (l : List (List ℕ)). (walk_names false t0 l start).1) (sym whole) ∙ w.stands) } where
+  walked_all all = record {
+    exactly = (
+      w.found
+          ∙ ap (λ (l : List (List ℕ)). (walk_names false t0 l start).0) whole,
+      ap
+          (λ (l : List (List ℕ)). (walk_names false t0 l start).1) (sym whole) ∙ w.stands,
+    );
+  } where
     whole : take k names ≡ names
     whole = ap (λ (j : ℕ). take j names) all ∙ take-length names

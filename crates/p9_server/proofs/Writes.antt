@@ -45,9 +45,9 @@ pub count_fits : (t u : Tree) → IsGoodTree t → (ino offset : ℕ) (bytes : L
     → write_of t ino offset bytes ≡ Ok (n, u) → n % 2 ^ 32 ≡ n
 count_fits t u good ino offset bytes n is =
     let same = answer_of (refused_at (write_refused t.limits.file offset bytes)
-        (body_at t.records ino)) (length (fitting t.limits.file offset bytes)) n
-        (with_changed (overwritten_at t.moment offset (fitting t.limits.file offset bytes)) ino t) u
-        is in
+    (body_at t.records ino)) (length (fitting t.limits.file offset bytes)) n
+    (with_changed (overwritten_at t.moment offset (fitting t.limits.file offset bytes)) ino t) u
+    is in
     let few = few_fit t.limits.file offset bytes in
     let low = good.limits.0 in
     omega arith

@@ -21,8 +21,8 @@ use Rattle.tree_host.specs.Holds.{Holds, hold_count, held_more, is_held}
 use Rattle.tree_host.specs.Host.{IsHeldIn}
 use Rattle.tree_host.specs.Kept.{tree_from}
 
-module _ (t : Tree) (h : Holds) (g : IsGoodTree t) (s : IsHeldIn t h) (dir : ℕ) (name : List ℕ)
-    where
+module _ (t : Tree) (h : Holds) (g : IsGoodTree t) (s : IsHeldIn t h) (dir : ℕ)
+    (name : List ℕ) where
   pub refused_as : create_refused t dir name ≡ new_name_refused
       (not (has_no_links (get t.records dir))) t.limits.entries t.next name (body_at t.records dir)
   refused_as = sym (refused_by_links (good_is_counted t (is_held h) g s.stored) t.limits.entries
@@ -73,8 +73,8 @@ module _ (t : Tree) (h : Holds) (g : IsGoodTree t) (s : IsHeldIn t h) (dir : ℕ
 
   -- a record more, in a directory that is stamped
   module _ (free : create_refused t dir name ≡ None) (r : Record) (new : IsNew dir r)
-      (fine : name_fault name ≡ None) (rs : Records) (made : rs ≡ (with_new t dir name r).records)
-      where
+      (fine : name_fault name ≡ None) (rs : Records)
+      (made : rs ≡ (with_new t dir name r).records) where
     abbrev after : Records → Tree
     after rs = tree_from rs (t.next + 1) t.limits t.moment
 

@@ -49,8 +49,8 @@ ArePositive h = (i n : ℕ) → get h i ≡ Some n → 0 < n
 pub positive_insert : (h : Holds) (k v : ℕ) → 0 < v → ArePositive h → ArePositive (insert h k v)
 positive_insert h k v more p i n at = ⊎_elim
     (λ eq. let one : Some v ≡ Some n = sym (inserted h k v)
-        ∙ subst (λ j. get (insert h k v) j ≡ Some n) eq at in let same : v ≡ n =
-        cc in subst (λ n. 0 < n) same more)
+    ∙ subst (λ j. get (insert h k v) j ≡ Some n) eq at in let same : v ≡ n =
+    cc in subst (λ n. 0 < n) same more)
     (λ ne. p i n (sym (insert_keeps h k v i ne) ∙ at))
     (cases_eq i k)
 
@@ -59,7 +59,7 @@ positive_by : (b : Bool) (h : Holds) (k : ℕ) → nat_lt 1 (hold_count h k) ≡
 positive_by true h k is p = positive_insert h k (hold_count h k - 1) (grind (arith, nat_tests)) p
 positive_by false h k is p = λ i n at. ⊎_elim
     (λ eq. absurd (let none : get (remove h k) i ≡ None =
-        subst (λ j. get (remove h k) j ≡ None) (sym eq) (removed h k) in cc))
+    subst (λ j. get (remove h k) j ≡ None) (sym eq) (removed h k) in cc))
     (λ ne. p i n (sym (remove_keeps h k i ne) ∙ at))
     (cases_eq i k)
 
@@ -69,9 +69,9 @@ pub more_held : (t : Tree) (h h' : Holds) (i : ℕ) → IsHeldIn t h → IsSome 
 more_held t h h' i s had e = subst (IsHeldIn t) (sym e) (record {
   kept = λ q stored. ⊎_elim
       (λ is. subst (λ j. (is_linked t.records j || is_held (held_more h i) j) ≡ true) (sym is)
-          (ap (λ b. is_linked t.records i || b)
-          (is_held_some (held_more h i) i (hold_count h i + 1) (inserted h i (hold_count h i + 1))
-          (omega arith)) ∙ or_true (is_linked t.records i)))
+      (ap (λ b. is_linked t.records i || b)
+      (is_held_some (held_more h i) i (hold_count h i + 1) (inserted h i (hold_count h i + 1))
+      (omega arith)) ∙ or_true (is_linked t.records i)))
       (λ ne. ap (λ b. is_linked t.records q || b) (more_there h i q ne) ∙ s.kept q stored)
       (cases_eq q i);
   stored = λ q held. ⊎_elim
@@ -123,9 +123,9 @@ pub new_held : (limits : Limits) (moment born : Stamp) (mode uid gid : ℕ)
 new_held limits moment born mode uid gid = record {
   kept = λ q had. ⊎_elim
       (λ is. subst (λ j. (is_linked (insert empty TOP (top_record born mode uid gid)) j || is_held
-          empty j) ≡ true) (sym is) refl)
+      empty j) ≡ true) (sym is) refl)
       (λ ne. absurd (false≢true (subst IsSome
-          (insert_keeps empty TOP (top_record born mode uid gid) q ne ∙ get-empty nat_cmp q) had)))
+      (insert_keeps empty TOP (top_record born mode uid gid) q ne ∙ get-empty nat_cmp q) had)))
       (cases_eq q TOP);
   stored = λ q held. absurd (false≢true (ap (λ o. nat_lt 0 (unwrap_or o 0))
       (sym (get-empty nat_cmp q)) ∙ held));
@@ -151,9 +151,9 @@ hold_count-less h i = less_count_by (nat_lt 1 (hold_count h i)) h i refl
 pub less_more : (h : Holds) (i : ℕ) → get h i ≡ None → held_less (held_more h i) i ≡ h
 less_more h i none =
     let one : hold_count (held_more h i) i ≡ 1 = hold_count-more h i
-        ∙ ap (λ o. unwrap_or o 0 + 1) none in
+    ∙ ap (λ o. unwrap_or o 0 + 1) none in
     ap (λ n. cond (nat_lt 1 n) (insert (held_more h i) i (hold_count (held_more h i) i - 1))
-        (remove (held_more h i) i)) one ∙ undone h i (hold_count h i + 1) none
+    (remove (held_more h i) i)) one ∙ undone h i (hold_count h i + 1) none
 
 pub hold_count-empty : (i : ℕ) → hold_count empty i ≡ 0
 hold_count-empty i = ap (λ o. unwrap_or o 0) (get-empty nat_cmp i)
@@ -162,7 +162,7 @@ hold_count-empty i = ap (λ o. unwrap_or o 0) (get-empty nat_cmp i)
 pub hold_count-more_le : (h : Holds) (i q : ℕ) → hold_count (held_more h i) q ≤ hold_count h q + 1
 hold_count-more_le h i q = ⊎_elim
     (λ is. subst (λ q. hold_count (held_more h i) q ≤ hold_count h q + 1) (sym is)
-        (let one = hold_count-more h i in omega arith))
+    (let one = hold_count-more h i in omega arith))
     (λ ne. let same : hold_count (held_more h i) q ≡ hold_count h q =
-        ap (λ o. unwrap_or o 0) (insert_keeps h i (hold_count h i + 1) q ne) in omega arith)
+    ap (λ o. unwrap_or o 0) (insert_keeps h i (hold_count h i + 1) q ne) in omega arith)
     (cases_eq q i)

@@ -26,8 +26,8 @@ module _ (t : Tree) (h : Holds) (g : IsGoodTree t) (s : IsHeldIn t h) (dir : ℕ
     pub unlinked_tree : rs ≡ (keep (is_held h) left).records
     unlinked_tree =
         made ∙ sym (kept_is_swept (good_is_counted left (is_held h) left_good
-            (without_stored t g dir name ino is empty (is_held h) s.stored)) ino
-            (without_kept t g dir name ino is empty (is_held h) s.kept))
+        (without_stored t g dir name ino is empty (is_held h) s.stored)) ino
+        (without_kept t g dir name ino is empty (is_held h) s.kept))
 
     pub gone_good : IsGoodTree (tree_from rs t.next t.limits t.moment)
     gone_good = subst (λ (rs : Records). IsGoodTree (tree_from rs t.next t.limits t.moment))
@@ -36,11 +36,11 @@ module _ (t : Tree) (h : Holds) (g : IsGoodTree t) (s : IsHeldIn t h) (dir : ℕ
     pub gone_held : IsHeldIn (tree_from rs t.next t.limits t.moment) h
     gone_held = subst (λ (rs : Records). IsHeldIn (tree_from rs t.next t.limits t.moment) h)
         (sym unlinked_tree) (record {
-      kept = keep_kept left left_good (is_held h);
-      stored = keep_stored left left_good (is_held h)
-          (without_stored t g dir name ino is empty (is_held h) s.stored);
-      positive = s.positive;
-    })
+          kept = keep_kept left left_good (is_held h);
+          stored = keep_stored left left_good (is_held h)
+              (without_stored t g dir name ino is empty (is_held h) s.stored);
+          positive = s.positive;
+        })
 
     pub gone_tree : tree_from rs t.next t.limits t.moment ≡ keep (is_held h) left
     gone_tree = ap (λ (rs : Records). tree_from rs t.next t.limits t.moment) unlinked_tree

@@ -37,7 +37,7 @@ change_amends t g ino (Len len) = resized_good t g ino len
 pub made_at : (refused : Body → Option ℕ) (f : Record → Record) (rs now : Records) (i : ℕ)
     (r w : Record) (result : Result (Unit {0}) HostError)
     → Some r ≡ get rs i → now ≡ insert rs i w → Makes (refused r.body) (f r) r w result
-        → Makes (refused_at refused (body_at rs i)) (change f rs i) rs now result
+    → Makes (refused_at refused (body_at rs i)) (change f rs i) rs now result
 made_at refused f rs now i r w (Ok u) at back m = record {
   exactly = (
     ap (λ o. refused_at refused (option_map (λ (r : Record). r.body) o)) (sym at) ∙ m.exactly.0,

@@ -45,7 +45,7 @@ one_step rs ino k at here high =
     let not_it : (at == ino) ≡ false = grind (arith, nat_tests) in
     let not_top : (at == TOP) ≡ false = grind (arith, nat_tests) in
     ap (λ b. cond b false (cond (at == TOP) true (climbs_past rs ino k (above_at rs at)))) not_it
-        ∙ ap (λ b. cond b true (climbs_past rs ino k (above_at rs at))) not_top
+    ∙ ap (λ b. cond b true (climbs_past rs ino k (above_at rs at))) not_top
 
 pub climb_step : (rs : Records) (ino steps counter at up : ℕ) → counter < steps → at ≢ ino
     → at ≢ TOP → up ≡ above_at rs at
@@ -53,8 +53,8 @@ pub climb_step : (rs : Records) (ino steps counter at up : ℕ) → counter < st
 climb_step rs ino steps counter at up low here high is =
     let more : steps - counter ≡ suc (steps - (counter + 1)) = omega arith in
     ap (climbs_past rs ino (steps - (counter + 1))) is
-        ∙ sym (ap (λ n. climbs_past rs ino n at) more
-        ∙ one_step rs ino (steps - (counter + 1)) at here high)
+    ∙ sym (ap (λ n. climbs_past rs ino n at) more
+    ∙ one_step rs ino (steps - (counter + 1)) at here high)
 
 -- ---- a new entry that is added first
 
@@ -63,12 +63,12 @@ without-push : (name : List ℕ) (es : List DirEntry) (x e : DirEntry) → entry
 without-push name [] x e is = absurd (cc)
 without-push name (f ∷ es) x e is = by_test (bytes_eq f.name name) is
     (λ is. without-push name es x e is) where
-  by_test : (b : Bool) → cond b (Some f) (entry_named name es) ≡ Some e
-      → (entry_named name es ≡ Some e → without name (es ++ x ∷ []) ≡ without name es ++ x ∷ [])
-      → cond b (es ++ x ∷ []) (f ∷ without name (es ++ x ∷ [])) ≡ cond b es (f ∷ without name es)
+      by_test : (b : Bool) → cond b (Some f) (entry_named name es) ≡ Some e
+          → (entry_named name es ≡ Some e → without name (es ++ x ∷ []) ≡ without name es ++ x ∷ [])
+          → cond b (es ++ x ∷ []) (f ∷ without name (es ++ x ∷ [])) ≡ cond b es (f ∷ without name es)
           ++ x ∷ []
-  by_test true is later = refl
-  by_test false is later = ap (λ es. f ∷ es) (later is)
+      by_test true is later = refl
+      by_test false is later = ap (λ es. f ∷ es) (later is)
 
 abbrev parted_body : List ℕ → Body → Body
 parted_body name b = with_entries b (without name (listed b)) (next_cookie b)
@@ -89,7 +89,7 @@ bodies_swap name newname ino e (Link target) is = refl
 parts_joins : (name newname : List ℕ) (ino : ℕ) (moment : Stamp) (e : DirEntry) (r : Record)
     → entry_named name (listed r.body) ≡ Some e
     → parted_by name moment (joined_by newname ino r) ≡ joined_by newname ino
-        (parted_by name moment r)
+    (parted_by name moment r)
 parts_joins name newname ino moment e r is = ap
     (λ (b : Body). let left : Record = record r { body = b; mtime = moment; ctime = moment }
     in left) (bodies_swap name newname ino e r.body is)
@@ -98,8 +98,12 @@ names_joins : (newname : List ℕ) (ino : ℕ) (moment : Stamp) (r : Record)
     → one_name_less moment (joined_by newname ino r) ≡ joined_by newname ino
     (one_name_less moment r)
 names_joins newname ino moment r =
-    ap (λ d. let left : Record = record r { body = joined_body newname ino r.body; links =
-        cond d 0 (r.links - 1); ctime = moment } in left) (with_entries-is_directory r.body _ _)
+    ap (λ d. let left : Record = record r {
+      body = joined_body newname ino r.body;
+      links =
+          cond d 0 (r.links - 1);
+      ctime = moment;
+    } in left) (with_entries-is_directory r.body _ _)
 
 -- changes can be made in either order where they can at the one record that both change
 changes_swap : (f h : Record → Record) (rs : Records) (a b : ℕ)
@@ -107,7 +111,7 @@ changes_swap : (f h : Record → Record) (rs : Records) (a b : ℕ)
     → change f (change h rs a) b ≡ change h (change f rs b) a
 changes_swap f h rs a b swap = ⊎_elim
     (λ is. ap (change f (change h rs a)) (sym is) ∙ at_one is
-        ∙ ap (λ b. change h (change f rs b) a) is)
+    ∙ ap (λ b. change h (change f rs b) a) is)
     (λ ne. changes_commute f h rs a b ne)
     (cases_eq a b) where
       twice : a ≡ b → (o : Option Record) → get rs a ≡ o
@@ -119,11 +123,11 @@ changes_swap f h rs a b swap = ⊎_elim
       at_one is = same_gets _ _ (λ q. ⊎_elim
           (λ eq.
           ap (get (change f (change h rs a) a)) eq ∙ change_at f (change h rs a) a
-              ∙ ap (option_map f) (change_at h rs a) ∙ twice is (get rs a) refl
+          ∙ ap (option_map f) (change_at h rs a) ∙ twice is (get rs a) refl
           ∙ sym (ap (get (change h (change f rs a) a)) eq ∙ change_at h (change f rs a) a
-              ∙ ap (option_map h) (change_at f rs a)))
+          ∙ ap (option_map h) (change_at f rs a)))
           (λ nq. change_keeps f (change h rs a) a q nq ∙ change_keeps h rs a q nq
-              ∙ sym (change_keeps h (change f rs a) a q nq ∙ change_keeps f rs a q nq))
+          ∙ sym (change_keeps h (change f rs a) a q nq ∙ change_keeps f rs a q nq))
           (cases_eq q a))
 
 module _ (t : Tree) (olddir : ℕ) (oldname : List ℕ) (newdir : ℕ) (newname : List ℕ) (ino : ℕ) where
@@ -132,19 +136,19 @@ module _ (t : Tree) (olddir : ℕ) (oldname : List ℕ) (newdir : ℕ) (newname 
 
   replaced_later : (r : Result ℕ ℕ) → lookup_of t newdir newname ≡ r
       → replaced_in t.moment newdir newname (result_ok r) (joins t.records) ≡ joins
-          (replaced_in t.moment newdir newname (result_ok r) t.records)
+      (replaced_in t.moment newdir newname (result_ok r) t.records)
   replaced_later (Err e) is = refl
   replaced_later (Ok i) is =
       let w = entry_in t.records newdir newname i is in
       ap (λ rs. change (parted_by newname t.moment) rs newdir)
-          (changes_swap (one_name_less t.moment) (joined_by newname ino) t.records newdir i
-          (λ r at same. names_joins newname ino t.moment r))
+      (changes_swap (one_name_less t.moment) (joined_by newname ino) t.records newdir i
+      (λ r at same. names_joins newname ino t.moment r))
       ∙ changes_swap (parted_by newname t.moment) (joined_by newname ino)
-          (change (one_name_less t.moment) t.records i) newdir newdir (λ r at same.
+      (change (one_name_less t.moment) t.records i) newdir newdir (λ r at same.
       let x = change_body (one_name_less t.moment) t.records i newdir (λ r. refl) w.d w.at in
       parts_joins newname newname ino t.moment w.e r
-          (ap (λ b. entry_named newname (listed b))
-          (ap (λ (r : Record). r.body) (same_some r x.0 (sym at ∙ x.1)) ∙ x.2) ∙ w.goes))
+      (ap (λ b. entry_named newname (listed b))
+      (ap (λ (r : Record). r.body) (same_some r x.0 (sym at ∙ x.1)) ∙ x.2) ∙ w.goes))
 
   abbrev after : Result ℕ ℕ → Tree
   after r = with_moved (without_replaced t newdir newname (result_ok r)) olddir oldname newdir
@@ -163,8 +167,8 @@ module _ (t : Tree) (olddir : ℕ) (oldname : List ℕ) (newdir : ℕ) (newname 
   parted_later rs e d at goes = changes_swap (parted_by oldname t.moment) (joined_by newname ino) rs
       newdir olddir (λ r there same.
       parts_joins oldname newname ino t.moment e r
-          (ap (λ (r : Record). entry_named oldname (listed r.body))
-          (same_some r d (sym there ∙ ap (get rs) same ∙ at)) ∙ goes))
+      (ap (λ (r : Record). entry_named oldname (listed r.body))
+      (same_some r d (sym there ∙ ap (get rs) same ∙ at)) ∙ goes))
 
   abbrev rest : Records → Records
   rest rs = change (moved_below t.moment newdir) (change (stamped t.moment) rs newdir) ino
@@ -177,32 +181,32 @@ module _ (t : Tree) (olddir : ℕ) (oldname : List ℕ) (newdir : ℕ) (newname 
   order_is_free (Ok i) is move =
       ap (λ rs. rest (change (parted_by oldname t.moment) rs olddir)) (replaced_later (Ok i) is)
       ∙ ap rest (parted_later (without_entry t newdir newname i).records move.old.e move.old.d
-          move.old.at move.old.goes)
+      move.old.at move.old.goes)
 
 -- ---- what is kept
 
 kept_all : (t : Tree) (held : ℕ → Bool) → IsKept t.records held → t.records ≡ (keep held t).records
 kept_all t held k = same_gets _ _ (λ q. sym (retained t.records
     (λ q. is_linked t.records q || held q) q ∙ by_record q (get t.records q) refl)) where
-  nothing : (b : Bool) → cond {A = Option Record} b None None ≡ None
-  nothing true = refl
-  nothing false = refl
+      nothing : (b : Bool) → cond {A = Option Record} b None None ≡ None
+      nothing true = refl
+      nothing false = refl
 
-  by_record : (q : ℕ) (o : Option Record) → get t.records q ≡ o
-      → cond (is_linked t.records q || held q) (get t.records q) None ≡ get t.records q
-  by_record q None at = ap (λ o. cond (is_linked t.records q || held q) o None) at
-      ∙ nothing (is_linked t.records q || held q) ∙ sym at
-  by_record q (Some r) at = ap (λ b. cond b (get t.records q) None)
-      (k q (subst IsSome (sym at) refl))
+      by_record : (q : ℕ) (o : Option Record) → get t.records q ≡ o
+          → cond (is_linked t.records q || held q) (get t.records q) None ≡ get t.records q
+      by_record q None at = ap (λ o. cond (is_linked t.records q || held q) o None) at
+          ∙ nothing (is_linked t.records q || held q) ∙ sym at
+      by_record q (Some r) at = ap (λ b. cond b (get t.records q) None)
+          (k q (subst IsSome (sym at) refl))
 
 module _ (t : Tree) (h : Holds) (g : IsGoodTree t) (s : IsHeldIn t h) (olddir : ℕ)
     (oldname : List ℕ) (newdir : ℕ) (newname : List ℕ) (fine : name_fault newname ≡ None) (ino : ℕ)
     (is : lookup_of t olddir oldname ≡ Ok ino)
     (directory : is_directory_at (body_at t.records newdir) ≡ true)
-        (live : is_linked t.records newdir ≡ true)
+    (live : is_linked t.records newdir ≡ true)
     (other : same_ino ino (result_ok (lookup_of t newdir newname)) ≡ false)
-        (free : move_refused t olddir newdir ino (result_ok (lookup_of t newdir newname)) ≡ None)
-        where
+    (free : move_refused t olddir newdir ino (result_ok (lookup_of t newdir newname)) ≡
+    None) where
   abbrev moved : Tree
   moved = with_moved (without_replaced t newdir newname (result_ok (lookup_of t newdir newname)))
       olddir oldname newdir newname ino
@@ -239,29 +243,29 @@ module _ (t : Tree) (h : Holds) (g : IsGoodTree t) (s : IsHeldIn t h) (olddir : 
   kept_by : (r : Result ℕ ℕ) → lookup_of t newdir newname ≡ r
       → move_refused t olddir newdir ino (result_ok r) ≡ None
       → IsGoodTree (without_replaced t newdir newname (result_ok r))
-          → IsMove (without_replaced t newdir newname (result_ok r)) olddir oldname newdir newname
-          ino
+      → IsMove (without_replaced t newdir newname (result_ok r)) olddir oldname newdir newname
+      ino
       → (v : Tree) → v ≡ with_moved (without_replaced t newdir newname (result_ok r)) olddir oldname
-          newdir newname ino → IsGoodTree v → AreStored v.records (is_held h)
+      newdir newname ino → IsGoodTree v → AreStored v.records (is_held h)
       → swept_of (is_held h) (result_ok r) v.records ≡ (keep (is_held h) v).records
   kept_by (Err e) found free left move v made v_good v_stored =
       kept_all v (is_held h) (subst (λ (v : Tree). IsKept v.records (is_held h)) (sym made)
-          (moved_kept t left olddir oldname newdir newname ino move (is_held h) s.kept))
+      (moved_kept t left olddir oldname newdir newname ino move (is_held h) s.kept))
   kept_by (Ok i) found free left move v made v_good v_stored =
       sym (kept_is_swept (good_is_counted v (is_held h) v_good v_stored) i
       (subst (λ (v : Tree). IsKeptBut v.records (is_held h) i) (sym made)
       (moved_kept_but (without_entry t newdir newname i) left olddir oldname newdir newname ino move
-          (is_held h) i (without_kept t g newdir newname i found (empty_there i free) (is_held h)
-          s.kept))))
+      (is_held h) i (without_kept t g newdir newname i found (empty_there i free) (is_held h)
+      s.kept))))
 
   module _ (rs : Records) (made : rs ≡ swept_of (is_held h) (result_ok (lookup_of t newdir newname))
-      (first_joined t olddir oldname newdir newname ino (result_ok (lookup_of t newdir newname))))
-      where
+      (first_joined t olddir oldname newdir newname ino
+      (result_ok (lookup_of t newdir newname)))) where
     kept : rs ≡ (keep (is_held h) moved).records
     kept =
         made ∙ ap (swept_of (is_held h) (result_ok (lookup_of t newdir newname)))
-            (order_is_free t olddir oldname newdir newname ino (lookup_of t newdir newname) refl
-            known.1)
+        (order_is_free t olddir oldname newdir newname ino (lookup_of t newdir newname) refl
+        known.1)
         ∙ kept_by (lookup_of t newdir newname) refl free known.0 known.1 moved refl good stored
 
     abbrev whole : Records → Tree
@@ -309,7 +313,7 @@ module _ (t : Tree) (h : Holds) (g : IsGoodTree t) (s : IsHeldIn t h) (olddir : 
   abbrev Moves : Option ℕ → Type 0
   Moves o = same_ino ino o ≡ false → move_refused t olddir newdir ino o ≡ None → (rs : Records)
       → rs ≡ swept_of (is_held h) o (first_joined t olddir oldname newdir newname ino o)
-          → IsMoved t h olddir oldname newdir newname ino o (tree_from rs t.next t.limits t.moment)
+      → IsMoved t h olddir oldname newdir newname ino o (tree_from rs t.next t.limits t.moment)
 
   pub moves : name_fault newname ≡ None → lookup_of t olddir oldname ≡ Ok ino
       → is_directory_at (body_at t.records newdir) ≡ true → is_linked t.records newdir ≡ true
@@ -334,7 +338,7 @@ module _ (held : ℕ → Bool) (t : Tree) (olddir : ℕ) (oldname : List ℕ) (n
   told_by r is =
       ap (move_to held t olddir oldname newdir newname ino) (sym told)
       ∙ ap (λ b. cond {A = Result (Unit {0} × Tree) ℕ} b (Ok (tt, t))
-          (unless_refused (move_refused t olddir newdir ino there) tt (keep held to))) other
+      (unless_refused (move_refused t olddir newdir ino there) tt (keep held to))) other
       ∙ ap (λ r. unless_refused r tt (keep held to)) is
 
   pub told_refused : (e : ℕ) → move_refused t olddir newdir ino there ≡ Some e
@@ -345,8 +349,10 @@ module _ (held : ℕ → Bool) (t : Tree) (olddir : ℕ) (oldname : List ℕ) (n
       → (u : Tree) (r : Result (Unit {0}) HostError) → OnOk r (u ≡ keep held to)
       → IfErr r (λ e. (e ≡ NoMemory) × (u ≡ t))
       → Leaves (move_to held t olddir oldname newdir newname ino o) t u r
-  told_moved is u (Ok a) ok err = record { exactly = told_by None is
-      ∙ ap (λ (u : Tree). Ok (tt, u)) (sym ok) }
+  told_moved is u (Ok a) ok err = record {
+    exactly = told_by None is
+        ∙ ap (λ (u : Tree). Ok (tt, u)) (sym ok);
+  }
   told_moved is u (Err (Errno e)) ok err = absurd (let same = err.0 in cc)
   told_moved is u (Err Fault) ok err = record { exactly = err.1 }
   told_moved is u (Err NoMemory) ok err = record { exactly = err.1 }

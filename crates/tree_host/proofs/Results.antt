@@ -88,22 +88,22 @@ walk_on-parts : (t : Tree) (at : Result ℕ ℕ) (parts : List (List ℕ))
     → part_end t.records (walk_parts t.records at parts) ≡ walk_on t at
     (filter (λ part. not (length part == 0)) parts)
 walk_on-parts t at [] = part_end-walk_end t at
-walk_on-parts t at (part ∷ parts) = by_test (length part == 0) refl (λ at. walk_on-parts t at parts)
-    where
-  by_test : (b : Bool) → (length part == 0) ≡ b
-      → ((at : Result ℕ ℕ) → part_end t.records (walk_parts t.records at parts) ≡ walk_on t at
-      (filter (λ part. not (length part == 0)) parts))
-      → part_end t.records (walk_parts t.records (part_step t.records part at) parts) ≡ walk_on t at
+walk_on-parts t at (part ∷ parts) = by_test (length part == 0) refl
+    (λ at. walk_on-parts t at parts) where
+      by_test : (b : Bool) → (length part == 0) ≡ b
+          → ((at : Result ℕ ℕ) → part_end t.records (walk_parts t.records at parts) ≡ walk_on t at
+          (filter (λ part. not (length part == 0)) parts))
+          → part_end t.records (walk_parts t.records (part_step t.records part at) parts) ≡ walk_on t at
           (filter (λ part. not (length part == 0)) (part ∷ parts))
-  by_test true is later = ap (λ at. part_end t.records (walk_parts t.records at parts))
-      (empty_step t part at is) ∙ later at ∙ ap
-      (λ b. walk_on t at (cond (not b) (part ∷ filter (λ part. not (length part == 0)) parts)
-      (filter (λ part. not (length part == 0)) parts))) (sym is)
-  by_test false is later = later (part_step t.records part at)
-      ∙ ap (λ at. walk_on t at (filter (λ part. not (length part == 0)) parts))
-      (full_step t part at is) ∙ ap (λ b. walk_on t at
-      (cond (not b) (part ∷ filter (λ part. not (length part == 0)) parts)
-      (filter (λ part. not (length part == 0)) parts))) (sym is)
+      by_test true is later = ap (λ at. part_end t.records (walk_parts t.records at parts))
+          (empty_step t part at is) ∙ later at ∙ ap
+          (λ b. walk_on t at (cond (not b) (part ∷ filter (λ part. not (length part == 0)) parts)
+          (filter (λ part. not (length part == 0)) parts))) (sym is)
+      by_test false is later = later (part_step t.records part at)
+          ∙ ap (λ at. walk_on t at (filter (λ part. not (length part == 0)) parts))
+          (full_step t part at is) ∙ ap (λ b. walk_on t at
+          (cond (not b) (part ∷ filter (λ part. not (length part == 0)) parts)
+          (filter (λ part. not (length part == 0)) parts))) (sym is)
 
 pub walk_of-root_of : (t : Tree) (path : List ℕ)
     → walk_of t.records path ≡ root_of t (path_names path)
@@ -114,22 +114,22 @@ walk_of-root_of t path = walk_on-parts t (Ok TOP) (slice_split (λ b. b == 47) p
 walk_to-parts : (t : Tree) (at : Result ℕ ℕ) (parts : List (List ℕ))
     → walk_parts t.records at parts ≡ walk_to t at (filter (λ part. not (length part == 0)) parts)
 walk_to-parts t at [] = refl
-walk_to-parts t at (part ∷ parts) = by_test (length part == 0) refl (λ at. walk_to-parts t at parts)
-    where
-  by_test : (b : Bool) → (length part == 0) ≡ b
-      → ((at : Result ℕ ℕ) → walk_parts t.records at parts ≡ walk_to t at
-      (filter (λ part. not (length part == 0)) parts))
-      → walk_parts t.records (part_step t.records part at) parts ≡ walk_to t at
+walk_to-parts t at (part ∷ parts) = by_test (length part == 0) refl
+    (λ at. walk_to-parts t at parts) where
+      by_test : (b : Bool) → (length part == 0) ≡ b
+          → ((at : Result ℕ ℕ) → walk_parts t.records at parts ≡ walk_to t at
+          (filter (λ part. not (length part == 0)) parts))
+          → walk_parts t.records (part_step t.records part at) parts ≡ walk_to t at
           (filter (λ part. not (length part == 0)) (part ∷ parts))
-  by_test true is later = ap (λ at. walk_parts t.records at parts) (empty_step t part at is)
-      ∙ later at ∙ ap (λ b. walk_to t at (cond (not b)
-      (part ∷ filter (λ part. not (length part == 0)) parts)
-      (filter (λ part. not (length part == 0)) parts))) (sym is)
-  by_test false is later = later (part_step t.records part at)
-      ∙ ap (λ at. walk_to t at (filter (λ part. not (length part == 0)) parts))
-      (full_step t part at is) ∙ ap (λ b. walk_to t at
-      (cond (not b) (part ∷ filter (λ part. not (length part == 0)) parts)
-      (filter (λ part. not (length part == 0)) parts))) (sym is)
+      by_test true is later = ap (λ at. walk_parts t.records at parts) (empty_step t part at is)
+          ∙ later at ∙ ap (λ b. walk_to t at (cond (not b)
+          (part ∷ filter (λ part. not (length part == 0)) parts)
+          (filter (λ part. not (length part == 0)) parts))) (sym is)
+      by_test false is later = later (part_step t.records part at)
+          ∙ ap (λ at. walk_to t at (filter (λ part. not (length part == 0)) parts))
+          (full_step t part at is) ∙ ap (λ b. walk_to t at
+          (cond (not b) (part ∷ filter (λ part. not (length part == 0)) parts)
+          (filter (λ part. not (length part == 0)) parts))) (sym is)
 
 -- an answer that is found, or none
 pub found_by_ok : (t : Tree) (path : List ℕ) (ino : ℕ)
@@ -145,6 +145,6 @@ pub found_by_err : (t : Tree) (path : List ℕ) (e : HostError)
 found_by_err t path e is = none_told (walk_parts t.records (Ok TOP)
     (slice_split (λ b. b == 47) path)) e is ∙ ap result_ok
     (walk_to-parts t (Ok TOP) (slice_split (λ b. b == 47) path)) where
-  none_told : (told : Result ℕ ℕ) (e : HostError) → Err e ≡ as_errno told → None ≡ result_ok told
-  none_told (Ok a) e is = absurd (cc)
-  none_told (Err n) e is = refl
+      none_told : (told : Result ℕ ℕ) (e : HostError) → Err e ≡ as_errno told → None ≡ result_ok told
+      none_told (Ok a) e is = absurd (cc)
+      none_told (Err n) e is = refl

@@ -26,16 +26,16 @@ keep_again : (t : Tree) → IsGoodTree t → (held less : ℕ → Bool)
     → ((i : ℕ) → less i ≡ true → held i ≡ true) → keep less (keep held t) ≡ keep less t
 keep_again t g held less within = ap (λ (rs : Records). record t { records = rs })
     (same_gets _ _ at) where
-  at : (q : ℕ) → get (keep less (keep held t)).records q ≡ get (keep less t).records q
-  at q =
-      retained (keep held t).records (λ i. is_linked (keep held t).records i || less i) q
-      ∙ ap (λ b. cond (b || less q) (get (keep held t).records q) None)
+      at : (q : ℕ) → get (keep less (keep held t)).records q ≡ get (keep less t).records q
+      at q =
+          retained (keep held t).records (λ i. is_linked (keep held t).records i || less i) q
+          ∙ ap (λ b. cond (b || less q) (get (keep held t).records q) None)
           (retained-is_linked t g (λ i. is_linked t.records i || held i)
           (λ i live. ap (λ b. b || held i) live) q)
-      ∙ ap (λ o. cond (is_linked t.records q || less q) o None)
+          ∙ ap (λ o. cond (is_linked t.records q || less q) o None)
           (retained t.records (λ i. is_linked t.records i || held i) q)
-      ∙ merged (is_linked t.records q) (held q) (less q) (get t.records q) (within q)
-      ∙ sym (retained t.records (λ i. is_linked t.records i || less i) q)
+          ∙ merged (is_linked t.records q) (held q) (less q) (get t.records q) (within q)
+          ∙ sym (retained t.records (λ i. is_linked t.records i || less i) q)
 
 -- ---- what is counted down is the nodes alone, and by the nodes alone
 
@@ -92,7 +92,7 @@ module _ (m : MachineState) (node number : ℕ) where
       let v : Node = record { ino = n.ino; count = n.count - number } in
       let step = weigh-insert (node_weight i) m.nodes node v in
       let had : weight (node_weight i) (get m.nodes node) ≡ node_weight i n =
-          ap (weight (node_weight i)) at in
+      ap (weight (node_weight i)) at in
       omega (arith, step, had)
 
   where_named : (i : ℕ) (o : Option Node) → get m.nodes node ≡ o
@@ -117,7 +117,7 @@ all_rest m [] = refl
 all_rest m (p ∷ ps) =
     all_rest (forgotten m p.0 p.1) ps
     ∙ ap (λ (x : MachineState). record x { nodes = (all_forgotten (forgotten m p.0 p.1) ps).nodes })
-        (forgotten_rest m p.0 p.1)
+    (forgotten_rest m p.0 p.1)
 
 pub all_tree : (m : MachineState) (t : Tree) (ps : List (ℕ × ℕ))
     → all_forgotten (record m { tree = t }) ps ≡ record (all_forgotten m ps) { tree = t }
@@ -141,7 +141,7 @@ still_named : (m : MachineState) (ps : List (ℕ × ℕ)) (i : ℕ)
 still_named m ps i h =
     lt_more _ _ _ (all_named m ps i)
     (sym (ap (λ (x : MachineState). is_named (all_forgotten m ps).nodes x.handles i)
-        (all_rest m ps)) ∙ h)
+    (all_rest m ps)) ∙ h)
 
 -- the records go that nothing names, and the pairs are counted down: in either order the same is
 -- left
@@ -150,11 +150,11 @@ pub kept_between : (m : MachineState) (ps : List (ℕ × ℕ)) → IsGoodTree m.
 kept_between m ps g =
     ap kept_state (all_tree m (kept_state m).tree ps)
     ∙ ap (λ (t : Tree). record (all_forgotten m ps) { tree = t })
-        (keep_again m.tree g (is_named m.nodes m.handles)
-        (is_named (all_forgotten m ps).nodes (all_forgotten m ps).handles) (still_named m ps))
+    (keep_again m.tree g (is_named m.nodes m.handles)
+    (is_named (all_forgotten m ps).nodes (all_forgotten m ps).handles) (still_named m ps))
     ∙ ap (λ (t : Tree). record (all_forgotten m ps)
-        { tree = keep (is_named (all_forgotten m ps).nodes (all_forgotten m ps).handles) t })
-        (sym (ap (λ (x : MachineState). x.tree) (all_rest m ps)))
+    { tree = keep (is_named (all_forgotten m ps).nodes (all_forgotten m ps).handles) t })
+    (sym (ap (λ (x : MachineState). x.tree) (all_rest m ps)))
 
 -- and as many nodes go
 pub gone_between : (m : MachineState) (ps : List (ℕ × ℕ))

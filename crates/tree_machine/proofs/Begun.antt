@@ -46,11 +46,14 @@ module _ (s : Settings) (t : Tree) (root : ℕ) where
   pub one_node : (q : ℕ) (n : Node) → get (begun t root).nodes q ≡ Some n → (q ≡ FUSE_ROOT_ID)
       × (root_node ≡ n)
   one_node q n at = ⊎_elim
-      (λ equal. (equal, (let one : Some root_node ≡ Some n =
-          sym (inserted empty FUSE_ROOT_ID root_node)
-          ∙ subst (λ k. get (begun t root).nodes k ≡ Some n) equal at in cc)))
+      (λ equal. (
+        equal,
+        (let one : Some root_node ≡ Some n =
+            sym (inserted empty FUSE_ROOT_ID root_node)
+            ∙ subst (λ k. get (begun t root).nodes k ≡ Some n) equal at in cc),
+      ))
       (λ ne. absurd (let none : None ≡ Some n = sym (get-empty {X = Node} nat_cmp q)
-          ∙ sym (insert_keeps empty FUSE_ROOT_ID root_node q ne) ∙ at in cc))
+      ∙ sym (insert_keeps empty FUSE_ROOT_ID root_node q ne) ∙ at in cc))
       (cases_eq q FUSE_ROOT_ID)
 
   no_handle : (q : ℕ) → get (begun t root).handles q ≡ None
@@ -59,10 +62,10 @@ module _ (s : Settings) (t : Tree) (root : ℕ) where
   one_long : len (begun t root).nodes + len (begun t root).handles ≡ 1
   one_long =
       let nodes : len (begun t root).nodes ≡ 1 =
-          len-insert nat_cmp_total empty FUSE_ROOT_ID root_node
-          ∙ ap (λ (o : Option Node). cond (is_some o) (len (empty {X = Node} {R = nat_cmp}))
-          (len (empty {X = Node} {R = nat_cmp}) + 1)) (get-empty {X = Node} nat_cmp FUSE_ROOT_ID)
-          ∙ ap (λ k. k + 1) (len-empty nat_cmp Node) in
+      len-insert nat_cmp_total empty FUSE_ROOT_ID root_node
+      ∙ ap (λ (o : Option Node). cond (is_some o) (len (empty {X = Node} {R = nat_cmp}))
+      (len (empty {X = Node} {R = nat_cmp}) + 1)) (get-empty {X = Node} nat_cmp FUSE_ROOT_ID)
+      ∙ ap (λ k. k + 1) (len-empty nat_cmp Node) in
       let handles : len (begun t root).handles ≡ 0 = len-empty nat_cmp Handle in
       omega (arith, nodes, handles)
 
@@ -70,7 +73,7 @@ module _ (s : Settings) (t : Tree) (root : ℕ) where
       → IsGoodMachine s (begun t root)
   begun_good good found room =
       let had : IsSome (get t.records root) =
-          stored_by (get t.records root) (root_is_directory t s.root (Ok TOP) root found) in
+      stored_by (get t.records root) (root_is_directory t s.root (Ok TOP) root found) in
       record {
         tree = good;
         root = subst IsSome (sym (inserted empty FUSE_ROOT_ID root_node)) refl;

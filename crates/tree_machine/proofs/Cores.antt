@@ -35,12 +35,12 @@ module _ (s : Settings) (m : MachineState) (node : ℕ) where
   core_alike (open_file flags) h =
       let o : Option Node = get m.nodes node in
       ap (λ (r : Option ℕ). refused_or m r (opened m (node_ino o) flags
-          (link_check (body_at m.tree.records (node_ino o)))))
-          (flags_pass (opens_to_read flags) (open_refusal s m o) h)
+      (link_check (body_at m.tree.records (node_ino o)))))
+      (flags_pass (opens_to_read flags) (open_refusal s m o) h)
       ∙ ap (λ (r : Result (Unit {0}) ℕ). refused_or m
-          (first_refusal (refused_if (not (opens_to_read flags)) ENOSYS ∷ open_refusal s m o ∷ []))
-          (opened m (node_ino o) flags r)) (sym
-          (checked_alike flags h (body_at m.tree.records (node_ino o))))
+      (first_refusal (refused_if (not (opens_to_read flags)) ENOSYS ∷ open_refusal s m o ∷ []))
+      (opened m (node_ino o) flags r)) (sym
+      (checked_alike flags h (body_at m.tree.records (node_ino o))))
   core_alike (read fh offset size flags lock) h = refl
   core_alike (flush fh) h = refl
   core_alike (release fh) h = refl
@@ -64,10 +64,13 @@ module _ (s : Settings) where
       → core_play_from s m frames ≡ play_from s m frames
   core_plays m [] cs = refl
   core_plays m (f ∷ fs) cs =
-      ap (λ (x : List ℕ × MachineState). (x.0
-          ++ (core_play_from s x.1 fs).0, (core_play_from s x.1 fs).1)) (core_steps m f cs.0)
+      ap (λ (x : List ℕ × MachineState). (
+        x.0
+            ++ (core_play_from s x.1 fs).0,
+        (core_play_from s x.1 fs).1,
+      )) (core_steps m f cs.0)
       ∙ ap (λ (x : List ℕ × MachineState). ((step s m f).0 ++ x.0, x.1))
-          (core_plays (step s m f).1 fs cs.1)
+      (core_plays (step s m f).1 fs cs.1)
 
   pub core_whole_plays : (t : Tree) (root : ℕ) (frames : List (List ℕ)) → AreCoreRequests frames
       → core_play s t root frames ≡ play s t root frames

@@ -54,7 +54,7 @@ nine_unknown : get with_hello.nodes 9 ≡ None
 nine_unknown =
     insert_keeps started.nodes 2 hello_node 9 (λ h. absurd (omega (arith, h)))
     ∙ insert_keeps empty 1 root_node 9 (λ h. absurd (omega (arith, h)))
-        ∙ get-empty {X = Node} nat_cmp 9
+    ∙ get-empty {X = Node} nat_cmp 9
 
 is_open : get with_open.handles 3 ≡ Some hello_handle
 is_open = inserted with_hello.handles 3 hello_handle
@@ -67,14 +67,14 @@ none_open = get-empty {X = Handle} nat_cmp 3
 open_limit : is_at_limit settings with_hello ≡ false
 open_limit =
     let one : len started.nodes ≡ 1 = len-insert nat_cmp_total empty 1 root_node
-        ∙ ap (λ (o : Option Node). cond (is_some o) (len (empty {X = Node} {R = nat_cmp}))
-        (len (empty {X = Node} {R = nat_cmp}) + 1)) (get-empty {X = Node} nat_cmp 1)
-        ∙ ap (λ k. k + 1) (len-empty nat_cmp Node) in
+    ∙ ap (λ (o : Option Node). cond (is_some o) (len (empty {X = Node} {R = nat_cmp}))
+    (len (empty {X = Node} {R = nat_cmp}) + 1)) (get-empty {X = Node} nat_cmp 1)
+    ∙ ap (λ k. k + 1) (len-empty nat_cmp Node) in
     let two : len with_hello.nodes ≡ 2 = len-insert nat_cmp_total started.nodes 2 hello_node
-        ∙ ap (λ (o : Option Node). cond (is_some o) (len started.nodes) (len started.nodes + 1))
-        hello_unknown ∙ ap (λ k. k + 1) one in
+    ∙ ap (λ (o : Option Node). cond (is_some o) (len started.nodes) (len started.nodes + 1))
+    hello_unknown ∙ ap (λ k. k + 1) one in
     ap (λ k. nat_le 1024 (k + len started.handles) || nat_le 4294967295 3) two
-        ∙ ap (λ k. nat_le 1024 (2 + k) || nat_le 4294967295 3) (len-empty nat_cmp Handle)
+    ∙ ap (λ k. nat_le 1024 (2 + k) || nat_le 4294967295 3) (len-empty nat_cmp Handle)
 
 open_asked : request_in_turn Started open_frame ≡ Ok (open_file 0)
 unfolding u32_at u64_at request_of request_in open_of
@@ -88,21 +88,21 @@ open_passed : open_refusal settings with_hello (get with_hello.nodes 2) ≡ None
 open_passed =
     ap (λ (o : Option Node). open_refusal settings with_hello o) hello_known
     ∙ ap (λ (b : Bool). first_refusal (refused_if b ENFILE
-        ∷ refused_if (is_directory_at (body_at tree.records 2)) EISDIR ∷ [])) open_limit
+    ∷ refused_if (is_directory_at (body_at tree.records 2)) EISDIR ∷ [])) open_limit
     ∙ ap (λ (o : Option Record). first_refusal
-        (refused_if (is_directory_at (option_map (λ (r : Record). r.body) o)) EISDIR ∷ [])) file_at
+    (refused_if (is_directory_at (option_map (λ (r : Record). r.body) o)) EISDIR ∷ [])) file_at
 
 open_checked : open_check_of tree (node_ino (get with_hello.nodes 2)) 0 ≡ Ok tt
 open_checked =
     ap (λ (o : Option Node). open_check_of tree (node_ino o) 0) hello_known
     ∙ ap (λ (o : Option Record). body_answer (λ b. unless (open_refused 0 (kind_of b)))
-        (option_map (λ (r : Record). r.body) o)) file_at
+    (option_map (λ (r : Record). r.body) o)) file_at
 
 opened_is : answer_of settings with_hello 2 (Ok (open_file 0)) ≡ (Opened 3, with_open)
 opened_is =
     ap (λ (o : Option ℕ). refused_or with_hello (first_refusal (o ∷ []))
-        (opened with_hello (node_ino (get with_hello.nodes 2)) 0
-        (open_check_of tree (node_ino (get with_hello.nodes 2)) 0))) open_passed
+    (opened with_hello (node_ino (get with_hello.nodes 2)) 0
+    (open_check_of tree (node_ino (get with_hello.nodes 2)) 0))) open_passed
     ∙ ap (λ r. opened with_hello (node_ino (get with_hello.nodes 2)) 0 r) open_checked
     ∙ ap (λ (o : Option Node). opened with_hello (node_ino o) 0 (Ok tt)) hello_known
 
@@ -127,7 +127,7 @@ open_counted =
     ap (λ r. request_messages 4341 settings with_hello (head_of open_frame).nodeid r) open_asked
     ∙ ap (λ n. request_messages 4341 settings with_hello n (Ok (open_file 0))) open_nodeid
     ∙ ap (λ (o : Option ℕ). none_or (first_refusal (o ∷ []))
-        (opened_messages (open_check_of tree (node_ino (get with_hello.nodes 2)) 0))) open_passed
+    (opened_messages (open_check_of tree (node_ino (get with_hello.nodes 2)) 0))) open_passed
     ∙ ap opened_messages open_checked
 
 -- flags that aren't served come first, then a node that isn't there, then a directory
@@ -150,9 +150,9 @@ directory_refused : open_refusal settings with_hello (get with_hello.nodes 1) �
 directory_refused =
     ap (λ (o : Option Node). open_refusal settings with_hello o) root_known
     ∙ ap (λ (b : Bool). first_refusal (refused_if b ENFILE
-        ∷ refused_if (is_directory_at (body_at tree.records 1)) EISDIR ∷ [])) open_limit
+    ∷ refused_if (is_directory_at (body_at tree.records 1)) EISDIR ∷ [])) open_limit
     ∙ ap (λ (o : Option Record). first_refusal
-        (refused_if (is_directory_at (option_map (λ (r : Record). r.body) o)) EISDIR ∷ [])) top_at
+    (refused_if (is_directory_at (option_map (λ (r : Record). r.body) o)) EISDIR ∷ [])) top_at
 
 pub open_directory : (answer_of settings with_hello 1 (Ok (open_file 0))).0 ≡ Refused EISDIR
 open_directory = ap (λ (o : Option ℕ). (refused_or with_hello (first_refusal (o ∷ []))
@@ -192,10 +192,12 @@ reads_file : (offset size : ℕ) → read_by offset size (get with_open.handles 
 reads_file offset size =
     ap (read_by offset size) is_open
     ∙ ap (λ (o : Option Record). refused_or with_open
-        (first_refusal (refused_if (is_directory_at (option_map (λ (r : Record). r.body) o)) EISDIR
-        ∷ refused_if false EBADF ∷ []))
-    (bytes_reply (body_answer (read_body offset (min size MAX_READ))
-        (option_map (λ (r : Record). r.body) o)), with_open)) file_at
+    (first_refusal (refused_if (is_directory_at (option_map (λ (r : Record). r.body) o)) EISDIR
+    ∷ refused_if false EBADF ∷ [])) (
+      bytes_reply (body_answer (read_body offset (min size MAX_READ))
+          (option_map (λ (r : Record). r.body) o)),
+      with_open,
+    )) file_at
 
 read_told : frame_answer settings with_open read_frame ≡ (Bytes (codes "ello"), with_open)
 read_told = ap (λ r. answer_of settings with_open (head_of read_frame).nodeid r) read_asked
@@ -213,12 +215,12 @@ pub read_counted : messages 4341 settings with_open read_frame ≡ 1
 read_counted =
     ap (λ r. request_messages 4341 settings with_open (head_of read_frame).nodeid r) read_asked
     ∙ ap (λ (o : Option Handle). none_or (read_refusal with_open o)
-        (read_messages 4341 4 (bytes_read with_open 1 4 o))) is_open
+    (read_messages 4341 4 (bytes_read with_open 1 4 o))) is_open
     ∙ ap (λ (o : Option Record). none_or (first_refusal
-        (refused_if (is_directory_at (option_map (λ (r : Record). r.body) o)) EISDIR
-        ∷ refused_if false EBADF ∷ []))
+    (refused_if (is_directory_at (option_map (λ (r : Record). r.body) o)) EISDIR
+    ∷ refused_if false EBADF ∷ []))
     (read_messages 4341 4 (body_answer (read_body 1 4) (option_map (λ (r : Record). r.body) o))))
-        file_at
+    file_at
 
 pub read_to_end : (answer_of settings with_open 2 (Ok (read 3 4 4294967295 0 None))).0 ≡ Bytes
     (codes "o\n")
@@ -261,7 +263,7 @@ release_leaves = ap (λ (x : Reply × MachineState). x.1) release_told
 pub release_counted : messages 4341 settings with_open release_frame ≡ 1
 release_counted =
     ap (λ r. request_messages 4341 settings with_open (head_of release_frame).nodeid r)
-        release_asked
+    release_asked
     ∙ ap (λ (o : Option Handle). none_or (refused_unknown o EBADF) 1) is_open
 
 -- ---- FORGET and BATCH_FORGET

@@ -16,7 +16,7 @@ module _ {X : Type 0} (p : ℕ × X → Bool) where
   in_list [] e h at = absurd (cc)
   in_list (f ∷ es) e h at =
       (λ (b : Bool) (is : p f ≡ b). (elim b as
-          (λ b. p f ≡ b → (map.find nat_cmp e.0 (f ∷ es) ≡ Some e.1) × (p e ≡ true)) [
+      (λ b. p f ≡ b → (map.find nat_cmp e.0 (f ∷ es) ≡ Some e.1) × (p e ≡ true)) [
         | true ↦ λ is.
             let one : Some f ≡ Some e = rw is at at in
             let same : f ≡ e = cc in (
@@ -31,10 +31,10 @@ module _ {X : Type 0} (p : ℕ × X → Bool) where
             let there = in_list es e (second _ _ h) rest in (
               ⊎_elim
                   (λ eq. absurd (let none : map.find nat_cmp e.0 es ≡ None =
-                      subst (λ k. map.find nat_cmp k es ≡ None) (sym eq)
-                      (find_below f.0 es (first _ _ h)) in let some = there.0 in cc))
+                  subst (λ k. map.find nat_cmp k es ≡ None) (sym eq)
+                  (find_below f.0 es (first _ _ h)) in let some = there.0 in cc))
                   (λ ne. ap (λ b. cond b (Some f.1) (map.find nat_cmp e.0 es)) (apart e.0 f.0 ne)
-                      ∙ there.0)
+                  ∙ there.0)
                   (cases_eq e.0 f.0),
               there.1,
             )
@@ -56,13 +56,13 @@ module _ {X : Type 0} (p : ℕ × X → Bool) where
             ⊎_elim
             (λ eq.
             let here : Some f.1 ≡ Some x = sym
-                (ap (λ b. cond b (Some f.1) (map.find nat_cmp k es))
-                (ap (λ j. eq_by_cmp nat_cmp k j) (sym eq) ∙ at_itself k)) ∙ at in
+            (ap (λ b. cond b (Some f.1) (map.find nat_cmp k es))
+            (ap (λ j. eq_by_cmp nat_cmp k j) (sym eq) ∙ at_itself k)) ∙ at in
             let value : f.1 ≡ x = cc in
             let pair : f ≡ (k, x) = λ t. (sym eq t, value t) in
             ap p (sym pair) ∙ is)
             (λ ne. none_in_list es k x rest (sym
-                (ap (λ b. cond b (Some f.1) (map.find nat_cmp k es)) (apart k f.0 ne)) ∙ at))
+            (ap (λ b. cond b (Some f.1) (map.find nat_cmp k es)) (apart k f.0 ne)) ∙ at))
             (cases_eq k f.0)
       ]) is) (p f) refl
 

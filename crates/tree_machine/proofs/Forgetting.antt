@@ -16,8 +16,10 @@ use Rattle.tree_machine.specs.Good.{IsGoodMachine}
 use Rattle.tree_machine.proofs.Nodes.{recounted, node_gone, len_fewer}
 
 abbrev pub with_count : MachineState → ℕ → ℕ → Node → MachineState
-with_count m node number n = record m { nodes =
-    insert m.nodes node (record { ino = n.ino; count = n.count - number }) }
+with_count m node number n = record m {
+  nodes =
+      insert m.nodes node (record { ino = n.ino; count = n.count - number });
+}
 
 abbrev pub without : MachineState → ℕ → MachineState
 without m node = record m { nodes = remove m.nodes node }
@@ -67,8 +69,11 @@ module _ (m : MachineState) (node number : ℕ) where
   less_fewer : (n : Node) → get m.nodes node ≡ Some n → (b : Bool)
       → len (cond b (without m node) (with_count m node number n)).nodes ≤ len m.nodes
   less_fewer n at true = len_fewer m.nodes node
-  less_fewer n at false = omega (arith, same_many n
-      (record { ino = n.ino; count = n.count - number }) at)
+  less_fewer n at false = omega (
+    arith,
+    same_many n
+        (record { ino = n.ino; count = n.count - number }) at,
+  )
 
   where_fewer : (o : Option Node) → get m.nodes node ≡ o
       → len (less_where m node number o).nodes ≤ len m.nodes
@@ -101,11 +106,11 @@ pub gone_one : (m : MachineState) (node : ℕ) (n : Node) → get m.nodes node �
     → gone m (without m node) ≡ 1
 gone_one m node n at =
     let fewer : len (remove m.nodes node) ≡ len m.nodes - 1 = len-remove nat_cmp_total m.nodes node
-        ∙ ap (λ (o : Option Node). cond (is_some o) (len m.nodes - 1) (len m.nodes)) at in
+    ∙ ap (λ (o : Option Node). cond (is_some o) (len m.nodes - 1) (len m.nodes)) at in
     let back : len (insert (remove m.nodes node) node n) ≡ len (remove m.nodes node) + 1 =
-        len-insert nat_cmp_total (remove m.nodes node) node n
-        ∙ ap (λ (o : Option Node). cond (is_some o) (len (remove m.nodes node))
-        (len (remove m.nodes node) + 1)) (removed m.nodes node) in
+    len-insert nat_cmp_total (remove m.nodes node) node n
+    ∙ ap (λ (o : Option Node). cond (is_some o) (len (remove m.nodes node))
+    (len (remove m.nodes node) + 1)) (removed m.nodes node) in
     let whole : len (insert (remove m.nodes node) node n) ≡ len m.nodes =
-        ap len (put_back m.nodes node n at) in
+    ap len (put_back m.nodes node n at) in
     omega (arith, fewer, back, whole)

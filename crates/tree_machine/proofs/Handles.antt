@@ -21,9 +21,13 @@ module _ (s : Settings) (m : MachineState) (g : IsGoodMachine s m) where
   handle_drawn v access openable open_limit = record {
     tree = g.tree;
     root = g.root;
-    nodes = λ q n at. let good = g.nodes q n at in record
-        { positive = good.positive; drawn = (let d = good.drawn in omega arith); counted =
-        good.counted; stored = good.stored };
+    nodes = λ q n at. let good = g.nodes q n at in record {
+      positive = good.positive;
+      drawn = (let d = good.drawn in omega arith);
+      counted =
+          good.counted;
+      stored = good.stored;
+    };
     handles = λ q h at. ⊎_elim
         (λ is. record {
           positive = subst (λ k. 1 ≤ k) (sym is.0) (let low = root_below s m g in omega arith);
@@ -32,9 +36,13 @@ module _ (s : Settings) (m : MachineState) (g : IsGoodMachine s m) where
           openable = subst (λ (h : Handle). IsOpenable (body_at m.tree.records h.ino) h) is.1
               openable;
         })
-        (λ old. let good = g.handles q h old.1 in record
-            { positive = good.positive; drawn = (let d = good.drawn in omega arith); access =
-            good.access; openable = good.openable })
+        (λ old. let good = g.handles q h old.1 in record {
+          positive = good.positive;
+          drawn = (let d = good.drawn in omega arith);
+          access =
+              good.access;
+          openable = good.openable;
+        })
         (put_at q h at);
     apart = λ q n at. insert_keeps m.handles m.next v q
         (λ is. let d = (g.nodes q n at).drawn in omega (arith, is, d)) ∙ g.apart q n at;
@@ -45,8 +53,11 @@ module _ (s : Settings) (m : MachineState) (g : IsGoodMachine s m) where
     put_at : (q : ℕ) (h : Handle) → get (insert m.handles m.next v) q ≡ Some h
         → ((q ≡ m.next) × (v ≡ h)) ⊎ ((q ≢ m.next) × (get m.handles q ≡ Some h))
     put_at q h at = ⊎_elim
-        (λ is. inl (is, (let one : Some v ≡ Some h = sym (inserted m.handles m.next v)
-            ∙ subst (λ k. get (insert m.handles m.next v) k ≡ Some h) is at in cc)))
+        (λ is. inl (
+          is,
+          (let one : Some v ≡ Some h = sym (inserted m.handles m.next v)
+              ∙ subst (λ k. get (insert m.handles m.next v) k ≡ Some h) is at in cc),
+        ))
         (λ ne. inr (ne, sym (insert_keeps m.handles m.next v q ne) ∙ at))
         (cases_eq q m.next)
 
@@ -60,12 +71,20 @@ module _ (s : Settings) (m : MachineState) (g : IsGoodMachine s m) where
   handle_gone id = record {
     tree = g.tree;
     root = g.root;
-    nodes = λ q n at. let good = g.nodes q n at in record
-        { positive = good.positive; drawn = good.drawn; counted = good.counted; stored =
-        good.stored };
-    handles = λ q h at. let good = g.handles q h (left q h at) in record
-        { positive = good.positive; drawn = good.drawn; access = good.access; openable =
-        good.openable };
+    nodes = λ q n at. let good = g.nodes q n at in record {
+      positive = good.positive;
+      drawn = good.drawn;
+      counted = good.counted;
+      stored =
+          good.stored;
+    };
+    handles = λ q h at. let good = g.handles q h (left q h at) in record {
+      positive = good.positive;
+      drawn = good.drawn;
+      access = good.access;
+      openable =
+          good.openable;
+    };
     apart = λ q n at. none_left q (g.apart q n at);
     once = g.once;
     next = g.next;
@@ -74,7 +93,7 @@ module _ (s : Settings) (m : MachineState) (g : IsGoodMachine s m) where
     left : (q : ℕ) (h : Handle) → get (remove m.handles id) q ≡ Some h → get m.handles q ≡ Some h
     left q h at = ⊎_elim
         (λ is. absurd (let none : None ≡ Some h = sym (removed m.handles id)
-            ∙ subst (λ k. get (remove m.handles id) k ≡ Some h) is at in cc))
+        ∙ subst (λ k. get (remove m.handles id) k ≡ Some h) is at in cc))
         (λ differ. sym (remove_keeps m.handles id q differ) ∙ at)
         (cases_eq q id)
 

@@ -16,16 +16,29 @@ module _ (s : Settings) where
       let count : k ≡ n + k = omega (arith, h.0) in
       subst (λ x. Hurt s x gs (n + k) (rs ++ qs) last) h.2
       (subst (λ j. Hurt s mid gs j (rs ++ qs) last) count
-          (subst (λ l. Hurt s mid gs k l last) (sym (ap (λ (l : List ℕ). l ++ qs) h.1)) g))
+      (subst (λ l. Hurt s mid gs k l last) (sym (ap (λ (l : List ℕ). l ++ qs) h.1)) g))
   Hurt-append m mid last (f ∷ fs) gs n k rs qs (inl (rest, joined, more)) g =
-      inl (rest ++ qs, ap (λ (l : List ℕ). l ++ qs) joined
-          ∙ append_assoc (step s m f).0 rest qs, Hurt-append (step s m f).1 mid last fs gs n k rest
-          qs more g)
+      inl (
+        rest ++ qs,
+        ap (λ (l : List ℕ). l ++ qs) joined
+            ∙ append_assoc (step s m f).0 rest qs,
+        Hurt-append (step s m f).1 mid last fs gs n k rest
+            qs more g,
+      )
   Hurt-append m mid last (f ∷ fs) gs n k rs qs
       (inr (bytes, rest, after, j, one, joined, count, more)) g =
-      inr (bytes, rest ++ qs, after, j + k, one, ap (λ (l : List ℕ). l ++ qs) joined
-          ∙ append_assoc bytes rest qs, omega (arith, count), Hurt-append after mid last fs gs j k
-          rest qs more g)
+      inr (
+        bytes,
+        rest ++ qs,
+        after,
+        j + k,
+        one,
+        ap (λ (l : List ℕ). l ++ qs) joined
+            ∙ append_assoc bytes rest qs,
+        omega (arith, count),
+        Hurt-append after mid last fs gs j k
+            rest qs more g,
+      )
 
   -- without a step that met a fault a run is the machine's
   pub Hurt-zero : (m last : MachineState) (fs : List (List ℕ)) (n : ℕ) (rs : List ℕ) → n ≡ 0
@@ -44,4 +57,4 @@ module _ (s : Settings) where
   messages_from-append piece m (f ∷ fs) gs =
       ap (λ (n : ℕ). messages piece s m f + n) (messages_from-append piece (step s m f).1 fs gs)
       ∙ sym (add_assoc (messages piece s m f) (messages_from piece s (step s m f).1 fs)
-          (messages_from piece s (play_from s (step s m f).1 fs).1 gs))
+      (messages_from piece s (play_from s (step s m f).1 fs).1 gs))

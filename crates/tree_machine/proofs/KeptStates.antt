@@ -31,7 +31,7 @@ node_is_named nodes handles id n at =
     let step = weigh-remove (node_weight n.ino) nodes id n at in
     let one = own_node n in
     lt_true (weigh (node_weight n.ino) (entries nodes) + weigh (handle_weight n.ino)
-        (entries handles)) (omega arith)
+    (entries handles)) (omega arith)
 
 pub handle_is_named : (nodes : FinMap nat_cmp Node) (handles : FinMap nat_cmp Handle) (id : ℕ)
     (h : Handle) → get handles id ≡ Some h → is_named nodes handles h.ino ≡ true
@@ -39,7 +39,7 @@ handle_is_named nodes handles id h at =
     let step = weigh-remove (handle_weight h.ino) handles id h at in
     let one = own_handle h in
     lt_true (weigh (node_weight h.ino) (entries nodes) + weigh (handle_weight h.ino)
-        (entries handles)) (omega arith)
+    (entries handles)) (omega arith)
 
 or_true : (a b : Bool) → b ≡ true → (a || b) ≡ true
 or_true true b h = refl
@@ -50,7 +50,7 @@ kept_at : (t : Tree) (held : ℕ → Bool) (i : ℕ) → held i ≡ true
     → get (keep held t).records i ≡ get t.records i
 kept_at t held i h =
     retained t.records (λ q. is_linked t.records q || held q) i
-        ∙ ap (λ b. cond b (get t.records i) None) (or_true (is_linked t.records i) (held i) h)
+    ∙ ap (λ b. cond b (get t.records i) None) (or_true (is_linked t.records i) (held i) h)
 
 kept_body : (t : Tree) (held : ℕ → Bool) (i : ℕ) → held i ≡ true
     → body_at (keep held t).records i ≡ body_at t.records i

@@ -20,14 +20,14 @@ module _ (s : Settings) (m : MachineState) (g : IsGoodMachine s m) where
   looked_up_good dir name (Ok ino) open_limit at =
       kept_good s (node_for m ino (node_of m ino)).1
       (given_good s m g ino (named_is_stored m.tree g.tree ino
-          (found_is_named s.casefold m.tree dir name ino at)) open_limit (node_of m ino) refl)
+      (found_is_named s.casefold m.tree dir name ino at)) open_limit (node_of m ino) refl)
 
   pub lookup_good : (name : List ℕ) (o : Option Node) → lookup_refusal s m name o ≡ None
       → Gives s (looked_up s m (find s.casefold m.tree (node_ino o) name))
   lookup_good name o none =
       let known = passes (refused_unknown o ESTALE)
-          (name_fault name ∷ refused_if (is_at_limit s m) ENFILE ∷ []) none in
+      (name_fault name ∷ refused_if (is_at_limit s m) ENFILE ∷ []) none in
       let faultless = passes (name_fault name) (refused_if (is_at_limit s m) ENFILE ∷ []) known.1 in
       let below = passes (refused_if (is_at_limit s m) ENFILE) [] faultless.1 in
       looked_up_good (node_ino o) name (find s.casefold m.tree (node_ino o) name)
-          (fails (is_at_limit s m) ENFILE below.0) refl
+      (fails (is_at_limit s m) ENFILE below.0) refl

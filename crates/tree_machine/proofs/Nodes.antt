@@ -31,15 +31,18 @@ module _ (s : Settings) where
       put_at : (q : ℕ) (n : Node) → get (insert m.nodes id v) q ≡ Some n → ((q ≡ id) × (v ≡ n))
           ⊎ ((q ≢ id) × (get m.nodes q ≡ Some n))
       put_at q n at = ⊎_elim
-          (λ is. inl (is, (let one : Some v ≡ Some n = sym (inserted m.nodes id v)
-              ∙ subst (λ k. get (insert m.nodes id v) k ≡ Some n) is at in cc)))
+          (λ is. inl (
+            is,
+            (let one : Some v ≡ Some n = sym (inserted m.nodes id v)
+                ∙ subst (λ k. get (insert m.nodes id v) k ≡ Some n) is at in cc),
+          ))
           (λ ne. inr (ne, sym (insert_keeps m.nodes id v q ne) ∙ at))
           (cases_eq q id)
 
       still_root : IsSome (get (insert m.nodes id v) FUSE_ROOT_ID)
       still_root = ⊎_elim
           (λ is. subst IsSome (sym (subst (λ k. get (insert m.nodes id v) k ≡ Some v) (sym is)
-              (inserted m.nodes id v))) refl)
+          (inserted m.nodes id v))) refl)
           (λ ne. subst IsSome (sym (insert_keeps m.nodes id v FUSE_ROOT_ID ne)) g.root)
           (cases_eq FUSE_ROOT_ID id)
 
@@ -47,7 +50,7 @@ module _ (s : Settings) where
           → get m.handles id ≡ None
           → ((q : ℕ) (n : Node) → q ≢ id → get m.nodes q ≡ Some n → n.ino ≢ v.ino)
           → m.next ≤ next → next ≤ NUMBER_LIMIT
-              → len (insert m.nodes id v) + len m.handles ≤ s.limit
+          → len (insert m.nodes id v) + len m.handles ≤ s.limit
           → IsGoodMachine s (record m { nodes = insert m.nodes id v; next = next })
       put low lt count stored free differ le end room = record {
         tree = g.tree;
@@ -66,17 +69,21 @@ module _ (s : Settings) where
               stored = good.stored;
             })
             (put_at q n at);
-        handles = λ q h at. let good = g.handles q h at in record
-            { positive = good.positive; drawn = (let d = good.drawn in omega arith); access =
-            good.access; openable = good.openable };
+        handles = λ q h at. let good = g.handles q h at in record {
+          positive = good.positive;
+          drawn = (let d = good.drawn in omega arith);
+          access =
+              good.access;
+          openable = good.openable;
+        };
         apart = λ q n at. ⊎_elim (λ is. subst (λ k. get m.handles k ≡ None) (sym is.0) free)
             (λ old. g.apart q n old.1) (put_at q n at);
         once = λ a b p q at_a at_b same. ⊎_elim
             (λ is_a. ⊎_elim (λ is_b. is_a.0 ∙ sym is_b.0)
             (λ old_b. absurd (differ b q old_b.0 old_b.1
-                (sym same ∙ ap (λ (n : Node). n.ino) (sym is_a.1)))) (put_at b q at_b))
+            (sym same ∙ ap (λ (n : Node). n.ino) (sym is_a.1)))) (put_at b q at_b))
             (λ old_a. ⊎_elim (λ is_b. absurd (differ a p old_a.0 old_a.1
-                (same ∙ ap (λ (n : Node). n.ino) (sym is_b.1))))
+            (same ∙ ap (λ (n : Node). n.ino) (sym is_b.1))))
             (λ old_b. g.once a b p q old_a.1 old_b.1 same) (put_at b q at_b))
             (put_at a p at_a);
         next = end;
@@ -99,10 +106,10 @@ module _ (s : Settings) where
     recounted id n v at same count =
         let old = g.nodes id n at in
         put id v m.next old.positive old.drawn count
-            (subst (λ i. IsSome (get m.tree.records i)) (sym same) old.stored) (g.apart id n at)
+        (subst (λ i. IsSome (get m.tree.records i)) (sym same) old.stored) (g.apart id n at)
         (λ q x ne there equal. ne (g.once q id x n there at (equal ∙ same)))
         (omega arith) g.next (subst (λ k. k + len m.handles ≤ s.limit) (sym (len_known id n v at))
-            g.within)
+        g.within)
 
     pub fresh : (o : Option Node) → get m.nodes m.next ≡ o → get m.nodes m.next ≡ None
     fresh None at = at
@@ -126,23 +133,25 @@ module _ (s : Settings) where
     -- the next number becomes the node of an inode that has none
     drawn_new : (ino : ℕ) → IsSome (get m.tree.records ino) → node_of m ino ≡ None
         → is_at_limit s m ≡ false
-        → IsGoodMachine s (record m { nodes =
-            insert m.nodes m.next (record { ino = ino; count = 1 }); next = m.next + 1 })
+        → IsGoodMachine s (record m {
+          nodes =
+              insert m.nodes m.next (record { ino = ino; count = 1 });
+          next = m.next + 1;
+        })
     drawn_new ino had none open_limit =
         let v : Node = record { ino = ino; count = 1 } in
         let low = root_below in
         let room : (len m.nodes + len m.handles < s.limit) × (m.next < NUMBER_LIMIT) =
-            below_limit open_limit in
+        below_limit open_limit in
         let longer = len_new m.next v (fresh (get m.nodes m.next) refl) in
         put m.next v (m.next + 1) (omega arith) (omega arith) (omega arith) had
-            (fresh_handle (get m.handles m.next) refl)
+        (fresh_handle (get m.handles m.next) refl)
         (λ q n ne there same. false≢true (sym
-            (none_passes (λ (e : ℕ × Node). e.1.ino == ino) m.nodes q n none there)
-            ∙ eq_test n.ino ino same))
-        (omega arith) (omega (arith, room.1)) (omega (arith, room.0, longer))
-      where
-        eq_test : (a b : ℕ) → a ≡ b → (a == b) ≡ true
-        eq_test a b h = grind (arith, nat_tests)
+        (none_passes (λ (e : ℕ × Node). e.1.ino == ino) m.nodes q n none there)
+        ∙ eq_test n.ino ino same))
+        (omega arith) (omega (arith, room.1)) (omega (arith, room.0, longer)) where
+          eq_test : (a b : ℕ) → a ≡ b → (a == b) ≡ true
+          eq_test a b h = grind (arith, nat_tests)
 
     pub given_good : (ino : ℕ) → IsSome (get m.tree.records ino) → is_at_limit s m ≡ false
         → (o : Option (ℕ × Node)) → node_of m ino ≡ o → IsGoodMachine s (node_for m ino o).1
@@ -150,7 +159,7 @@ module _ (s : Settings) where
     given_good ino had open_limit (Some e) at =
         let there = first_entry (λ (e : ℕ × Node). e.1.ino == ino) m.nodes e at in
         recounted e.0 e.1 (record { ino = ino; count = min (e.1.count + 1) COUNT_LIMIT }) there.0
-            (sym (eqb-true e.1.ino ino there.1)) (omega arith)
+        (sym (eqb-true e.1.ino ino there.1)) (omega arith)
 
     -- a node that isn't the root goes
     pub node_gone : (id : ℕ) → id ≢ FUSE_ROOT_ID
@@ -158,12 +167,20 @@ module _ (s : Settings) where
     node_gone id ne = record {
       tree = g.tree;
       root = subst IsSome (sym (remove_keeps m.nodes id FUSE_ROOT_ID (λ h. ne (sym h)))) g.root;
-      nodes = λ q n at. let good = g.nodes q n (left q n at) in record
-          { positive = good.positive; drawn = good.drawn; counted = good.counted; stored =
-          good.stored };
-      handles = λ q h at. let good = g.handles q h at in record
-          { positive = good.positive; drawn = good.drawn; access = good.access; openable =
-          good.openable };
+      nodes = λ q n at. let good = g.nodes q n (left q n at) in record {
+        positive = good.positive;
+        drawn = good.drawn;
+        counted = good.counted;
+        stored =
+            good.stored;
+      };
+      handles = λ q h at. let good = g.handles q h at in record {
+        positive = good.positive;
+        drawn = good.drawn;
+        access = good.access;
+        openable =
+            good.openable;
+      };
       apart = λ q n at. g.apart q n (left q n at);
       once = λ a b p q at_a at_b same. g.once a b p q (left a p at_a) (left b q at_b) same;
       next = g.next;
@@ -172,6 +189,6 @@ module _ (s : Settings) where
       left : (q : ℕ) (n : Node) → get (remove m.nodes id) q ≡ Some n → get m.nodes q ≡ Some n
       left q n at = ⊎_elim
           (λ is. absurd (let none : None ≡ Some n = sym (removed m.nodes id)
-              ∙ subst (λ k. get (remove m.nodes id) k ≡ Some n) is at in cc))
+          ∙ subst (λ k. get (remove m.nodes id) k ≡ Some n) is at in cc))
           (λ differ. sym (remove_keeps m.nodes id q differ) ∙ at)
           (cases_eq q id)

@@ -69,17 +69,21 @@ pub record ToRead (flags : ℕ) : Type 0 where
 pub to_read : (flags : ℕ) → opens_to_read flags ≡ true → ToRead flags
 to_read flags h =
     let parts = both (access flags == O_RDONLY)
-        (not (has_flag O_CREAT flags || has_flag O_TRUNC flags || has_flag O_DIRECTORY flags)) h in
+    (not (has_flag O_CREAT flags || has_flag O_TRUNC flags || has_flag O_DIRECTORY flags)) h in
     let none = no_three (has_flag O_CREAT flags) (has_flag O_TRUNC flags)
-        (has_flag O_DIRECTORY flags) parts.1 in
-    record { access = eqb-true (access flags) O_RDONLY parts.0; create = none.0; truncate =
-        none.1; directory = none.2 }
-  where
-    no_three : (c t d : Bool) → not (c || t || d) ≡ true → (c ≡ false) × (t ≡ false) × (d ≡ false)
-    no_three false false false h = (refl, refl, refl)
-    no_three true t d h = absurd cc
-    no_three false true d h = absurd cc
-    no_three false false true h = absurd cc
+    (has_flag O_DIRECTORY flags) parts.1 in
+    record {
+      access = eqb-true (access flags) O_RDONLY parts.0;
+      create = none.0;
+      truncate =
+          none.1;
+      directory = none.2;
+    } where
+      no_three : (c t d : Bool) → not (c || t || d) ≡ true → (c ≡ false) × (t ≡ false) × (d ≡ false)
+      no_three false false false h = (refl, refl, refl)
+      no_three true t d h = absurd cc
+      no_three false true d h = absurd cc
+      no_three false false true h = absurd cc
 
 other : (flags k : ℕ) → access flags ≡ 0 → 1 ≤ k → (access flags == k) ≡ false
 other flags k zero_is some = grind (arith, nat_tests)
@@ -90,35 +94,34 @@ checked_alike flags h None = refl
 checked_alike flags h (Some (File bytes)) =
     let r = to_read flags h in
     file_opened (access flags == O_ACCMODE) (has_flag O_CREAT flags) (has_flag O_EXCL flags)
-        (has_flag O_DIRECTORY flags) (other flags 3 r.access (omega arith)) r.create r.directory
+    (has_flag O_DIRECTORY flags) (other flags 3 r.access (omega arith)) r.create r.directory
 checked_alike flags h (Some (Directory es next above)) =
     let r = to_read flags h in
     directory_opened (access flags == O_ACCMODE) (has_flag O_CREAT flags) (has_flag O_EXCL flags)
-        (opens_to_change flags) (other flags 3 r.access (omega arith)) r.create
+    (opens_to_change flags) (other flags 3 r.access (omega arith)) r.create
     (no_change (access flags == O_WRONLY) (access flags == O_RDWR) (has_flag O_TRUNC flags)
-        (has_flag O_CREAT flags) (other flags 1 r.access (omega arith))
-        (other flags 2 r.access (omega arith)) r.truncate r.create)
-  where
-    no_change : (w b t c : Bool) → w ≡ false → b ≡ false → t ≡ false → c ≡ false
-        → (w || b || t || c) ≡ false
-    no_change w b t c no_w no_b no_t no_c = rw (no_w, no_b, no_t, no_c) refl
+    (has_flag O_CREAT flags) (other flags 1 r.access (omega arith))
+    (other flags 2 r.access (omega arith)) r.truncate r.create) where
+      no_change : (w b t c : Bool) → w ≡ false → b ≡ false → t ≡ false → c ≡ false
+          → (w || b || t || c) ≡ false
+      no_change w b t c no_w no_b no_t no_c = rw (no_w, no_b, no_t, no_c) refl
 checked_alike flags h (Some (Link target)) =
     let r = to_read flags h in
     link_opened (access flags == O_ACCMODE) (has_flag O_CREAT flags) (has_flag O_EXCL flags)
-        (other flags 3 r.access (omega arith)) r.create
+    (other flags 3 r.access (omega arith)) r.create
 
 module _ (s : Settings) (m : MachineState) (g : IsGoodMachine s m) where
   pub opened_good : (flags ino : ℕ) → access flags ≡ 0 → is_at_limit s m ≡ false
       → is_directory_at (body_at m.tree.records ino) ≡ false
       → (r : Result (Unit {0}) ℕ) → open_check_of m.tree ino flags ≡ r
-          → Gives s (opened m ino flags r)
+      → Gives s (opened m ino flags r)
   opened_good flags ino to_read open_limit plain (Err e) told = kept_good s m g
   opened_good flags ino to_read open_limit plain (Ok tt) told =
       let v : Handle = record { ino = ino; access = access flags; append = has_flag O_APPEND flags }
-          in
+      in
       kept_good s (record m { handles = insert m.handles m.next v; next = m.next + 1 })
       (handle_drawn s m g v (omega (arith, to_read))
-          (opened_is_file (body_at m.tree.records ino) flags v plain told) open_limit)
+      (opened_is_file (body_at m.tree.records ino) flags v plain told) open_limit)
 
   pub open_good : (flags : ℕ) (o : Option Node)
       → first_refusal (refused_if (not (opens_to_read flags)) ENOSYS ∷ open_refusal s m o ∷ [])
@@ -126,24 +129,23 @@ module _ (s : Settings) (m : MachineState) (g : IsGoodMachine s m) where
       → Gives s (opened m (node_ino o) flags (open_check_of m.tree (node_ino o) flags))
   open_good flags o none =
       let served = passes (refused_if (not (opens_to_read flags)) ENOSYS) (open_refusal s m o ∷ [])
-          none in
+      none in
       let rest = passes (open_refusal s m o) [] served.1 in
       let known = passes (refused_unknown o ESTALE)
-          (refused_if (is_at_limit s m) ENFILE
-          ∷ refused_if (is_directory_at (body_at m.tree.records (node_ino o))) EISDIR ∷ []) rest.0
-          in
+      (refused_if (is_at_limit s m) ENFILE
+      ∷ refused_if (is_directory_at (body_at m.tree.records (node_ino o))) EISDIR ∷ []) rest.0
+      in
       let below = passes (refused_if (is_at_limit s m) ENFILE)
-          (refused_if (is_directory_at (body_at m.tree.records (node_ino o))) EISDIR ∷ []) known.1
-          in
+      (refused_if (is_directory_at (body_at m.tree.records (node_ino o))) EISDIR ∷ []) known.1
+      in
       let plain = passes (refused_if (is_directory_at (body_at m.tree.records (node_ino o))) EISDIR)
-          [] below.1 in
+      [] below.1 in
       let read = is_true (opens_to_read flags) (fails (not (opens_to_read flags)) ENOSYS served.0)
-          in
+      in
       opened_good flags (node_ino o) (to_read flags read).access
-          (fails (is_at_limit s m) ENFILE below.0)
+      (fails (is_at_limit s m) ENFILE below.0)
       (fails (is_directory_at (body_at m.tree.records (node_ino o))) EISDIR plain.0)
-          (open_check_of m.tree (node_ino o) flags) refl
-    where
-      is_true : (b : Bool) → not b ≡ false → b ≡ true
-      is_true true h = refl
-      is_true false h = absurd cc
+      (open_check_of m.tree (node_ino o) flags) refl where
+        is_true : (b : Bool) → not b ≡ false → b ≡ true
+        is_true true h = refl
+        is_true false h = absurd cc

@@ -18,6 +18,6 @@ pub one_pair : (bytes : List ℕ) → 16 ≤ length bytes → pairs_of bytes ≡
     ∷ pairs_of (drop 16 bytes)
 one_pair bytes long =
     ap (λ k. each pair_of (first_chunks 16 k bytes))
-        (div_more (length bytes) 16 (omega arith) long ∙ add-one ((length bytes - 16) / 16))
+    (div_more (length bytes) 16 (omega arith) long ∙ add-one ((length bytes - 16) / 16))
     ∙ ap (λ (n : ℕ). pair_of (take 16 bytes) ∷ each pair_of
-        (first_chunks 16 (n / 16) (drop 16 bytes))) (sym (length-drop 16 bytes))
+    (first_chunks 16 (n / 16) (drop 16 bytes))) (sym (length-drop 16 bytes))

@@ -64,24 +64,23 @@ last_whole piece asked there some few all =
     ⊎_elim
     (λ equal.
     let one : div_ceil piece piece ≡ div_ceil (piece - piece) piece + 1 =
-        ceil_more piece piece some (omega arith) in
+    ceil_more piece piece some (omega arith) in
     let less : div_ceil (piece - piece) piece ≤ 1 =
-        ceil_few (piece - piece) piece (omega (arith, some)) in
+    ceil_few (piece - piece) piece (omega (arith, some)) in
     let none : div_ceil (piece - piece) piece ≡ 0 = nothing piece some in
     let same : div_ceil asked piece ≡ div_ceil piece piece = ap (λ k. div_ceil k piece) equal in
     omega (arith, one, none, same, counted))
     (λ ne. let least = ceil_few asked piece (omega (arith, few, ne)) in omega
-        (arith, least, counted))
-    (cases_eq asked piece)
-  where
-    nothing : (piece : ℕ) → 1 ≤ piece → div_ceil (piece - piece) piece ≡ 0
-    nothing piece some =
-        let zero_is : piece - piece ≡ 0 = omega arith in
-        let quotient : 0 / piece ≡ 0 = div-eq_of_lt (omega (arith, some)) in
-        let all = div-add-mod' 0 piece in
-        let rest : 0 % piece ≡ 0 = omega (arith, all) in
-        ap (λ k. div_ceil k piece) zero_is ∙ ap (λ k. k + min 1 (0 % piece)) quotient
-            ∙ ap (λ k. 0 + min 1 k) rest
+    (arith, least, counted))
+    (cases_eq asked piece) where
+      nothing : (piece : ℕ) → 1 ≤ piece → div_ceil (piece - piece) piece ≡ 0
+      nothing piece some =
+          let zero_is : piece - piece ≡ 0 = omega arith in
+          let quotient : 0 / piece ≡ 0 = div-eq_of_lt (omega (arith, some)) in
+          let all = div-add-mod' 0 piece in
+          let rest : 0 % piece ≡ 0 = omega (arith, all) in
+          ap (λ k. div_ceil k piece) zero_is ∙ ap (λ k. k + min 1 (0 % piece)) quotient
+          ∙ ap (λ k. 0 + min 1 k) rest
 
 -- a full piece is followed by those of the rest
 pub one_more : (piece asked there : ℕ) → 1 ≤ piece → piece < asked → piece ≤ there → there ≤ asked
@@ -92,7 +91,7 @@ one_more piece asked there some more full within = ⊎_elim
     let rest = whole piece (asked - piece) (there - piece) (omega (arith, equal)) in
     let step = ceil_more asked piece some (omega (arith, more)) in
     let left = ceil_some (asked - piece) piece ((asked - piece) / piece) refl (omega (arith, more))
-        in
+    in
     omega (arith, counted, rest, step, left))
     (λ ne.
     let counted = fewer piece asked there (omega (arith, within, ne)) in

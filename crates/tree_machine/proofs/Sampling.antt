@@ -68,9 +68,18 @@ first_records = (new_tree (record { file = 1048576; entries = 65536; links = 650
     (record { sec = 1700000000; nsec = 5 }) (record { sec = 1600000000; nsec = 0 }) 493 0 0).records
 
 abbrev pub top_record : Record
-top_record = record { body = Directory [] 1 1; mode = 493; uid = 0; gid = 0; links = 2; atime =
-    record { sec = 1600000000; nsec = 0 }; mtime = record { sec = 1600000000; nsec = 0 }; ctime =
-    record { sec = 1600000000; nsec = 0 } }
+top_record = record {
+  body = Directory [] 1 1;
+  mode = 493;
+  uid = 0;
+  gid = 0;
+  links = 2;
+  atime =
+      record { sec = 1600000000; nsec = 0 };
+  mtime = record { sec = 1600000000; nsec = 0 };
+  ctime =
+      record { sec = 1600000000; nsec = 0 };
+}
 
 abbrev with_file_alone : Records
 with_file_alone = insert first_records 2 file
@@ -99,27 +108,49 @@ found = ap (λ (o : Option Record). ino_among false (codes "hello")
     (option_and_then entries_of (option_map (λ (r : Record). r.body) o))) top_at
 
 unfoldable shown : Attr
-shown = record { ino = 2; kind = kind.File; mode = 33188; uid = 1000; gid = 1000; links = 1; size =
-    6; atime = record { sec = 1600000000; nsec = 0 }; mtime =
-    record { sec = 1600000000; nsec = 0 }; ctime = record { sec = 1600000000; nsec = 0 } }
+shown = record {
+  ino = 2;
+  kind = kind.File;
+  mode = 33188;
+  uid = 1000;
+  gid = 1000;
+  links = 1;
+  size =
+      6;
+  atime = record { sec = 1600000000; nsec = 0 };
+  mtime =
+      record { sec = 1600000000; nsec = 0 };
+  ctime = record { sec = 1600000000; nsec = 0 };
+}
 
 shown_is : shown_told settings (attr_or_missing 2 (get tree.records 2)) ≡ Ok shown
 unfolding shown
 shown_is = ap (λ o. shown_told settings (attr_or_missing 2 o)) file_at
-    ∙ ap (λ (o : Option ℕ). Ok (record { ino = 2; kind = kind.File; mode = 33188; uid =
-        unwrap_or o 1000; gid = unwrap_or o 1000; links = 1; size = 6; atime =
-        record { sec = 1600000000; nsec = 0 }; mtime =
-        record { sec = 1600000000; nsec = 0 }; ctime = record { sec = 1600000000; nsec = 0 } }))
-        (get-empty {X = ℕ} nat_cmp 1000)
+    ∙ ap (λ (o : Option ℕ). Ok (record {
+      ino = 2;
+      kind = kind.File;
+      mode = 33188;
+      uid =
+          unwrap_or o 1000;
+      gid = unwrap_or o 1000;
+      links = 1;
+      size = 6;
+      atime =
+          record { sec = 1600000000; nsec = 0 };
+      mtime =
+          record { sec = 1600000000; nsec = 0 };
+      ctime = record { sec = 1600000000; nsec = 0 };
+    }))
+    (get-empty {X = ℕ} nat_cmp 1000)
 
 open_limit : is_at_limit settings started ≡ false
 open_limit =
     let nodes : len started.nodes ≡ 1 = len-insert nat_cmp_total empty 1 root_node
-        ∙ ap (λ (o : Option Node). cond (is_some o) (len (empty {X = Node} {R = nat_cmp}))
-        (len (empty {X = Node} {R = nat_cmp}) + 1)) (get-empty {X = Node} nat_cmp 1)
-        ∙ ap (λ k. k + 1) (len-empty nat_cmp Node) in
+    ∙ ap (λ (o : Option Node). cond (is_some o) (len (empty {X = Node} {R = nat_cmp}))
+    (len (empty {X = Node} {R = nat_cmp}) + 1)) (get-empty {X = Node} nat_cmp 1)
+    ∙ ap (λ k. k + 1) (len-empty nat_cmp Node) in
     ap (λ k. nat_le 1024 (k + len started.handles) || nat_le 4294967295 2) nodes
-        ∙ ap (λ k. nat_le 1024 (1 + k) || nat_le 4294967295 2) (len-empty nat_cmp Handle)
+    ∙ ap (λ k. nat_le 1024 (1 + k) || nat_le 4294967295 2) (len-empty nat_cmp Handle)
 
 unknown_by : (o : Option (ℕ × Node)) → node_of started 2 ≡ o → node_of started 2 ≡ None
 unknown_by None at = at
@@ -146,20 +177,20 @@ passed : lookup_refusal settings started (codes "hello") (get started.nodes 1) �
 passed =
     ap (λ (o : Option Node). lookup_refusal settings started (codes "hello") o) root_at
     ∙ ap (λ (o : Option ℕ). first_refusal (o ∷ refused_if (is_at_limit settings started) ENFILE
-        ∷ [])) hello_has_no_fault
+    ∷ [])) hello_has_no_fault
     ∙ ap (λ (b : Bool). first_refusal (refused_if b ENFILE ∷ [])) open_limit
 
 looked : (answer_of settings started 1 (Ok (lookup (codes "hello")))).0 ≡ Entry 2
     (fuse_attributes shown)
 looked =
     ap (λ (o : Option ℕ). (refused_or started o
-        (looked_up settings started (find false tree (node_ino (get started.nodes 1))
-        (codes "hello")))).0) passed
+    (looked_up settings started (find false tree (node_ino (get started.nodes 1))
+    (codes "hello")))).0) passed
     ∙ ap (λ (o : Option Node). (looked_up settings started
-        (find false tree (node_ino o) (codes "hello"))).0) root_at
+    (find false tree (node_ino o) (codes "hello"))).0) root_at
     ∙ ap (λ r. (looked_up settings started r).0) found
     ∙ ap (λ (o : Option (ℕ × Node)). (entered settings tree 2 (node_for started 2 o)).0)
-        (unknown_by (node_of started 2) refl)
+    (unknown_by (node_of started 2) refl)
     ∙ ap (entry_reply 2) shown_is
 
 entry_spelled : answer_bytes lookup_frame (Entry 2 (fuse_attributes shown)) ≡ entry_reply_bytes
@@ -178,9 +209,9 @@ nodeid_is = refl
 pub lookup_answered : (step settings started lookup_frame).0 ≡ entry_reply_bytes
 lookup_answered =
     ap (λ r. answer_bytes lookup_frame (answer_of settings started (head_of lookup_frame).nodeid
-        r).0) lookup_asked
+    r).0) lookup_asked
     ∙ ap (λ n. answer_bytes lookup_frame (answer_of settings started n
-        (Ok (lookup (codes "hello")))).0) nodeid_is
+    (Ok (lookup (codes "hello")))).0) nodeid_is
     ∙ ap (answer_bytes lookup_frame) looked ∙ entry_spelled
 
 -- ---- attributes of the node that the look-up gave
@@ -197,8 +228,8 @@ attributes_are : (answer_of settings with_hello 2 (Ok (getattr None))).0 ≡ Att
     (fuse_attributes shown)
 attributes_are =
     ap (λ (o : Option Node). (refused_or with_hello (refused_unknown o ESTALE)
-        (attr_reply (shown_at settings tree (node_ino o)), with_hello)).0)
-        (inserted started.nodes 2 (record { ino = 2; count = 1 }))
+    (attr_reply (shown_at settings tree (node_ino o)), with_hello)).0)
+    (inserted started.nodes 2 (record { ino = 2; count = 1 }))
     ∙ ap attr_reply shown_is
 
 attr_spelled : answer_bytes getattr_frame (Attributes (fuse_attributes shown)) ≡ attr_reply_bytes
@@ -208,7 +239,7 @@ attr_spelled = refl
 pub getattr_answered : (step settings with_hello getattr_frame).0 ≡ attr_reply_bytes
 getattr_answered =
     ap (λ r. answer_bytes getattr_frame (answer_of settings with_hello
-        (head_of getattr_frame).nodeid r).0) getattr_asked
+    (head_of getattr_frame).nodeid r).0) getattr_asked
     ∙ ap (λ n. answer_bytes getattr_frame (answer_of settings with_hello n (Ok (getattr None))).0)
-        getattr_nodeid_is
+    getattr_nodeid_is
     ∙ ap (answer_bytes getattr_frame) attributes_are ∙ attr_spelled

@@ -26,12 +26,20 @@ module _ (s : Settings) where
     begins = record {
       tree = g.tree;
       root = g.root;
-      nodes = λ id n at. let old = g.nodes id n at in record
-          { positive = old.positive; drawn = old.drawn; counted = old.counted; stored =
-          old.stored };
-      handles = λ id h at. let old = g.handles id h at in record
-          { positive = old.positive; drawn = old.drawn; access = old.access; openable =
-          old.openable };
+      nodes = λ id n at. let old = g.nodes id n at in record {
+        positive = old.positive;
+        drawn = old.drawn;
+        counted = old.counted;
+        stored =
+            old.stored;
+      };
+      handles = λ id h at. let old = g.handles id h at in record {
+        positive = old.positive;
+        drawn = old.drawn;
+        access = old.access;
+        openable =
+            old.openable;
+      };
       apart = g.apart;
       once = g.once;
       next = g.next;

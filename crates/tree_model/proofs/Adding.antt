@@ -99,7 +99,7 @@ module _ (t : Tree) (g : IsGoodTree t) (dir : ℕ) (name : List ℕ) (d d' f : R
       let two = weigh-insert (names_in q) mid dir d' in
       let had = ap (weight (names_in q)) mid_dir in
       let longer : names_in q d' ≡ count_names q (listed d.body ++ entry ∷ []) =
-          ap (count_names q) lists_more in
+      ap (count_names q) lists_more in
       let pushed = count_names-push q (listed d.body) entry in
       omega arith
 
@@ -129,10 +129,10 @@ module _ (t : Tree) (g : IsGoodTree t) (dir : ℕ) (name : List ℕ) (d d' f : R
       → IsAt made q x → P q x
   by_place P here there other q x is = ⊎_elim
       (λ eq. let same = same_some f x (sym at_next ∙ sym (ap (get made) eq) ∙ is) in subst
-          (λ q. P q x) (sym eq) (subst (P next) same here))
+      (λ q. P q x) (sym eq) (subst (P next) same here))
       (λ ne. ⊎_elim
       (λ eq. let same = same_some d' x (sym at_dir ∙ sym (ap (get made) eq) ∙ is) in subst
-          (λ q. P q x) (sym eq) (subst (P dir) same there))
+      (λ q. P q x) (sym eq) (subst (P dir) same there))
       (λ nd. other q x ne nd (sym (at_other q ne nd) ∙ is))
       (cases_eq q dir))
       (cases_eq q next)
@@ -141,7 +141,7 @@ module _ (t : Tree) (g : IsGoodTree t) (dir : ℕ) (name : List ℕ) (d d' f : R
   stored q had = ⊎_elim
       (λ eq. subst IsSome (sym (ap (get made) eq ∙ at_next)) refl)
       (λ ne. ⊎_elim (λ eq. subst IsSome (sym (ap (get made) eq ∙ at_dir)) refl)
-          (λ nd. subst IsSome (sym (at_other q ne nd)) had) (cases_eq q dir))
+      (λ nd. subst IsSome (sym (at_other q ne nd)) had) (cases_eq q dir))
       (cases_eq q next)
 
   was_stored : (q : ℕ) → q ≢ next → IsSome (get made q) → IsSome (get rs q)
@@ -177,22 +177,30 @@ module _ (t : Tree) (g : IsGoodTree t) (dir : ℕ) (name : List ℕ) (d d' f : R
             (listed d.body ++ entry ∷ []) (next_cookie d.body + 1),
         climbs_on n s.3 s.6,
       ))
-      (λ nd. inr (s.0, s.1, s.2, s.3, at_other i (not_new i s.0 s.4) nd
-          ∙ s.4, s.5, climbs_on n s.3 s.6))
+      (λ nd. inr (
+        s.0,
+        s.1,
+        s.2,
+        s.3,
+        at_other i (not_new i s.0 s.4) nd
+            ∙ s.4,
+        s.5,
+        climbs_on n s.3 s.6,
+      ))
       (cases_eq i dir))
       c
 
   names_more : (q : ℕ) → names_in q d ≤ names_in q d'
   names_more q =
       let longer : names_in q d' ≡ count_names q (listed d.body ++ entry ∷ []) =
-          ap (count_names q) lists_more in
+      ap (count_names q) lists_more in
       let pushed = count_names-push q (listed d.body) entry in
       omega arith
 
   names_new : names_in next d' ≡ names_in next d + 1
   names_new =
       let longer : names_in next d' ≡ count_names next (listed d.body ++ entry ∷ []) =
-          ap (count_names next) lists_more in
+      ap (count_names next) lists_more in
       let pushed = count_names-push next (listed d.body) entry in
       let one : cond {A = ℕ} (next == next) 1 0 ≡ 1 = grind (arith, nat_tests) in
       omega arith
@@ -202,13 +210,13 @@ module _ (t : Tree) (g : IsGoodTree t) (dir : ℕ) (name : List ℕ) (d d' f : R
   still_above q up had names = ⊎_elim
       (λ eq.
       let was : 1 ≤ names_in q d = subst (λ o. IfSome o (λ x. 1 ≤ names_in q x))
-          (ap (get rs) eq ∙ w.at) names in
+      (ap (get rs) eq ∙ w.at) names in
       let more = names_more q in
       let now : 1 ≤ names_in q d' = omega arith in
       subst (λ o. IfSome o (λ x. 1 ≤ names_in q x)) (sym (ap (get made) eq ∙ at_dir)) now)
       (λ nd. subst (λ o. IfSome o (λ x. 1 ≤ names_in q x))
-          (sym (at_other up (λ is. false≢true (subst IsSome (ap (get rs) is ∙ free) had)) nd))
-          names)
+      (sym (at_other up (λ is. false≢true (subst IsSome (ap (get rs) is ∙ free) had)) nd))
+      names)
       (cases_eq up dir)
 
   below_dir : IfSome (get made dir) (λ x. 1 ≤ names_in next x)
@@ -220,12 +228,14 @@ module _ (t : Tree) (g : IsGoodTree t) (dir : ℕ) (name : List ℕ) (d d' f : R
         × (e.ino ≢ TOP)
     new_entries e c = ⊎_elim
         (λ old. let had = g.entries dir d e w.at old in (stored e.ino had.0, had.1))
-        (λ new. let same : e ≡ entry = by_last e new.0 new.1 new.2 in
-        (subst (λ (e : DirEntry). IsSome (get made e.ino)) (sym same)
-            (subst IsSome (sym at_next) refl), λ is. let b = beyond in let one : next ≡ TOP =
-            sym (ap (λ (e : DirEntry). e.ino) same) ∙ is in absurd (omega arith)))
+        (λ new. let same : e ≡ entry = by_last e new.0 new.1 new.2 in (
+          subst (λ (e : DirEntry). IsSome (get made e.ino)) (sym same)
+              (subst IsSome (sym at_next) refl),
+          λ is. let b = beyond in let one : next ≡ TOP =
+              sym (ap (λ (e : DirEntry). e.ino) same) ∙ is in absurd (omega arith),
+        ))
         (Contains-append_cases (listed d.body) (entry ∷ []) e
-            (subst (λ es. Contains es e) lists_more c)) where
+        (subst (λ es. Contains es e) lists_more c)) where
           by_last : (e : DirEntry) (k : ℕ) → k < length (entry ∷ []) → get_or (entry ∷ []) k e ≡ e
               → e ≡ entry
           by_last e zero low is = sym is
@@ -244,33 +254,33 @@ module _ (t : Tree) (g : IsGoodTree t) (dir : ℕ) (name : List ℕ) (d d' f : R
       entries = λ q x e is c. by_place (λ q x. (e : DirEntry) → Contains (listed x.body) e
           → IsSome (get made e.ino) × (e.ino ≢ TOP))
           (λ e c. absurd (let none = subst (λ es. Contains es e) w.lists c in let low =
-              none.1 in omega arith))
+          none.1 in omega arith))
           new_entries
           (λ q x ne nd was e c. let had = g.entries q x e was c in (stored e.ino had.0, had.1))
           q x is e c;
       links = by_place (λ q x. x.links ≡ links_of x.body (name_count made q) (is_linked made q))
           (w.shows ∙ ap (λ n. links_of f.body n true) (sym one_name)
-              ∙ ap (links_of f.body (name_count made next)) (sym live_next))
+          ∙ ap (links_of f.body (name_count made next)) (sym live_next))
           (w.same_links ∙ g.links dir d w.at ∙ ap (links_of d.body (name_count rs dir))
-              (sym (same_linked dir apart)) ∙ shows_links d.body _ _ (name_count rs dir)
-              (name_count made dir) (is_linked made dir) w.directory
-              ∙ ap (λ b. links_of b (name_count made dir) (is_linked made dir)) (sym w.joined))
+          (sym (same_linked dir apart)) ∙ shows_links d.body _ _ (name_count rs dir)
+          (name_count made dir) (is_linked made dir) w.directory
+          ∙ ap (λ b. links_of b (name_count made dir) (is_linked made dir)) (sym w.joined))
           (λ q x ne nd was. g.links q x was ∙ ap (λ n. links_of x.body n (is_linked rs q))
-              (sym (same_count q ne)) ∙ ap (links_of x.body (name_count made q))
-              (sym (same_linked q ne)));
+          (sym (same_count q ne)) ∙ ap (links_of x.body (name_count made q))
+          (sym (same_linked q ne)));
       once = by_place (λ q x. IsTrue (is_directory x.body) → name_count made q ≤ 1)
           (λ is. let one = one_name in omega arith)
           (λ is. let le = g.once dir d w.at w.directory in let same =
-              same_count dir apart in omega arith)
+          same_count dir apart in omega arith)
           (λ q x ne nd was is. let le = g.once q x was is in let same =
-              same_count q ne in omega arith);
+          same_count q ne in omega arith);
       above = λ q x es n up at is live ne. by_place
           (λ q x. (es : List DirEntry) (n up : ℕ) → x.body ≡ Directory es n up
           → IsTrue (is_linked made q) → q ≢ TOP → IsSome (get made up)
           × IfSome (get made up) (λ x. 1 ≤ names_in q x))
           (λ es n up is live ne. subst (λ up. IsSome (get made up)
-              × IfSome (get made up) (λ x. 1 ≤ names_in next x)) (sym (w.under es n up is))
-              (subst IsSome (sym at_dir) refl, below_dir))
+          × IfSome (get made up) (λ x. 1 ≤ names_in next x)) (sym (w.under es n up is))
+          (subst IsSome (sym at_dir) refl, below_dir))
           (λ es n up is live ne.
           let old = same_above es n up is in
           let was = sym (same_linked dir apart) ∙ live in
@@ -285,17 +295,17 @@ module _ (t : Tree) (g : IsGoodTree t) (dir : ℕ) (name : List ℕ) (d d' f : R
           (λ q x. q ≡ TOP → (es : List DirEntry) (n up : ℕ) → x.body ≡ Directory es n up → up ≡ TOP)
           (λ top es n up is. let b = beyond in absurd (omega arith))
           (λ top es n up is. let old = same_above es n up is in g.top_above d old.0 old.1 up
-              (sym (ap (get rs) top) ∙ w.at) old.2)
+          (sym (ap (get rs) top) ∙ w.at) old.2)
           (λ q x nn nd at top es n up is. g.top_above x es n up (sym (ap (get rs) top) ∙ at) is)
           TOP x at refl es n up is;
       climbs = by_place (λ q x. IsTrue (is_directory x.body) → IsTrue (is_linked made q)
           → ∥ ((n : ℕ) × Climbs made n q) ∥₁)
           (λ is live. ∥∥₁_map (g.climbs dir d w.at w.directory w.live)
-              (λ c. new_climb f.body refl is c.0 c.1))
+          (λ c. new_climb f.body refl is c.0 c.1))
           (λ is live. ∥∥₁_map (g.climbs dir d w.at w.directory w.live)
-              (λ c. (c.0, climbs_on c.0 dir c.1)))
+          (λ c. (c.0, climbs_on c.0 dir c.1)))
           (λ q x ne nd was is live. ∥∥₁_map (g.climbs q x was is (sym (same_linked q ne) ∙ live))
-              (λ c. (c.0, climbs_on c.0 q c.1)));
+          (λ c. (c.0, climbs_on c.0 q c.1)));
       emptied = by_place (λ q x. is_linked made q ≡ false → listed x.body ≡ [])
           (λ loose. w.lists)
           (λ loose. absurd (false≢true (sym loose ∙ same_linked dir apart ∙ w.live)))
@@ -304,28 +314,38 @@ module _ (t : Tree) (g : IsGoodTree t) (dir : ℕ) (name : List ℕ) (d d' f : R
       top_stays : IsTrue (is_directory_at (option_map (λ (r : Record). r.body) (get made TOP)))
       top_stays = ⊎_elim
           (λ eq. subst (λ o. is_directory_at (option_map (λ (r : Record). r.body) o) ≡ true)
-              (sym (ap (get made) eq ∙ at_dir))
-              (ap is_directory w.joined ∙ with_entries-is_directory d.body _ _ ∙ w.directory))
+          (sym (ap (get made) eq ∙ at_dir))
+          (ap is_directory w.joined ∙ with_entries-is_directory d.body _ _ ∙ w.directory))
           (λ nd. subst (λ o. is_directory_at (option_map (λ (r : Record). r.body) o) ≡ true)
-              (sym (at_other TOP (let b = beyond in omega arith) nd)) g.top_is_directory)
+          (sym (at_other TOP (let b = beyond in omega arith) nd)) g.top_is_directory)
           (cases_eq TOP dir)
 
       new_climb : (b : Body) → f.body ≡ b → is_directory b ≡ true → (n : ℕ) → Climbs rs n dir
           → (m : ℕ) × Climbs made m next
       new_climb (File bytes) is plain n c = absurd (false≢true plain)
       new_climb (Link target) is plain n c = absurd (false≢true plain)
-      new_climb (Directory es k up) is plain n c =
-          (suc n, inr (f, es, k, up, at_next, is, subst (Climbs made n) (sym (w.under es k up is))
-          (climbs_on n dir c)))
+      new_climb (Directory es k up) is plain n c = (
+        suc n,
+        inr (
+          f,
+          es,
+          k,
+          up,
+          at_next,
+          is,
+          subst (Climbs made n) (sym (w.under es k up is))
+              (climbs_on n dir c),
+        ),
+      )
 
   -- the holds that were there, and any of the new record
   module _ (held held' : ℕ → Bool) (more : (q : ℕ) → q ≢ next → held' q ≡ held q) where
     pub added_kept : IsKept rs held → IsKept made held'
     added_kept k q had = ⊎_elim
         (λ eq. subst (λ q. (is_linked made q || held' q) ≡ true) (sym eq)
-            (ap (λ b. b || held' next) live_next))
+        (ap (λ b. b || held' next) live_next))
         (λ ne. ap (λ b. b || held' q) (same_linked q ne) ∙ ap (λ b. is_linked rs q || b) (more q ne)
-            ∙ k q (was_stored q ne had))
+        ∙ k q (was_stored q ne had))
         (cases_eq q next)
 
     pub added_stored : AreStored rs held → AreStored made held'

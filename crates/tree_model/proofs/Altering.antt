@@ -56,7 +56,7 @@ module _ (t : Tree) (g : IsGoodTree t) (ino : ℕ) (r r' : Record) (w : IsAltere
       → IsAt made q x → P q x
   by_place P here other q x is = ⊎_elim
       (λ eq. let same = same_some r' x (sym at_ino ∙ sym (ap (get made) eq) ∙ is) in subst
-          (λ q. P q x) (sym eq) (subst (P ino) same here))
+      (λ q. P q x) (sym eq) (subst (P ino) same here))
       (λ ne. other q x ne (sym (at_other q ne) ∙ is))
       (cases_eq q ino)
 
@@ -79,9 +79,17 @@ module _ (t : Tree) (g : IsGoodTree t) (ino : ℕ) (r r' : Record) (w : IsAltere
       (λ s. ⊎_elim
       (λ eq.
       let same : r ≡ s.0 = same_some r s.0 (sym w.at ∙ sym (ap (get rs) eq) ∙ s.4) in
-      inr (r', s.1, s.2, s.3, ap (get made) eq
-          ∙ at_ino, w.placed s.1 s.2 s.3 (ap (λ (r : Record). r.body) same ∙ s.5), climbs_on n s.3
-          s.6))
+      inr (
+        r',
+        s.1,
+        s.2,
+        s.3,
+        ap (get made) eq
+            ∙ at_ino,
+        w.placed s.1 s.2 s.3 (ap (λ (r : Record). r.body) same ∙ s.5),
+        climbs_on n s.3
+            s.6,
+      ))
       (λ ne. inr (s.0, s.1, s.2, s.3, at_other i ne ∙ s.4, s.5, climbs_on n s.3 s.6))
       (cases_eq i ino))
       c
@@ -91,7 +99,7 @@ module _ (t : Tree) (g : IsGoodTree t) (ino : ℕ) (r r' : Record) (w : IsAltere
   still_above q up names = ⊎_elim
       (λ eq.
       let was : 1 ≤ names_in q r = subst (λ o. IfSome o (λ x. 1 ≤ names_in q x))
-          (ap (get rs) eq ∙ w.at) names in
+      (ap (get rs) eq ∙ w.at) names in
       let now : 1 ≤ names_in q r' = subst (λ es. 1 ≤ count_names q es) (sym w.lists) was in
       subst (λ o. IfSome o (λ x. 1 ≤ names_in q x)) (sym (ap (get made) eq ∙ at_ino)) now)
       (λ ne. subst (λ o. IfSome o (λ x. 1 ≤ names_in q x)) (sym (at_other up ne)) names)
@@ -112,40 +120,40 @@ module _ (t : Tree) (g : IsGoodTree t) (ino : ℕ) (r r' : Record) (w : IsAltere
     entries = λ q x e is c. by_place (λ q x. (e : DirEntry) → Contains (listed x.body) e
         → IsSome (get made e.ino) × (e.ino ≢ TOP))
         (λ e c. let had = g.entries ino r e w.at (subst (λ es. Contains es e) w.lists c)
-            in (stored e.ino had.0, had.1))
+        in (stored e.ino had.0, had.1))
         (λ q x ne was e c. let had = g.entries q x e was c in (stored e.ino had.0, had.1))
         q x is e c;
     links = by_place (λ q x. x.links ≡ links_of x.body (name_count made q) (is_linked made q))
         (w.same_links ∙ g.links ino r w.at ∙ ap (λ n. links_of r.body n (is_linked rs ino))
-            (sym (same_count ino)) ∙ ap (links_of r.body (name_count made ino))
-            (sym (same_linked ino)) ∙ sym (w.shows (name_count made ino) (is_linked made ino)))
+        (sym (same_count ino)) ∙ ap (links_of r.body (name_count made ino))
+        (sym (same_linked ino)) ∙ sym (w.shows (name_count made ino) (is_linked made ino)))
         (λ q x ne was. g.links q x was ∙ ap (λ n. links_of x.body n (is_linked rs q))
-            (sym (same_count q)) ∙ ap (links_of x.body (name_count made q)) (sym (same_linked q)));
+        (sym (same_count q)) ∙ ap (links_of x.body (name_count made q)) (sym (same_linked q)));
     once = by_place (λ q x. IsTrue (is_directory x.body) → name_count made q ≤ 1)
         (λ is. let le = g.once ino r w.at (sym w.directory ∙ is) in let same =
-            same_count ino in omega arith)
+        same_count ino in omega arith)
         (λ q x ne was is. let le = g.once q x was is in let same = same_count q in omega arith);
     above = λ q x es n up at is live ne. by_place
         (λ q x. (es : List DirEntry) (n up : ℕ) → x.body ≡ Directory es n up
         → IsTrue (is_linked made q) → q ≢ TOP → IsSome (get made up)
         × IfSome (get made up) (λ x. 1 ≤ names_in q x))
         (λ es n up is live ne. both_above ino up
-            (g.above ino r es n up w.at (w.place es n up is) (sym (same_linked ino) ∙ live) ne))
+        (g.above ino r es n up w.at (w.place es n up is) (sym (same_linked ino) ∙ live) ne))
         (λ q x nn at es n up is live ne. both_above q up
-            (g.above q x es n up at is (sym (same_linked q) ∙ live) ne))
+        (g.above q x es n up at is (sym (same_linked q) ∙ live) ne))
         q x at es n up is live ne;
     top_above = λ x es n up at is. by_place (λ q x. q ≡ TOP → (es : List DirEntry) (n up : ℕ)
         → x.body ≡ Directory es n up → up ≡ TOP)
         (λ top es n up is. g.top_above r es n up (sym (ap (get rs) top) ∙ w.at)
-            (w.place es n up is))
+        (w.place es n up is))
         (λ q x nn at top es n up is. g.top_above x es n up (sym (ap (get rs) top) ∙ at) is)
         TOP x at refl es n up is;
     climbs = by_place (λ q x. IsTrue (is_directory x.body) → IsTrue (is_linked made q)
         → ∥ ((n : ℕ) × Climbs made n q) ∥₁)
         (λ is live. ∥∥₁_map (g.climbs ino r w.at (sym w.directory ∙ is)
-            (sym (same_linked ino) ∙ live)) (λ c. (c.0, climbs_on c.0 ino c.1)))
+        (sym (same_linked ino) ∙ live)) (λ c. (c.0, climbs_on c.0 ino c.1)))
         (λ q x ne was is live. ∥∥₁_map (g.climbs q x was is (sym (same_linked q) ∙ live))
-            (λ c. (c.0, climbs_on c.0 q c.1)));
+        (λ c. (c.0, climbs_on c.0 q c.1)));
     emptied = by_place (λ q x. is_linked made q ≡ false → listed x.body ≡ [])
         (λ loose. w.lists ∙ g.emptied ino r w.at (sym (same_linked ino) ∙ loose))
         (λ q x ne was loose. g.emptied q x was (sym (same_linked q) ∙ loose));
@@ -154,12 +162,12 @@ module _ (t : Tree) (g : IsGoodTree t) (ino : ℕ) (r r' : Record) (w : IsAltere
     top_stays = ⊎_elim
         (λ eq.
         let was : is_directory r.body ≡ true =
-            subst (λ o. is_directory_at (option_map (λ (r : Record). r.body) o) ≡ true)
-            (ap (get rs) eq ∙ w.at) g.top_is_directory in
         subst (λ o. is_directory_at (option_map (λ (r : Record). r.body) o) ≡ true)
-            (sym (ap (get made) eq ∙ at_ino)) (w.directory ∙ was))
+        (ap (get rs) eq ∙ w.at) g.top_is_directory in
+        subst (λ o. is_directory_at (option_map (λ (r : Record). r.body) o) ≡ true)
+        (sym (ap (get made) eq ∙ at_ino)) (w.directory ∙ was))
         (λ ne. subst (λ o. is_directory_at (option_map (λ (r : Record). r.body) o) ≡ true)
-            (sym (at_other TOP ne)) g.top_is_directory)
+        (sym (at_other TOP ne)) g.top_is_directory)
         (cases_eq TOP ino)
 
   pub altered_kept : (held : ℕ → Bool) → IsKept rs held → IsKept made held

@@ -51,23 +51,41 @@ module _ (t : Tree) (g : IsGoodTree t) (ino : ℕ) where
   pub restamped_good : (r : Record) → IsAt t.records ino r
       → IsAltered t ino r (record r { ctime = t.moment })
   restamped_good r at = let w = g.records ino r at in
-      same_body t ino r _ at refl refl (record
-          { body = w.body; mode = w.mode; links = w.links; atime = w.atime; mtime = w.mtime; ctime =
-          g.moment })
+      same_body t ino r _ at refl refl (record {
+        body = w.body;
+        mode = w.mode;
+        links = w.links;
+        atime = w.atime;
+        mtime = w.mtime;
+        ctime =
+            g.moment;
+      })
 
   pub owned_good : (uid gid : ℕ) (r : Record) → IsAt t.records ino r
       → IsAltered t ino r (record r { uid = uid; gid = gid; ctime = t.moment })
   owned_good uid gid r at = let w = g.records ino r at in
-      same_body t ino r _ at refl refl (record
-          { body = w.body; mode = w.mode; links = w.links; atime = w.atime; mtime = w.mtime; ctime =
-          g.moment })
+      same_body t ino r _ at refl refl (record {
+        body = w.body;
+        mode = w.mode;
+        links = w.links;
+        atime = w.atime;
+        mtime = w.mtime;
+        ctime =
+            g.moment;
+      })
 
   pub mode_good : (mode : ℕ) → mode < 4096 → (r : Record) → IsAt t.records ino r
       → IsAltered t ino r (record r { mode = mode; ctime = t.moment })
   mode_good mode low r at = let w = g.records ino r at in
-      same_body t ino r _ at refl refl (record
-          { body = w.body; mode = low; links = w.links; atime = w.atime; mtime = w.mtime; ctime =
-          g.moment })
+      same_body t ino r _ at refl refl (record {
+        body = w.body;
+        mode = low;
+        links = w.links;
+        atime = w.atime;
+        mtime = w.mtime;
+        ctime =
+            g.moment;
+      })
 
 pub low_mode : (mode : ℕ) → mode % 4096 < 4096
 low_mode mode = omega arith
@@ -99,7 +117,7 @@ module _ (t : Tree) (g : IsGoodTree t) (ino : ℕ) (refused : Body → Option �
   call_good a b u is =
       let free = changing_free a b f ino t u (refused_at refused (body_at t.records ino)) is in
       changing_good a b f ino t u (refused_at refused (body_at t.records ino)) is
-          (changed_good t g f ino (λ r at. amends r at (not_refused t ino r refused at free)))
+      (changed_good t g f ino (λ r at. amends r at (not_refused t ino r refused at free)))
 
   module _ (free : refused_at refused (body_at t.records ino) ≡ None) where
     pub amended_good : IsGoodTree (with_changed f ino t)

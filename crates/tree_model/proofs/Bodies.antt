@@ -63,21 +63,21 @@ named_none : (name : List ℕ) (es : List DirEntry) → entry_named name es ≡ 
 named_none name [] none k d low is = absurd (omega arith)
 named_none name (f ∷ es) none k d low is = by_test (bytes_eq f.name name) refl none k low is
     (λ none k low is. named_none name es none k d low is) where
-  same : f.name ≡ name → bytes_eq f.name name ≡ true
-  same is = (bytes_eq-Decides f.name name).1 is
+      same : f.name ≡ name → bytes_eq f.name name ≡ true
+      same is = (bytes_eq-Decides f.name name).1 is
 
-  by_test : (b : Bool) → bytes_eq f.name name ≡ b → cond b (Some f) (entry_named name es) ≡ None
-      → (k : ℕ) → k < length (f ∷ es) → (slice_index_or (f ∷ es) k d).name ≡ name
-      → (entry_named name es ≡ None → (k : ℕ) → k < length es → (slice_index_or es k d).name ≡ name
+      by_test : (b : Bool) → bytes_eq f.name name ≡ b → cond b (Some f) (entry_named name es) ≡ None
+          → (k : ℕ) → k < length (f ∷ es) → (slice_index_or (f ∷ es) k d).name ≡ name
+          → (entry_named name es ≡ None → (k : ℕ) → k < length es → (slice_index_or es k d).name ≡ name
           → ⊥) → ⊥
-  by_test true found none k low is later = cc
-  by_test false found none zero low is later = false≢true (sym found ∙ same is)
-  by_test false found none (suc k) low is later = later none k (omega arith) is
+      by_test true found none k low is later = cc
+      by_test false found none zero low is later = false≢true (sym found ∙ same is)
+      by_test false found none (suc k) low is later = later none k (omega arith) is
 
 pub good_joined : (b : Body) (name : List ℕ) (ino : ℕ) → is_directory b ≡ true → IsGoodBody b
     → name_fault name ≡ None → entry_named name (listed b) ≡ None
     → IsGoodBody (with_entries b (listed b ++ (record
-        { cookie = next_cookie b; name = name; ino = ino } ∷ [])) (next_cookie b + 1))
+    { cookie = next_cookie b; name = name; ino = ino } ∷ [])) (next_cookie b + 1))
 good_joined (File bytes) name ino is good fine none = absurd (false≢true is)
 good_joined (Link target) name ino is good fine none = absurd (false≢true is)
 good_joined (Directory es next above) name ino is good fine none = (

@@ -53,7 +53,7 @@ top_above_top t g =
     let top = stored_directory (get t.records TOP) g.top_is_directory in
     let body = directory_body (top.0).body top.2 in
     above_is t.records TOP top.0 body.0 body.1 body.2 top.1 body.3
-        ∙ g.top_above top.0 body.0 body.1 body.2 top.1 body.3
+    ∙ g.top_above top.0 body.0 body.1 body.2 top.1 body.3
 
 module _ (t : Tree) (g : IsGoodTree t) (ino : ℕ) where
   abbrev rs : Records
@@ -81,8 +81,11 @@ module _ (t : Tree) (g : IsGoodTree t) (ino : ℕ) where
     by_tests true c here top low = absurd (ne
         (let same : ino ≡ i = grind (arith, nat_tests) in same))
     by_tests false true here top low = absurd (false≢true (sym low))
-    by_tests false false here top low = ((λ is. false≢true
-        (sym top ∙ (let same : (i == TOP) ≡ true = grind (arith, nat_tests) in same))), low)
+    by_tests false false here top low = (
+      (λ is. false≢true
+          (sym top ∙ (let same : (i == TOP) ≡ true = grind (arith, nat_tests) in same))),
+      low,
+    )
 
   entry_for : (up i : ℕ) → IsSome (get rs up) → IfSome (get rs up) (λ d. 1 ≤ names_in i d)
       → HasEntryFor rs up i
@@ -106,7 +109,7 @@ module _ (t : Tree) (g : IsGoodTree t) (ino : ℕ) where
       let had = g.above i s.0 s.1 s.2 up s.4 s.5 live (goes_on i zero (never (suc zero)) ne).0 in
       let higher = above_is rs i s.0 s.1 s.2 up s.4 s.5 in
       let rest = leads_down n up s.6 (above_is_linked t g i up had.1 had.0)
-          (λ k. ap (past k) (sym higher) ∙ (goes_on i k (never (suc k)) ne).1) in
+      (λ k. ap (past k) (sym higher) ∙ (goes_on i k (never (suc k)) ne).1) in
       (suc rest.0, (up, rest.1, entry_for up i had.0 had.1)))
       c)
       (cases_eq ino i)
@@ -131,18 +134,18 @@ module _ (t : Tree) (g : IsGoodTree t) (ino : ℕ) where
   stands_above mid i r x e es n up at lists names there is live ne =
       ⊎_elim (λ same. same) (λ apart. absurd (by_record apart (get rs up) refl had.0 had.1))
       (cases_eq up mid) where
-    had : IsSome (get rs up) × IfSome (get rs up) (λ d. 1 ≤ names_in i d)
-    had = g.above i x es n up there is live ne
+        had : IsSome (get rs up) × IfSome (get rs up) (λ d. 1 ≤ names_in i d)
+        had = g.above i x es n up there is live ne
 
-    by_record : up ≢ mid → (o : Option Record) → get rs up ≡ o → IsSome o
-        → IfSome o (λ d. 1 ≤ names_in i d) → ⊥
-    by_record apart None at_up some more = absurd (false≢true some)
-    by_record apart (Some d) at_up some more =
-        let both = two_name rs up mid i d r apart at_up at in
-        let one = subst (λ j. 0 < names_in j r) names
+        by_record : up ≢ mid → (o : Option Record) → get rs up ≡ o → IsSome o
+            → IfSome o (λ d. 1 ≤ names_in i d) → ⊥
+        by_record apart None at_up some more = absurd (false≢true some)
+        by_record apart (Some d) at_up some more =
+            let both = two_name rs up mid i d r apart at_up at in
+            let one = subst (λ j. 0 < names_in j r) names
             (contained_counts (listed r.body) e lists.0 lists.1 lists.2) in
-        let once = g.once i x there (ap is_directory is) in
-        absurd (omega arith)
+            let once = g.once i x there (ap is_directory is) in
+            absurd (omega arith)
 
   lister_is_linked : (mid : ℕ) (r : Record) (e : DirEntry) → IsAt rs mid r
       → Contains (listed r.body) e → is_linked rs mid ≡ true
@@ -182,12 +185,15 @@ module _ (t : Tree) (g : IsGoodTree t) (ino : ℕ) where
 
   climbs_meet : (n i : ℕ) → Leads rs n ino i → is_linked rs i ≡ true
       → is_directory_at (body_at rs i) ≡ true → IsMet i
-  climbs_meet zero i is live directory = (subst (λ k. is_directory_at (body_at rs k) ≡ true)
-      (sym is) directory, meets_itself i is)
+  climbs_meet zero i is live directory = (
+    subst (λ k. is_directory_at (body_at rs k) ≡ true)
+        (sym is) directory,
+    meets_itself i is,
+  )
   climbs_meet (suc n) i c live directory =
       let w = c.2 in
       meets_below c.0 i w live directory (climbs_meet n c.0 c.1
-          (lister_is_linked c.0 w.0 w.1 w.2 w.3) (lister_is_directory c.0 i w))
+      (lister_is_linked c.0 w.0 w.1 w.2 w.3) (lister_is_directory c.0 i w))
 
 right_of : (a b : Bool) → (a && not b) ≡ true → b ≡ false
 right_of a false is = refl
@@ -200,18 +206,18 @@ both_of true true x y = absurd (false≢true (sym y))
 both_of false b x y = absurd (false≢true x)
 
 module _ (t : Tree) (g : IsGoodTree t) (ino dir : ℕ)
-    (is : is_directory_at (body_at t.records dir) ≡ true) (live : is_linked t.records dir ≡ true)
-    where
+    (is : is_directory_at (body_at t.records dir) ≡ true)
+    (live : is_linked t.records dir ≡ true) where
   pub below_is_led : is_at_or_below t ino dir ≡ true → ∥ ((n : ℕ) × Leads t.records n ino dir) ∥₁
   below_is_led below =
       let d = stored_directory (get t.records dir) is in
       let low = right_of (is_directory_at (body_at t.records ino))
-          (climbs_past t.records ino t.next dir) below in
+      (climbs_past t.records ino t.next dir) below in
       ∥∥₁_map (g.climbs dir d.0 d.1 d.2 live)
-          (λ c. leads_down t g ino c.0 dir c.1 live (never_past t g ino dir low))
+      (λ c. leads_down t g ino c.0 dir c.1 live (never_past t g ino dir low))
 
   pub led_is_below : ∥ ((n : ℕ) × Leads t.records n ino dir) ∥₁ → is_at_or_below t ino dir ≡ true
   led_is_below led = ∥∥₁_elim led (hlevel props) (λ c.
       let met = climbs_meet t g ino c.0 dir c.1 live is in
       both_of (is_directory_at (body_at t.records ino)) (climbs_past t.records ino t.next dir) met.0
-          (met.1 t.next))
+      (met.1 t.next))

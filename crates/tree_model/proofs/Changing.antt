@@ -26,12 +26,12 @@ pub changes_commute : (f h : Record → Record) (rs : Records) (a b : ℕ) → a
     → change f (change h rs a) b ≡ change h (change f rs b) a
 changes_commute f h rs a b ne = same_gets _ _ (λ q. ⊎_elim
     (λ is. ap (get (change f (change h rs a) b)) is ∙ here
-        ∙ sym (ap (get (change h (change f rs b) a)) is))
+    ∙ sym (ap (get (change h (change f rs b) a)) is))
     (λ na. ⊎_elim
     (λ is. ap (get (change f (change h rs a) b)) is ∙ there
-        ∙ sym (ap (get (change h (change f rs b) a)) is))
+    ∙ sym (ap (get (change h (change f rs b) a)) is))
     (λ nb. change_keeps f (change h rs a) b q nb ∙ change_keeps h rs a q na
-        ∙ sym (change_keeps h (change f rs b) a q na ∙ change_keeps f rs b q nb))
+    ∙ sym (change_keeps h (change f rs b) a q na ∙ change_keeps f rs b q nb))
     (cases_eq q b))
     (cases_eq q a)) where
       here : get (change f (change h rs a) b) a ≡ get (change h (change f rs b) a) a

@@ -87,14 +87,14 @@ module _ (t : Tree) (g : IsGoodTree t) (ino : ℕ) where
 
   one_more : (k i : ℕ) → past k i ≡ true → past (suc k) i ≡ true
   one_more zero i is = absurd (false≢true is)
-  one_more (suc k) i is = by_tests (i == ino) (i == TOP) is (λ is. one_more k (above_at rs i) is)
-      where
-    by_tests : (b c : Bool) → cond b false (cond c true (past k (above_at rs i))) ≡ true
-        → (past k (above_at rs i) ≡ true → past (suc k) (above_at rs i) ≡ true)
-        → cond b false (cond c true (past (suc k) (above_at rs i))) ≡ true
-    by_tests true c is later = absurd (false≢true is)
-    by_tests false true is later = refl
-    by_tests false false is later = later is
+  one_more (suc k) i is = by_tests (i == ino) (i == TOP) is
+      (λ is. one_more k (above_at rs i) is) where
+        by_tests : (b c : Bool) → cond b false (cond c true (past k (above_at rs i))) ≡ true
+            → (past k (above_at rs i) ≡ true → past (suc k) (above_at rs i) ≡ true)
+            → cond b false (cond c true (past (suc k) (above_at rs i))) ≡ true
+        by_tests true c is later = absurd (false≢true is)
+        by_tests false true is later = refl
+        by_tests false false is later = later is
 
   many_more : (d k i : ℕ) → past k i ≡ true → past (k + d) i ≡ true
   many_more zero k i is = subst (λ n. past n i ≡ true) (let same : k ≡ k + 0 = omega arith in same)
@@ -140,8 +140,11 @@ module _ (t : Tree) (g : IsGoodTree t) (ino : ℕ) where
 
   nodes_climb : (k i : ℕ) → IsLeast k i → AllByRecursion (λ y. past (suc k) y ≡ true) (nodes k i)
   nodes_climb zero i least = (least.0, tt)
-  nodes_climb (suc k) i least = (least.0, all_map (λ y is. one_more (suc k) y is)
-      (nodes k (above_at rs i)) (nodes_climb k (above_at rs i) (least_above k i least)))
+  nodes_climb (suc k) i least = (
+    least.0,
+    all_map (λ y is. one_more (suc k) y is)
+        (nodes k (above_at rs i)) (nodes_climb k (above_at rs i) (least_above k i least)),
+  )
 
   differ : (k i y : ℕ) → past k i ≡ false → past k y ≡ true → (i == y) ≡ false
   differ k i y less is = by_test (i == y) refl where
@@ -154,15 +157,17 @@ module _ (t : Tree) (g : IsGoodTree t) (ino : ℕ) where
   unfolding IsDistinct
   nodes_differ zero i least = (tt, tt)
   nodes_differ (suc k) i least =
-      let above = least_above k i least in
-      (all_map (λ y is. differ (suc k) i y least.1 is) (nodes k (above_at rs i))
-          (nodes_climb k (above_at rs i) above), nodes_differ k (above_at rs i) above)
+      let above = least_above k i least in (
+        all_map (λ y is. differ (suc k) i y least.1 is) (nodes k (above_at rs i))
+            (nodes_climb k (above_at rs i) above),
+        nodes_differ k (above_at rs i) above,
+      )
 
   short : (k i : ℕ) → IsLeast k i → suc k ≤ t.next
   short k i least =
       let below = all_map (λ y is. climbs_below k y is) (nodes k i) (nodes_climb k i least) in
       let few = length-le_from_distinct_below (nodes k i) t.next (nodes_differ k i least)
-          (λ q is. any_of (λ y. y < t.next) (nodes k i) below q is) in
+      (λ q is. any_of (λ y. y < t.next) (nodes k i) below q is) in
       let size = nodes-length k i in
       omega arith
 

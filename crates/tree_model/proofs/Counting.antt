@@ -52,8 +52,8 @@ weigh-put : {X : Type 0} (w : X → ℕ) (k : ℕ) (v : X) (es : List (ℕ × X)
 weigh-put w k v [] h = omega arith
 weigh-put w k v (e ∷ es) h =
     let cases = λ (r : Ordering) (p : nat_cmp k e.0 ≡ r).
-        (elim r as (λ r. nat_cmp k e.0 ≡ r → weigh w (put nat_cmp k v (e ∷ es)) + weight w
-        (find nat_cmp k (e ∷ es)) ≡ weigh w (e ∷ es) + w v) [
+    (elim r as (λ r. nat_cmp k e.0 ≡ r → weigh w (put nat_cmp k v (e ∷ es)) + weight w
+    (find nat_cmp k (e ∷ es)) ≡ weigh w (e ∷ es) + w v) [
       | Less ↦ λ p. let none : find nat_cmp k es ≡ None =
           find_below k es (below_less k e.0 es p (first _ _ h)) in rw (p, none) (omega arith)
       | Equal ↦ λ p. rw p (omega arith)
@@ -105,9 +105,9 @@ module _ {X : Type 0} (w : X → ℕ) where
   weigh-none (e ∷ es) h z =
       let here : w e.1 ≡ 0 = ap (weight w) (sym (find_first e es)) ∙ z e.0 in
       let rest = weigh-none es (second _ _ h)
-          (λ q. ⊎_elim (λ is. ap (λ q. weight w (find nat_cmp q es)) is
-          ∙ ap (weight w) (none_later e es h))
-          (λ ne. ap (weight w) (sym (find_later e es q ne)) ∙ z q) (cases_eq q e.0)) in
+      (λ q. ⊎_elim (λ is. ap (λ q. weight w (find nat_cmp q es)) is
+      ∙ ap (weight w) (none_later e es h))
+      (λ ne. ap (weight w) (sym (find_later e es q ne)) ∙ z q) (cases_eq q e.0)) in
       omega arith
 
   weigh-alike_from : (es : List (ℕ × X)) → T (is_sorted nat_cmp es) → (m : FinMap nat_cmp X)
@@ -117,30 +117,30 @@ module _ {X : Type 0} (w : X → ℕ) where
       (λ q. ap (weight w) (sym (get-entries m q)) ∙ sym (same q)))
   weigh-alike_from (e ∷ es) h m same = by_value (λ n s. weigh-alike_from es (second _ _ h) n s)
       (get m e.0) refl where
-    others : (n : FinMap nat_cmp X) → get n e.0 ≡ None → ((q : ℕ) → q ≢ e.0 → get n q ≡ get m q)
-        → (q : ℕ) → weight w (find nat_cmp q es) ≡ weight w (get n q)
-    others n none there q = ⊎_elim
-        (λ is. ap (λ q. weight w (find nat_cmp q es)) is ∙ ap (weight w) (none_later e es h)
+        others : (n : FinMap nat_cmp X) → get n e.0 ≡ None → ((q : ℕ) → q ≢ e.0 → get n q ≡ get m q)
+            → (q : ℕ) → weight w (find nat_cmp q es) ≡ weight w (get n q)
+        others n none there q = ⊎_elim
+            (λ is. ap (λ q. weight w (find nat_cmp q es)) is ∙ ap (weight w) (none_later e es h)
             ∙ sym (ap (λ q. weight w (get n q)) is ∙ ap (weight w) none))
-        (λ ne. ap (weight w) (sym (find_later e es q ne)) ∙ same q
+            (λ ne. ap (weight w) (sym (find_later e es q ne)) ∙ same q
             ∙ ap (weight w) (sym (there q ne)))
-        (cases_eq q e.0)
+            (cases_eq q e.0)
 
-    by_value : ((n : FinMap nat_cmp X) → ((q : ℕ)
-        → weight w (find nat_cmp q es) ≡ weight w (get n q)) → weigh w es ≡ weigh w (entries n))
-        → (o : Option X) → get m e.0 ≡ o → weigh w (e ∷ es) ≡ weigh w (entries m)
-    by_value later None at =
-        let here : w e.1 ≡ 0 = ap (weight w) (sym (find_first e es)) ∙ same e.0
+        by_value : ((n : FinMap nat_cmp X) → ((q : ℕ)
+            → weight w (find nat_cmp q es) ≡ weight w (get n q)) → weigh w es ≡ weigh w (entries n))
+            → (o : Option X) → get m e.0 ≡ o → weigh w (e ∷ es) ≡ weigh w (entries m)
+        by_value later None at =
+            let here : w e.1 ≡ 0 = ap (weight w) (sym (find_first e es)) ∙ same e.0
             ∙ ap (weight w) at in
-        let rest = later m (others m at (λ q ne. refl)) in
-        omega arith
-    by_value later (Some v) at =
-        let here : w e.1 ≡ w v = ap (weight w) (sym (find_first e es)) ∙ same e.0
+            let rest = later m (others m at (λ q ne. refl)) in
+            omega arith
+        by_value later (Some v) at =
+            let here : w e.1 ≡ w v = ap (weight w) (sym (find_first e es)) ∙ same e.0
             ∙ ap (weight w) at in
-        let rest = later (remove m e.0) (others (remove m e.0) (removed m e.0)
+            let rest = later (remove m e.0) (others (remove m e.0) (removed m e.0)
             (λ q ne. remove_keeps m e.0 q ne)) in
-        let step = weigh-remove w m e.0 v at in
-        omega arith
+            let step = weigh-remove w m e.0 v at in
+            omega arith
 
   -- maps whose values weigh the same at each key weigh the same
   pub weigh-alike : (m n : FinMap nat_cmp X) → ((q : ℕ) → weight w (get m q) ≡ weight w (get n q))
@@ -159,13 +159,16 @@ module _ {X : Type 0} (w : X → ℕ) where
           rest.0,
           ⊎_elim
               (λ eq. absurd (let none : weight w (find nat_cmp rest.0 es) ≡ 0 =
-                  ap (λ q. weight w (find nat_cmp q es)) eq
-                  ∙ ap (weight w) (none_later e es h) in let some = rest.1 in omega arith))
+              ap (λ q. weight w (find nat_cmp q es)) eq
+              ∙ ap (weight w) (none_later e es h) in let some = rest.1 in omega arith))
               (λ ne. subst (λ n. 0 < n) (ap (weight w) (sym (find_later e es rest.0 ne))) rest.1)
               (cases_eq rest.0 e.0),
         )
-    by_first later (suc n) is = (e.0, subst (λ n. 0 < n) (ap (weight w) (sym (find_first e es)))
-        (omega arith))
+    by_first later (suc n) is = (
+      e.0,
+      subst (λ n. 0 < n) (ap (weight w) (sym (find_first e es)))
+          (omega arith),
+    )
 
   -- where all weigh something, the value at some key does
   pub weighs_somewhere : (m : FinMap nat_cmp X) → 0 < weigh w (entries m) → (q : ℕ)

@@ -20,8 +20,15 @@ use Rattle.tree_model.proofs.Joining.{named_in, with_link_good, with_link_kept, 
 pub stamped_alters : (t : Tree) → IsGoodTree t → (ino : ℕ) (r : Record) → IsAt t.records ino r
     → IsAltered t ino r (stamped t.moment r)
 stamped_alters t g ino r at = let w = g.records ino r at in
-    same_body t ino r _ at refl refl (record { body = w.body; mode = w.mode; links =
-        w.links; atime = w.atime; mtime = g.moment; ctime = g.moment })
+    same_body t ino r _ at refl refl (record {
+      body = w.body;
+      mode = w.mode;
+      links =
+          w.links;
+      atime = w.atime;
+      mtime = g.moment;
+      ctime = g.moment;
+    })
 
 pub made_good : {A : Type 0} (o : Option ℕ) (a b : A) (t u : Tree)
     → unless_refused o a t ≡ Ok (b, u) → (o ≡ None → IsGoodTree t) → IsGoodTree u
@@ -33,8 +40,15 @@ made_good {A} None a b t u is good =
 pub new_file : (moment : Stamp) (mode dir : ℕ) → IsGoodStamp moment
     → IsNew dir (empty_file moment mode)
 new_file moment mode dir stamp = record {
-  good = record { body = omega arith; mode = low_mode mode; links = omega arith; atime =
-      stamp; mtime = stamp; ctime = stamp };
+  good = record {
+    body = omega arith;
+    mode = low_mode mode;
+    links = omega arith;
+    atime =
+        stamp;
+    mtime = stamp;
+    ctime = stamp;
+  };
   lists = refl;
   shows = refl;
   under = λ es next up is. absurd (cc);
@@ -114,14 +128,14 @@ module _ (t : Tree) (g : IsGoodTree t) (dir ino : ℕ) (name : List ℕ)
   with_name_kept held k = changed_kept touched touched_good (stamped t.moment) dir
       (stamped_alters touched touched_good dir) held
       (changed_kept joined joined_good (restamped t.moment) ino
-          (restamped_good joined joined_good ino) held
-          (with_link_kept t g dir ino name (named_in t.records t.limits dir ino name free) held k))
+      (restamped_good joined joined_good ino) held
+      (with_link_kept t g dir ino name (named_in t.records t.limits dir ino name free) held k))
 
   pub with_name_stored : (held : ℕ → Bool) → AreStored t.records held
       → AreStored (with_name t dir name ino).records held
   with_name_stored held s = changed_stored touched touched_good (stamped t.moment) dir
       (stamped_alters touched touched_good dir) held
       (changed_stored joined joined_good (restamped t.moment) ino
-          (restamped_good joined joined_good ino) held
-          (with_link_stored t g dir ino name (named_in t.records t.limits dir ino name free) held
-          s))
+      (restamped_good joined joined_good ino) held
+      (with_link_stored t g dir ino name (named_in t.records t.limits dir ino name free) held
+      s))

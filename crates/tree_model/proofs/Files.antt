@@ -75,14 +75,22 @@ let_in rs limit next dir name = by_record (get rs dir) refl where
       ≡ None = rw at at e in cc)
   by_record (Some d) at e =
       let known = by_tests (is_directory d.body) (is_linked rs dir)
-          (is_some (entry_named name (listed d.body))) (is_full limit next d.body) (rw at at e) in
+      (is_some (entry_named name (listed d.body))) (is_full limit next d.body) (rw at at e) in
       let parts = or_false (nat_le limit (length (listed d.body)) || nat_le (2 ^ 64 - 1) next)
-          (nat_le (2 ^ 64 - 1) (next_cookie d.body)) known.3 in
+      (nat_le (2 ^ 64 - 1) (next_cookie d.body)) known.3 in
       let firsts = or_false (nat_le limit (length (listed d.body))) (nat_le (2 ^ 64 - 1) next)
-          parts.0 in
-      record { d = d; at = at; directory = known.0; live = known.1; new =
-          none_of (entry_named name (listed d.body)) known.2; number =
-          below next (2 ^ 64 - 1) firsts.1; room = below (next_cookie d.body) (2 ^ 64 - 1) parts.1 }
+      parts.0 in
+      record {
+        d = d;
+        at = at;
+        directory = known.0;
+        live = known.1;
+        new =
+            none_of (entry_named name (listed d.body)) known.2;
+        number =
+            below next (2 ^ 64 - 1) firsts.1;
+        room = below (next_cookie d.body) (2 ^ 64 - 1) parts.1;
+      }
 
 -- links tell whether a directory is linked
 double : (b : Bool) → not (not b) ≡ b
@@ -92,7 +100,7 @@ double false = refl
 pub refused_by_links : {rs : Records} {next : ℕ} {held : ℕ → Bool} → IsCounted rs next held
     → (limit n dir : ℕ) (name : List ℕ)
     → new_name_refused (not (has_no_links (get rs dir))) limit n name (body_at rs dir)
-        ≡ new_name_refused (is_linked rs dir) limit n name (body_at rs dir)
+    ≡ new_name_refused (is_linked rs dir) limit n name (body_at rs dir)
 refused_by_links {rs = rs} s limit n dir name = by_record (get rs dir) refl where
   by_record : (o : Option Record) → get rs dir ≡ o
       → new_name_refused (not (has_no_links (get rs dir))) limit n name (body_at rs dir)
@@ -134,44 +142,67 @@ module _ (t : Tree) (g : IsGoodTree t) (born : Stamp) (dir : ℕ) (name : List �
   module _ (fine : name_fault name ≡ None) (mode : f.mode < 4096) (stamp : IsGoodStamp born)
       (short : length f.bytes ≤ t.limits.file) where
     pub good_file : IsGoodRecord (file_record born f)
-    good_file = record { body = (let l = g.limits.0 in omega arith); mode = mode; links =
-        omega arith; atime = stamp; mtime = stamp; ctime = stamp }
+    good_file = record {
+      body = (let l = g.limits.0 in omega arith);
+      mode = mode;
+      links =
+          omega arith;
+      atime = stamp;
+      mtime = stamp;
+      ctime = stamp;
+    }
 
     pub good_directory : IsGoodRecord (joined_by name t.next w.d)
     good_directory = let r = g.records dir w.d w.at in
-        record { body = good_joined w.d.body name t.next w.directory r.body fine w.new; mode =
-            r.mode; links = r.links; atime = r.atime; mtime = r.mtime; ctime = r.ctime }
+        record {
+          body = good_joined w.d.body name t.next w.directory r.body fine w.new;
+          mode =
+              r.mode;
+          links = r.links;
+          atime = r.atime;
+          mtime = r.mtime;
+          ctime = r.ctime;
+        }
 
     pub with_file_good : IsGoodTree (with_file born t dir name f)
     with_file_good = subst (λ (rs : Records). IsGoodTree
         (record t { records = rs; next = t.next + 1 })) (sym with_file-records)
         (added_good t g dir name w.d (joined_by name t.next w.d) (file_record born f) file_added
-            good_directory good_file)
+        good_directory good_file)
 
 -- where a file is not refused, the tree with it is good
 pub added_file_good : (t : Tree) → IsGoodTree t
     → (born : Stamp) (dir : ℕ) (name : List ℕ) (f : NewFile) → IsGoodStamp born
     → name_fault name ≡ None → f.mode < 4096
     → (o : Option ℕ) → add_refused (new_name_refused (is_linked t.records dir) t.limits.entries
-        t.next name (body_at t.records dir)) t.limits.file f ≡ o
+    t.next name (body_at t.records dir)) t.limits.file f ≡ o
     → (ino : ℕ) (u : Tree) → unless_refused o t.next (with_file born t dir name f) ≡ Ok (ino, u)
-        → IsGoodTree u
+    → IsGoodTree u
 added_file_good t g born dir name f stamp fine mode (Some e) is ino u made = absurd (cc)
 added_file_good t g born dir name f stamp fine mode None is ino u made =
     let known = refused_first (new_name_refused (is_linked t.records dir) t.limits.entries t.next
-        name (body_at t.records dir)) t.limits.file f is in
+    name (body_at t.records dir)) t.limits.file f is in
     let w = let_in t.records t.limits.entries t.next dir name known.0 in
     subst IsGoodTree (ap (λ (p : ℕ × Tree). p.1)
-        (let pairs : ◌≡◌ {A = ℕ × Tree} (t.next, with_file born t dir name f) (ino, u) =
-        cc in pairs)) (with_file_good t g born dir name f w fine mode stamp
-        (at_most (length f.bytes) t.limits.file known.1))
+    (let pairs : ◌≡◌ {A = ℕ × Tree} (t.next, with_file born t dir name f) (ino, u) =
+    cc in pairs)) (with_file_good t g born dir name f w fine mode stamp
+    (at_most (length f.bytes) t.limits.file known.1))
 
 -- ---- a new tree
 
 module _ (limits : Limits) (moment born : Stamp) (mode uid gid : ℕ) where
   abbrev first : Record
-  first = record { body = Directory [] 1 TOP; mode = mode; uid = uid; gid = gid; links = 2; atime =
-      born; mtime = born; ctime = born }
+  first = record {
+    body = Directory [] 1 TOP;
+    mode = mode;
+    uid = uid;
+    gid = gid;
+    links = 2;
+    atime =
+        born;
+    mtime = born;
+    ctime = born;
+  }
 
   abbrev alone : Records
   alone = insert empty TOP first
@@ -181,15 +212,18 @@ module _ (limits : Limits) (moment born : Stamp) (mode uid gid : ℕ) where
       let step = weigh-insert (names_in q) empty TOP first in
       let none = weigh-empty {X = Record} (names_in q) in
       let nothing : weight (names_in q) (get empty TOP) ≡ 0 =
-          ap (weight (names_in q)) (get-empty nat_cmp TOP) in
+      ap (weight (names_in q)) (get-empty nat_cmp TOP) in
       omega arith
 
   is_first : (q : ℕ) (x : Record) → IsAt alone q x → (q ≡ TOP) × (first ≡ x)
   is_first q x is = ⊎_elim
-      (λ eq. (eq, same_some first x (sym (inserted empty TOP first) ∙ sym (ap (get alone) eq)
-          ∙ is)))
+      (λ eq. (
+        eq,
+        same_some first x (sym (inserted empty TOP first) ∙ sym (ap (get alone) eq)
+            ∙ is),
+      ))
       (λ ne. absurd (let none : get alone q ≡ None = insert_keeps empty TOP first q ne
-          ∙ get-empty nat_cmp q in cc))
+      ∙ get-empty nat_cmp q in cc))
       (cases_eq q TOP)
 
   of_first : (P : ℕ → Record → Type 0) → P TOP first → (q : ℕ) (x : Record) → IsAt alone q x → P q x
@@ -205,9 +239,20 @@ module _ (limits : Limits) (moment born : Stamp) (mode uid gid : ℕ) where
         (sym (inserted empty TOP first)) refl;
     numbers = of_first (λ q x. (1 ≤ q) × (q < 2)) (omega arith, omega arith);
     records = of_first (λ q x. IsGoodRecord x)
-        (record { body = (omega arith, λ k d low. absurd (omega arith), λ i j d less low. absurd
-        (omega arith)); mode = good_mode; links = omega arith; atime = good_born; mtime =
-        good_born; ctime = good_born });
+        (record {
+          body = (
+            omega arith,
+            λ k d low. absurd (omega arith),
+            λ i j d less low. absurd
+                (omega arith),
+          );
+          mode = good_mode;
+          links = omega arith;
+          atime = good_born;
+          mtime =
+              good_born;
+          ctime = good_born;
+        });
     entries = λ q x e is c. of_first (λ q x. (e : DirEntry) → Contains (listed x.body) e
         → IsSome (get alone e.ino) × (e.ino ≢ TOP)) (λ e c. absurd (let low = c.1 in omega arith)) q
         x is e c;

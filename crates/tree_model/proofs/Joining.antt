@@ -36,8 +36,8 @@ pub record IsNamedIn (rs : Records) (limits : Limits) (dir ino : ℕ) (name : Li
 
 by_tests : (d x l n m f : Bool)
     → cond {A = Option ℕ} (not d) (Some ENOTDIR)
-        (cond x (Some EPERM) (cond l (Some ENOENT)
-        (cond n (Some EEXIST) (cond m (Some EMLINK) (cond f (Some ENOSPC) None))))) ≡ None
+    (cond x (Some EPERM) (cond l (Some ENOENT)
+    (cond n (Some EEXIST) (cond m (Some EMLINK) (cond f (Some ENOSPC) None))))) ≡ None
     → (d ≡ true) × (x ≡ false) × (l ≡ false) × (n ≡ false) × (m ≡ false) × (f ≡ false)
 by_tests true false false false false false e = (refl, refl, refl, refl, refl, refl)
 by_tests true false false false false true e = absurd (cc)
@@ -79,13 +79,13 @@ named_in rs limits dir ino name = by_records (get rs dir) (get rs ino) refl refl
       rw (at, there) at e in cc)
   by_records (Some d) (Some x) at there e =
       let f : link_refused (is_linked rs dir) limits name (Some d.body) (Some x) ≡ None =
-          rw (at, there) at e in
+      rw (at, there) at e in
       let known = by_tests (is_directory d.body) (is_directory x.body)
-          (not (is_linked rs dir) || x.links == 0) (is_some (entry_named name (listed d.body)))
-          (nat_le limits.links x.links) (takes_no_entry limits.entries d.body) f in
+      (not (is_linked rs dir) || x.links == 0) (is_some (entry_named name (listed d.body)))
+      (nat_le limits.links x.links) (takes_no_entry limits.entries d.body) f in
       let live = or_false (not (is_linked rs dir)) (x.links == 0) known.2 in
       let room = or_false (nat_le limits.entries (length (listed d.body)))
-          (nat_le (2 ^ 64 - 1) (next_cookie d.body)) known.5 in
+      (nat_le (2 ^ 64 - 1) (next_cookie d.body)) known.5 in
       record {
         d = d;
         x = x;
@@ -122,8 +122,8 @@ module _ (t : Tree) (g : IsGoodTree t) (dir ino : ℕ) (name : List ℕ)
   records_are =
       ap (λ o. change (joined_by name ino) (changed one_link_more o t.records ino) dir) w.there
       ∙ ap (λ o. changed (joined_by name ino) o (insert t.records ino (one_link_more w.x)) dir)
-          (mid_dir t g dir ino name w.d (joined_by name ino w.d) w.x (one_link_more w.x)
-          is_linked_in)
+      (mid_dir t g dir ino name w.d (joined_by name ino w.d) w.x (one_link_more w.x)
+      is_linked_in)
 
   pub with_link_good : name_fault name ≡ None → IsGoodTree (with_link t dir name ino)
   with_link_good fine =
@@ -131,12 +131,26 @@ module _ (t : Tree) (g : IsGoodTree t) (dir ino : ℕ) (name : List ℕ)
       let x = g.records ino w.x w.there in
       subst (λ (rs : Records). IsGoodTree (record t { records = rs })) (sym records_are)
       (linked_in_good t g dir ino name w.d (joined_by name ino w.d) w.x (one_link_more w.x)
-          is_linked_in
-      (record { body = good_joined w.d.body name ino w.directory d.body fine w.new; mode =
-          d.mode; links = d.links; atime = d.atime; mtime = d.mtime; ctime = d.ctime })
-      (record { body = x.body; mode = x.mode; links =
-          (let l = g.limits.3 in let few = w.few in omega arith); atime = x.atime; mtime =
-          x.mtime; ctime = x.ctime }))
+      is_linked_in
+      (record {
+        body = good_joined w.d.body name ino w.directory d.body fine w.new;
+        mode =
+            d.mode;
+        links = d.links;
+        atime = d.atime;
+        mtime = d.mtime;
+        ctime = d.ctime;
+      })
+      (record {
+        body = x.body;
+        mode = x.mode;
+        links =
+            (let l = g.limits.3 in let few = w.few in omega arith);
+        atime = x.atime;
+        mtime =
+            x.mtime;
+        ctime = x.ctime;
+      }))
 
   pub with_link_kept : (held : ℕ → Bool) → IsKept t.records held
       → IsKept (with_link t dir name ino).records held
@@ -155,12 +169,12 @@ pub linked_unless_good : (t : Tree) → IsGoodTree t → (dir ino : ℕ) (name :
     → link_refused (is_linked t.records dir) t.limits name (body_at t.records dir)
     (get t.records ino) ≡ o
     → (n : ℕ) (u : Tree) → unless_refused o ino (with_link t dir name ino) ≡ Ok (n, u)
-        → IsGoodTree u
+    → IsGoodTree u
 linked_unless_good t g dir ino name fine (Some e) is n u made = absurd (cc)
 linked_unless_good t g dir ino name fine None is n u made =
     let both : ◌≡◌ {A = ℕ × Tree} (ino, with_link t dir name ino) (n, u) = cc in
     subst IsGoodTree (ap (λ (p : ℕ × Tree). p.1) both)
-        (with_link_good t g dir ino name (named_in t.records t.limits dir ino name is) fine)
+    (with_link_good t g dir ino name (named_in t.records t.limits dir ino name is) fine)
 
 -- links tell whether a directory is linked
 double : (b : Bool) → not (not b) ≡ b
@@ -170,7 +184,7 @@ double false = refl
 pub link_refused_by_links : {rs : Records} {next : ℕ} {held : ℕ → Bool} → IsCounted rs next held
     → (limits : Limits) (dir : ℕ) (name : List ℕ) (x : Option Record)
     → link_refused (not (has_no_links (get rs dir))) limits name (body_at rs dir) x ≡ link_refused
-        (is_linked rs dir) limits name (body_at rs dir) x
+    (is_linked rs dir) limits name (body_at rs dir) x
 link_refused_by_links {rs = rs} s limits dir name x = by_record (get rs dir) refl where
   by_record : (o : Option Record) → get rs dir ≡ o
       → link_refused (not (has_no_links (get rs dir))) limits name (body_at rs dir) x ≡ link_refused

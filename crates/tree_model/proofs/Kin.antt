@@ -27,7 +27,7 @@ pub change_from : (f : Record → Record) (rs : Records) (i q : ℕ) (x : Record
 change_from f rs i q x at = ⊎_elim
     (λ is.
     let was = mapped_some f (get rs i) x (sym (change_at f rs i) ∙ ap (get (change f rs i)) (sym is)
-        ∙ at) in
+    ∙ at) in
     (was.0, ap (get rs) is ∙ was.1, inl (is, was.2)))
     (λ ne. (x, sym (change_keeps f rs i q ne) ∙ at, inr (ne, refl)))
     (cases_eq q i)
@@ -36,8 +36,11 @@ change_from f rs i q x at = ⊎_elim
 pub change_to : (f : Record → Record) (rs : Records) (i q : ℕ) (r : Record) → IsAt rs q r
     → (x : Record) × IsAt (change f rs i) q x
 change_to f rs i q r at = ⊎_elim
-    (λ is. (f r, ap (get (change f rs i)) is ∙ change_at f rs i
-        ∙ ap (option_map f) (sym (ap (get rs) is) ∙ at)))
+    (λ is. (
+      f r,
+      ap (get (change f rs i)) is ∙ change_at f rs i
+          ∙ ap (option_map f) (sym (ap (get rs) is) ∙ at),
+    ))
     (λ ne. (r, change_keeps f rs i q ne ∙ at))
     (cases_eq q i)
 
@@ -120,16 +123,16 @@ module _ (olddir newdir ino q : ℕ) where
 pub step_kin : (olddir newdir ino : ℕ) (f : Record → Record) (rs : Records) (i : ℕ)
     → ((r : Record) → IsAt rs i r → IsKin olddir newdir ino i r (f r))
     → (q : ℕ) (x : Record) → IsAt (change f rs i) q x → (r : Record) × IsAt rs q r
-        × IsKin olddir newdir ino q r x
+    × IsKin olddir newdir ino q r x
 step_kin olddir newdir ino f rs i kin q x at =
     let was = change_from f rs i q x at in (
       was.0,
       was.1,
       ⊎_elim
           (λ is. subst (λ x. IsKin olddir newdir ino q was.0 x) (sym is.1)
-              (subst (λ q. IsKin olddir newdir ino q was.0 (f was.0)) (sym is.0)
-              (kin was.0 (subst (λ q. IsAt rs q was.0) is.0 was.1))))
+          (subst (λ q. IsKin olddir newdir ino q was.0 (f was.0)) (sym is.0)
+          (kin was.0 (subst (λ q. IsAt rs q was.0) is.0 was.1))))
           (λ is. same_kin olddir newdir ino q was.0 x (ap (λ (r : Record). r.body) is.1)
-              (ap (λ (r : Record). r.links) is.1))
+          (ap (λ (r : Record). r.links) is.1))
           was.2,
     )

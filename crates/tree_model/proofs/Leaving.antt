@@ -108,11 +108,11 @@ module _ (t : Tree) (g : IsGoodTree t) (dir : ℕ) (name : List ℕ) (ino : ℕ)
         (insert t.records ino (one_name_less t.moment x)) dir (parted_by name t.moment found.d)
     records_are =
         ap (λ o. change (parted_by name t.moment) (changed (one_name_less t.moment) o t.records ino)
-            dir) there
+        dir) there
         ∙ ap (λ o. changed (parted_by name t.moment) o
-            (insert t.records ino (one_name_less t.moment x)) dir)
-            (mid_dir t g dir ino name found.e found.d (parted_by name t.moment found.d) x
-            (one_name_less t.moment x) is_unlinked_in)
+        (insert t.records ino (one_name_less t.moment x)) dir)
+        (mid_dir t g dir ino name found.e found.d (parted_by name t.moment found.d) x
+        (one_name_less t.moment x) is_unlinked_in)
 
     without_good_at : IsGoodTree (without_entry t dir name ino)
     without_good_at =
@@ -120,21 +120,34 @@ module _ (t : Tree) (g : IsGoodTree t) (dir : ℕ) (name : List ℕ) (ino : ℕ)
         let w = g.records ino x there in
         subst (λ (rs : Records). IsGoodTree (record t { records = rs })) (sym records_are)
         (unlinked_in_good t g dir ino name found.e found.d (parted_by name t.moment found.d) x
-            (one_name_less t.moment x) is_unlinked_in
-        (record { body = good_parted found.d.body name found.e found.directory d.body found.goes;
-            mode = d.mode; links = d.links; atime = d.atime; mtime = g.moment; ctime = g.moment })
-        (record { body = w.body; mode = w.mode; links =
-            (let l = w.links in let less = links_left-le x.body x.links in omega arith); atime =
-            w.atime; mtime = w.mtime; ctime = g.moment }))
+        (one_name_less t.moment x) is_unlinked_in
+        (record {
+          body = good_parted found.d.body name found.e found.directory d.body found.goes;
+          mode = d.mode;
+          links = d.links;
+          atime = d.atime;
+          mtime = g.moment;
+          ctime = g.moment;
+        })
+        (record {
+          body = w.body;
+          mode = w.mode;
+          links =
+              (let l = w.links in let less = links_left-le x.body x.links in omega arith);
+          atime =
+              w.atime;
+          mtime = w.mtime;
+          ctime = g.moment;
+        }))
 
     -- the directory stays linked
     without_live_at : is_linked (without_entry t dir name ino).records dir ≡ true
     without_live_at =
         ap (λ (rs : Records). is_linked rs dir) records_are
         ∙ same_linked t g dir ino name found.e found.d (parted_by name t.moment found.d) x
-            (one_name_less t.moment x) is_unlinked_in dir
+        (one_name_less t.moment x) is_unlinked_in dir
         (apart t g dir ino name found.e found.d (parted_by name t.moment found.d) x
-            (one_name_less t.moment x) is_unlinked_in)
+        (one_name_less t.moment x) is_unlinked_in)
         ∙ lists_live
 
     without_kept_at : (held : ℕ → Bool) → IsKept t.records held
@@ -191,8 +204,11 @@ file_only rs (Ok i) ino is = by_test (is_directory_at (body_at rs i)) refl is wh
       → (◌≡◌ {A = Result ℕ ℕ} (Ok i) (Ok ino)) × (is_empty_at (body_at rs ino) ≡ true)
   by_test true directory is = absurd (cc)
   by_test false file is = let same : i ≡ ino =
-      cc in (ap (λ i. Ok i) same, subst (λ i. is_empty_at (body_at rs i) ≡ true) same
-      (empty_file (body_at rs i) file))
+      cc in (
+        ap (λ i. Ok i) same,
+        subst (λ i. is_empty_at (body_at rs i) ≡ true) same
+            (empty_file (body_at rs i) file),
+      )
 
 -- what is found and is a directory without entries
 pub empty_only : (rs : Records) (r : Result ℕ ℕ) (ino : ℕ) → if_empty rs r ≡ Ok ino → (r ≡ Ok ino)
@@ -200,25 +216,25 @@ pub empty_only : (rs : Records) (r : Result ℕ ℕ) (ino : ℕ) → if_empty rs
 empty_only rs (Err e) ino is = absurd (cc)
 empty_only rs (Ok i) ino is = by_tests (is_directory_at (body_at rs i)) (is_empty_at (body_at rs i))
     refl is where
-  by_tests : (d b : Bool) → is_empty_at (body_at rs i) ≡ b
-      → cond (not d) (Err ENOTDIR) (cond b (Ok i) (Err ENOTEMPTY)) ≡ Ok ino
-      → (◌≡◌ {A = Result ℕ ℕ} (Ok i) (Ok ino)) × (is_empty_at (body_at rs ino) ≡ true)
-  by_tests false b nothing is = absurd (cc)
-  by_tests true true nothing is = let same : i ≡ ino =
-      cc in (ap (λ i. Ok i) same, subst (λ i. is_empty_at (body_at rs i) ≡ true) same nothing)
-  by_tests true false nothing is = absurd (cc)
+      by_tests : (d b : Bool) → is_empty_at (body_at rs i) ≡ b
+          → cond (not d) (Err ENOTDIR) (cond b (Ok i) (Err ENOTEMPTY)) ≡ Ok ino
+          → (◌≡◌ {A = Result ℕ ℕ} (Ok i) (Ok ino)) × (is_empty_at (body_at rs ino) ≡ true)
+      by_tests false b nothing is = absurd (cc)
+      by_tests true true nothing is = let same : i ≡ ino =
+          cc in (ap (λ i. Ok i) same, subst (λ i. is_empty_at (body_at rs i) ≡ true) same nothing)
+      by_tests true false nothing is = absurd (cc)
 
 -- what may go, goes
 pub removed_good : (held : ℕ → Bool) (t u : Tree) → IsGoodTree t
     → (dir : ℕ) (name : List ℕ) (r : Result ℕ ℕ)
     → ((ino : ℕ) → r ≡ Ok ino → (lookup_of t dir name ≡ Ok ino)
-        × (is_empty_at (body_at t.records ino) ≡ true)) → removed_at held t dir name r ≡ Ok (tt, u)
-        → IsGoodTree u
+    × (is_empty_at (body_at t.records ino) ≡ true)) → removed_at held t dir name r ≡ Ok (tt, u)
+    → IsGoodTree u
 removed_good held t u g dir name (Err e) known made = absurd (cc)
 removed_good held t u g dir name (Ok ino) known made =
     let found = known ino refl in
     let both : ◌≡◌ {A = Unit {0} × Tree} (tt, keep held (without_entry t dir name ino)) (tt, u) =
-        cc in
+    cc in
     subst IsGoodTree (ap (λ (p : Unit {0} × Tree). p.1) both)
-        (keep_good (without_entry t dir name ino) (without_good t g dir name ino found.0 found.1)
-        held)
+    (keep_good (without_entry t dir name ino) (without_good t g dir name ino found.0 found.1)
+    held)

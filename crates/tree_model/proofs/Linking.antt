@@ -55,7 +55,7 @@ module _ (t : Tree) (g : IsGoodTree t) (dir ino : ℕ) (name : List ℕ) (d d' x
   apart is =
       let same : d ≡ x = same_some d x (sym w.at ∙ ap (get rs) is ∙ w.there) in
       absurd (false≢true (sym w.plain ∙ ap (λ (r : Record). is_directory r.body) (sym same)
-          ∙ w.directory))
+      ∙ w.directory))
 
   not_top : ino ≢ TOP
   not_top is = absurd (false≢true (sym (ap (λ o. is_directory_at
@@ -89,7 +89,7 @@ module _ (t : Tree) (g : IsGoodTree t) (dir ino : ℕ) (name : List ℕ) (d d' x
       let two = weigh-insert (names_in q) mid dir d' in
       let was = ap (weight (names_in q)) mid_dir in
       let longer : names_in q d' ≡ count_names q (listed d.body ++ entry ∷ []) =
-          ap (count_names q) lists_more in
+      ap (count_names q) lists_more in
       let pushed = count_names-push q (listed d.body) entry in
       omega arith
 
@@ -112,8 +112,8 @@ module _ (t : Tree) (g : IsGoodTree t) (dir ino : ℕ) (name : List ℕ) (d d' x
   same_linked : (q : ℕ) → is_linked made q ≡ is_linked rs q
   same_linked q = ⊎_elim
       (λ eq. ap (is_linked made) eq ∙ ap (λ b. (ino == TOP) || b)
-          (both_named (name_count made ino) (name_count rs ino)
-          (let m = one_more_name in omega arith) was_named) ∙ sym (ap (is_linked rs) eq))
+      (both_named (name_count made ino) (name_count rs ino)
+      (let m = one_more_name in omega arith) was_named) ∙ sym (ap (is_linked rs) eq))
       (λ ne. ap (λ n. (q == TOP) || nat_lt 0 n) (same_count q ne))
       (cases_eq q ino)
 
@@ -122,10 +122,10 @@ module _ (t : Tree) (g : IsGoodTree t) (dir ino : ℕ) (name : List ℕ) (d d' x
       → IsAt made q r → P q r
   by_place P here there other q r is = ⊎_elim
       (λ eq. let same = same_some x' r (sym at_ino ∙ sym (ap (get made) eq) ∙ is) in subst
-          (λ q. P q r) (sym eq) (subst (P ino) same here))
+      (λ q. P q r) (sym eq) (subst (P ino) same here))
       (λ ne. ⊎_elim
       (λ eq. let same = same_some d' r (sym at_dir ∙ sym (ap (get made) eq) ∙ is) in subst
-          (λ q. P q r) (sym eq) (subst (P dir) same there))
+      (λ q. P q r) (sym eq) (subst (P dir) same there))
       (λ nd. other q r ne nd (sym (at_other q ne nd) ∙ is))
       (cases_eq q dir))
       (cases_eq q ino)
@@ -134,14 +134,14 @@ module _ (t : Tree) (g : IsGoodTree t) (dir ino : ℕ) (name : List ℕ) (d d' x
   stored q had = ⊎_elim
       (λ eq. subst IsSome (sym (ap (get made) eq ∙ at_ino)) refl)
       (λ ne. ⊎_elim (λ eq. subst IsSome (sym (ap (get made) eq ∙ at_dir)) refl)
-          (λ nd. subst IsSome (sym (at_other q ne nd)) had) (cases_eq q dir))
+      (λ nd. subst IsSome (sym (at_other q ne nd)) had) (cases_eq q dir))
       (cases_eq q ino)
 
   was_stored : (q : ℕ) → IsSome (get made q) → IsSome (get rs q)
   was_stored q had = ⊎_elim
       (λ eq. subst IsSome (sym (ap (get rs) eq ∙ w.there)) refl)
       (λ ne. ⊎_elim (λ eq. subst IsSome (sym (ap (get rs) eq ∙ w.at)) refl)
-          (λ nd. subst IsSome (at_other q ne nd) had) (cases_eq q dir))
+      (λ nd. subst IsSome (at_other q ne nd) had) (cases_eq q dir))
       (cases_eq q ino)
 
   same_above : (es : List DirEntry) (n up : ℕ) → d'.body ≡ Directory es n up → (gs : List DirEntry)
@@ -165,9 +165,17 @@ module _ (t : Tree) (g : IsGoodTree t) (dir ino : ℕ) (name : List ℕ) (d d' x
             (ap (λ (r : Record). r.body) same ∙ s.5),
         climbs_on n s.3 s.6,
       ))
-      (λ nd. inr (s.0, s.1, s.2, s.3, at_other i
-          (λ is. not_link s.0 s.1 s.2 s.3 (sym (ap (get rs) is) ∙ s.4) s.5) nd
-          ∙ s.4, s.5, climbs_on n s.3 s.6))
+      (λ nd. inr (
+        s.0,
+        s.1,
+        s.2,
+        s.3,
+        at_other i
+            (λ is. not_link s.0 s.1 s.2 s.3 (sym (ap (get rs) is) ∙ s.4) s.5) nd
+            ∙ s.4,
+        s.5,
+        climbs_on n s.3 s.6,
+      ))
       (cases_eq i dir))
       c where
         not_link : (r : Record) (es : List DirEntry) (m up : ℕ) → IsAt rs ino r
@@ -175,12 +183,12 @@ module _ (t : Tree) (g : IsGoodTree t) (dir ino : ℕ) (name : List ℕ) (d d' x
         not_link r es m up at is =
             let same : x ≡ r = same_some x r (sym w.there ∙ at) in
             false≢true (sym w.plain ∙ ap (λ (r : Record). is_directory r.body) same
-                ∙ ap is_directory is)
+            ∙ ap is_directory is)
 
   names_more : (q : ℕ) → names_in q d ≤ names_in q d'
   names_more q =
       let longer : names_in q d' ≡ count_names q (listed d.body ++ entry ∷ []) =
-          ap (count_names q) lists_more in
+      ap (count_names q) lists_more in
       let pushed = count_names-push q (listed d.body) entry in
       omega arith
 
@@ -189,16 +197,16 @@ module _ (t : Tree) (g : IsGoodTree t) (dir ino : ℕ) (name : List ℕ) (d d' x
   still_above q up had names = ⊎_elim
       (λ eq.
       let was : 1 ≤ names_in q d = subst (λ o. IfSome o (λ r. 1 ≤ names_in q r))
-          (ap (get rs) eq ∙ w.at) names in
+      (ap (get rs) eq ∙ w.at) names in
       let more = names_more q in
       let now : 1 ≤ names_in q d' = omega arith in
       subst (λ o. IfSome o (λ r. 1 ≤ names_in q r)) (sym (ap (get made) eq ∙ at_dir)) now)
       (λ nd. ⊎_elim
       (λ eq.
       let was : 1 ≤ names_in q x = subst (λ o. IfSome o (λ r. 1 ≤ names_in q r))
-          (ap (get rs) eq ∙ w.there) names in
+      (ap (get rs) eq ∙ w.there) names in
       let now : 1 ≤ names_in q x' = subst (λ b. 1 ≤ count_names q (listed b)) (sym w.same_body) was
-          in
+      in
       subst (λ o. IfSome o (λ r. 1 ≤ names_in q r)) (sym (ap (get made) eq ∙ at_ino)) now)
       (λ ne. subst (λ o. IfSome o (λ r. 1 ≤ names_in q r)) (sym (at_other up ne nd)) names)
       (cases_eq up ino))
@@ -215,12 +223,14 @@ module _ (t : Tree) (g : IsGoodTree t) (dir ino : ℕ) (name : List ℕ) (d d' x
         × (e.ino ≢ TOP)
     new_entries e c = ⊎_elim
         (λ old. let had = g.entries dir d e w.at old in (stored e.ino had.0, had.1))
-        (λ new. let same : e ≡ entry = by_last e new.0 new.1 new.2 in
-        (subst (λ (e : DirEntry). IsSome (get made e.ino)) (sym same)
-            (subst IsSome (sym at_ino) refl), λ is. not_top
-            (sym (ap (λ (e : DirEntry). e.ino) same) ∙ is)))
+        (λ new. let same : e ≡ entry = by_last e new.0 new.1 new.2 in (
+          subst (λ (e : DirEntry). IsSome (get made e.ino)) (sym same)
+              (subst IsSome (sym at_ino) refl),
+          λ is. not_top
+              (sym (ap (λ (e : DirEntry). e.ino) same) ∙ is),
+        ))
         (Contains-append_cases (listed d.body) (entry ∷ []) e
-            (subst (λ es. Contains es e) lists_more c)) where
+        (subst (λ es. Contains es e) lists_more c)) where
           by_last : (e : DirEntry) (k : ℕ) → k < length (entry ∷ []) → get_or (entry ∷ []) k e ≡ e
               → e ≡ entry
           by_last e zero low is = sym is
@@ -237,30 +247,30 @@ module _ (t : Tree) (g : IsGoodTree t) (dir ino : ℕ) (name : List ℕ) (d d' x
       entries = λ q r e is c. by_place (λ q r. (e : DirEntry) → Contains (listed r.body) e
           → IsSome (get made e.ino) × (e.ino ≢ TOP))
           (λ e c. absurd (let none = subst (λ es. Contains es e) lists_nothing c in let low =
-              none.1 in omega arith))
+          none.1 in omega arith))
           new_entries
           (λ q r ne nd was e c. let had = g.entries q r e was c in (stored e.ino had.0, had.1))
           q r is e c;
       links = by_place (λ q r. r.links ≡ links_of r.body (name_count made q) (is_linked made q))
           (let l : x.links ≡ name_count rs ino = g.links ino x w.there
-              ∙ names_of x.body (name_count rs ino) (is_linked rs ino) w.plain in let more =
-              one_more_name in let one = w.one_more in
+          ∙ names_of x.body (name_count rs ino) (is_linked rs ino) w.plain in let more =
+          one_more_name in let one = w.one_more in
           let now : x'.links ≡ name_count made ino = omega arith in now
-              ∙ sym (ap (λ b. links_of b (name_count made ino) (is_linked made ino)) w.same_body
-              ∙ names_of x.body (name_count made ino) (is_linked made ino) w.plain))
+          ∙ sym (ap (λ b. links_of b (name_count made ino) (is_linked made ino)) w.same_body
+          ∙ names_of x.body (name_count made ino) (is_linked made ino) w.plain))
           (w.same_links ∙ g.links dir d w.at ∙ ap (links_of d.body (name_count rs dir))
-              (sym (same_linked dir)) ∙ shows_links d.body _ _ (name_count rs dir)
-              (name_count made dir) (is_linked made dir) w.directory
-              ∙ ap (λ b. links_of b (name_count made dir) (is_linked made dir)) (sym w.joined))
+          (sym (same_linked dir)) ∙ shows_links d.body _ _ (name_count rs dir)
+          (name_count made dir) (is_linked made dir) w.directory
+          ∙ ap (λ b. links_of b (name_count made dir) (is_linked made dir)) (sym w.joined))
           (λ q r ne nd was. g.links q r was ∙ ap (λ n. links_of r.body n (is_linked rs q))
-              (sym (same_count q ne)) ∙ ap (links_of r.body (name_count made q))
-              (sym (same_linked q)));
+          (sym (same_count q ne)) ∙ ap (links_of r.body (name_count made q))
+          (sym (same_linked q)));
       once = by_place (λ q r. IsTrue (is_directory r.body) → name_count made q ≤ 1)
           (λ is. absurd (not_directory is))
           (λ is. let le = g.once dir d w.at w.directory in let same =
-              same_count dir apart in omega arith)
+          same_count dir apart in omega arith)
           (λ q r ne nd was is. let le = g.once q r was is in let same =
-              same_count q ne in omega arith);
+          same_count q ne in omega arith);
       above = λ q r es n up at is live ne. by_place
           (λ q r. (es : List DirEntry) (n up : ℕ) → r.body ≡ Directory es n up
           → IsTrue (is_linked made q) → q ≢ TOP → IsSome (get made up)
@@ -280,16 +290,16 @@ module _ (t : Tree) (g : IsGoodTree t) (dir ino : ℕ) (name : List ℕ) (d d' x
           (λ q r. q ≡ TOP → (es : List DirEntry) (n up : ℕ) → r.body ≡ Directory es n up → up ≡ TOP)
           (λ top es n up is. absurd (not_top top))
           (λ top es n up is. let old = same_above es n up is in g.top_above d old.0 old.1 up
-              (sym (ap (get rs) top) ∙ w.at) old.2)
+          (sym (ap (get rs) top) ∙ w.at) old.2)
           (λ q r nn nd at top es n up is. g.top_above r es n up (sym (ap (get rs) top) ∙ at) is)
           TOP r at refl es n up is;
       climbs = by_place (λ q r. IsTrue (is_directory r.body) → IsTrue (is_linked made q)
           → ∥ ((n : ℕ) × Climbs made n q) ∥₁)
           (λ is live. absurd (not_directory is))
           (λ is live. ∥∥₁_map (g.climbs dir d w.at w.directory w.live)
-              (λ c. (c.0, climbs_on c.0 dir c.1)))
+          (λ c. (c.0, climbs_on c.0 dir c.1)))
           (λ q r ne nd was is live. ∥∥₁_map (g.climbs q r was is (sym (same_linked q) ∙ live))
-              (λ c. (c.0, climbs_on c.0 q c.1)));
+          (λ c. (c.0, climbs_on c.0 q c.1)));
       emptied = by_place (λ q r. is_linked made q ≡ false → listed r.body ≡ [])
           (λ loose. lists_nothing)
           (λ loose. absurd (false≢true (sym loose ∙ same_linked dir ∙ w.live)))
@@ -298,10 +308,10 @@ module _ (t : Tree) (g : IsGoodTree t) (dir ino : ℕ) (name : List ℕ) (d d' x
       top_stays : IsTrue (is_directory_at (option_map (λ (r : Record). r.body) (get made TOP)))
       top_stays = ⊎_elim
           (λ eq. subst (λ o. is_directory_at (option_map (λ (r : Record). r.body) o) ≡ true)
-              (sym (ap (get made) eq ∙ at_dir))
-              (ap is_directory w.joined ∙ with_entries-is_directory d.body _ _ ∙ w.directory))
+          (sym (ap (get made) eq ∙ at_dir))
+          (ap is_directory w.joined ∙ with_entries-is_directory d.body _ _ ∙ w.directory))
           (λ nd. subst (λ o. is_directory_at (option_map (λ (r : Record). r.body) o) ≡ true)
-              (sym (at_other TOP (λ is. not_top (sym is)) nd)) g.top_is_directory)
+          (sym (at_other TOP (λ is. not_top (sym is)) nd)) g.top_is_directory)
           (cases_eq TOP dir)
 
   pub linked_kept : (held : ℕ → Bool) → IsKept rs held → IsKept made held

@@ -73,14 +73,14 @@ without-none : (name other : List ℕ) (es : List DirEntry) → entry_named othe
 without-none name other [] none = refl
 without-none name other (e ∷ es) none = by_tests (bytes_eq e.name name) (bytes_eq e.name other) refl
     none (λ none. without-none name other es none) where
-  by_tests : (b c : Bool) → bytes_eq e.name other ≡ c
-      → cond c (Some e) (entry_named other es) ≡ None
-      → (entry_named other es ≡ None → entry_named other (without name es) ≡ None)
-      → entry_named other (cond b es (e ∷ without name es)) ≡ None
-  by_tests b true is none later = absurd (cc)
-  by_tests true false is none later = none
-  by_tests false false is none later = ap (λ c. cond c (Some e)
-      (entry_named other (without name es))) is ∙ later none
+      by_tests : (b c : Bool) → bytes_eq e.name other ≡ c
+          → cond c (Some e) (entry_named other es) ≡ None
+          → (entry_named other es ≡ None → entry_named other (without name es) ≡ None)
+          → entry_named other (cond b es (e ∷ without name es)) ≡ None
+      by_tests b true is none later = absurd (cc)
+      by_tests true false is none later = none
+      by_tests false false is none later = ap (λ c. cond c (Some e)
+          (entry_named other (without name es))) is ∙ later none
 
 -- ---- the move
 
@@ -133,8 +133,8 @@ module _ (t : Tree) (g : IsGoodTree t) (olddir : ℕ) (oldname : List ℕ) (newd
   fewer : (q : ℕ) → names_in q (parts d) + cond {A = ℕ} (w.old.e.ino == q) 1 0 ≡ names_in q d
   fewer q =
       ap (λ es. count_names q es + cond {A = ℕ} (w.old.e.ino == q) 1 0)
-          (with_entries-listed d.body (without oldname (listed d.body)) (next_cookie d.body)
-          w.old.directory)
+      (with_entries-listed d.body (without oldname (listed d.body)) (next_cookie d.body)
+      w.old.directory)
       ∙ count_names-without q oldname (listed d.body) w.old.e w.old.goes
 
   not_it : (q : ℕ) → q ≢ ino → cond {A = ℕ} (w.old.e.ino == q) 1 0 ≡ 0
@@ -143,18 +143,22 @@ module _ (t : Tree) (g : IsGoodTree t) (olddir : ℕ) (oldname : List ℕ) (newd
   parts_kin : (r : Record) → IsAt rs olddir r → Kin olddir r (parts r)
   parts_kin r at = subst (λ (r : Record). Kin olddir r (parts r))
       (same_some d r (sym w.old.at ∙ at)) (record {
-    directory = with_entries-is_directory d.body _ _;
-    links = refl;
-    shows = λ n linked. sym (shows_links d.body _ _ n n linked w.old.directory);
-    names = λ i ne. let less = fewer i in let none = not_it i ne in omega arith;
-    entries = λ e c. inl (without-Contains oldname (listed d.body) w.old.e e w.old.goes
-        (subst (λ es. Contains es e) (with_entries-listed d.body (without oldname (listed d.body))
-        (next_cookie d.body) w.old.directory) c));
-    lists = λ no nn. absurd (no refl);
-    place = λ ne es n up is. with_entries-above d.body _ es _ n up is;
-    stays = λ ne es n up is. (without oldname (listed d.body), next_cookie d.body, other_entries
-        d.body es _ _ n up is);
-  })
+        directory = with_entries-is_directory d.body _ _;
+        links = refl;
+        shows = λ n linked. sym (shows_links d.body _ _ n n linked w.old.directory);
+        names = λ i ne. let less = fewer i in let none = not_it i ne in omega arith;
+        entries = λ e c. inl (without-Contains oldname (listed d.body) w.old.e e w.old.goes
+            (subst (λ es. Contains es e) (with_entries-listed d.body (without oldname (listed d.body))
+            (next_cookie d.body) w.old.directory) c));
+        lists = λ no nn. absurd (no refl);
+        place = λ ne es n up is. with_entries-above d.body _ es _ n up is;
+        stays = λ ne es n up is. (
+          without oldname (listed d.body),
+          next_cookie d.body,
+          other_entries
+              d.body es _ _ n up is,
+        );
+      })
 
   parted_from : (q : ℕ) (x : Record) → IsAt parted q x → (r : Record) × IsAt rs q r × Kin q r x
   parted_from = step_kin olddir newdir ino parts rs olddir parts_kin
@@ -168,7 +172,7 @@ module _ (t : Tree) (g : IsGoodTree t) (olddir : ℕ) (oldname : List ℕ) (newd
   m_directory =
       let was = parted_from newdir m.0 m.1 in
       was.2.directory ∙ ap (λ (r : Record). is_directory r.body)
-          (same_some was.0 w.n (sym was.1 ∙ w.there)) ∙ w.directory
+      (same_some was.0 w.n (sym was.1 ∙ w.there)) ∙ w.directory
 
   m_new : entry_named newname (listed (m.0).body) ≡ None
   m_new =
@@ -177,12 +181,12 @@ module _ (t : Tree) (g : IsGoodTree t) (olddir : ℕ) (oldname : List ℕ) (newd
       ⊎_elim
       (λ is.
       let lists : listed (m.0).body ≡ without oldname (listed (was.0).body) =
-          ap (λ (r : Record). listed r.body) is.1
-          ∙ with_entries-listed (was.0).body (without oldname (listed (was.0).body))
-          (next_cookie (was.0).body) (ap (λ (r : Record). is_directory r.body) same ∙ w.directory)
-          in
+      ap (λ (r : Record). listed r.body) is.1
+      ∙ with_entries-listed (was.0).body (without oldname (listed (was.0).body))
+      (next_cookie (was.0).body) (ap (λ (r : Record). is_directory r.body) same ∙ w.directory)
+      in
       ap (entry_named newname) lists ∙ without-none oldname newname (listed (was.0).body)
-          (ap (λ (r : Record). entry_named newname (listed r.body)) same ∙ w.new))
+      (ap (λ (r : Record). entry_named newname (listed r.body)) same ∙ w.new))
       (λ is. ap (λ (r : Record). entry_named newname (listed r.body)) (is.1 ∙ same) ∙ w.new)
       was.2
 
@@ -199,23 +203,27 @@ module _ (t : Tree) (g : IsGoodTree t) (olddir : ℕ) (oldname : List ℕ) (newd
   joins_kin : (r : Record) → IsAt parted newdir r → Kin newdir r (joins r)
   joins_kin r at = subst (λ (r : Record). Kin newdir r (joins r)) (same_some m.0 r (sym m.1 ∙ at))
       (record {
-    directory = with_entries-is_directory (m.0).body _ _;
-    links = refl;
-    shows = λ n linked. sym (shows_links (m.0).body _ _ n n linked m_directory);
-    names = λ i ne. let more = more_names i in let none : cond {A = ℕ} (ino == i) 1 0 ≡ 0 =
-        grind (arith, nat_tests) in omega arith;
-    entries = λ e c. ⊎_elim (λ c. inl c) (λ c. inr (by_last e c.0 c.1 c.2))
-        (Contains-append_cases (listed (m.0).body) (entry ∷ []) e
-        (subst (λ es. Contains es e) lists_more c));
-    lists = λ no nn. absurd (nn refl);
-    place = λ ne es n up is. with_entries-above (m.0).body _ es _ n up is;
-    stays = λ ne es n up is. (listed (m.0).body ++ entry
-        ∷ [], next_cookie (m.0).body + 1, other_entries (m.0).body es _ _ n up is);
-  }) where
-    by_last : (e : DirEntry) (k : ℕ) → k < length (entry ∷ []) → get_or (entry ∷ []) k e ≡ e
-        → e.ino ≡ ino
-    by_last e zero low is = ap (λ (e : DirEntry). e.ino) (sym is)
-    by_last e (suc k) low is = absurd (omega arith)
+        directory = with_entries-is_directory (m.0).body _ _;
+        links = refl;
+        shows = λ n linked. sym (shows_links (m.0).body _ _ n n linked m_directory);
+        names = λ i ne. let more = more_names i in let none : cond {A = ℕ} (ino == i) 1 0 ≡ 0 =
+            grind (arith, nat_tests) in omega arith;
+        entries = λ e c. ⊎_elim (λ c. inl c) (λ c. inr (by_last e c.0 c.1 c.2))
+            (Contains-append_cases (listed (m.0).body) (entry ∷ []) e
+            (subst (λ es. Contains es e) lists_more c));
+        lists = λ no nn. absurd (nn refl);
+        place = λ ne es n up is. with_entries-above (m.0).body _ es _ n up is;
+        stays = λ ne es n up is. (
+          listed (m.0).body ++ entry
+              ∷ [],
+          next_cookie (m.0).body + 1,
+          other_entries (m.0).body es _ _ n up is,
+        );
+      }) where
+        by_last : (e : DirEntry) (k : ℕ) → k < length (entry ∷ []) → get_or (entry ∷ []) k e ≡ e
+            → e.ino ≡ ino
+        by_last e zero low is = ap (λ (e : DirEntry). e.ino) (sym is)
+        by_last e (suc k) low is = absurd (omega arith)
 
   joined_from : (q : ℕ) (x : Record) → IsAt joined q x → (r : Record) × IsAt parted q r × Kin q r x
   joined_from = step_kin olddir newdir ino joins parted newdir joins_kin
@@ -239,13 +247,16 @@ module _ (t : Tree) (g : IsGoodTree t) (olddir : ℕ) (oldname : List ℕ) (newd
   from : (q : ℕ) (x : Record) → IsAt made q x → (r : Record) × IsAt rs q r × Kin q r x
   from q x at =
       let e = step_kin olddir newdir ino (moved_below t.moment newdir) stamps ino
-          (λ r at. settles_kin r) q x at in
+      (λ r at. settles_kin r) q x at in
       let s = stamps_from q e.0 e.1 in
       let j = joined_from q s.0 s.1 in
-      let p = parted_from q j.0 j.1 in
-      (p.0, p.1, kin_trans olddir newdir ino q p.0 j.0 x p.2
-          (kin_trans olddir newdir ino q j.0 s.0 x j.2
-          (kin_trans olddir newdir ino q s.0 e.0 x s.2 e.2)))
+      let p = parted_from q j.0 j.1 in (
+        p.0,
+        p.1,
+        kin_trans olddir newdir ino q p.0 j.0 x p.2
+            (kin_trans olddir newdir ino q j.0 s.0 x j.2
+            (kin_trans olddir newdir ino q s.0 e.0 x s.2 e.2)),
+      )
 
   to : (q : ℕ) (r : Record) → IsAt rs q r → (x : Record) × IsAt made q x × Kin q r x
   to q r at =
@@ -266,7 +277,7 @@ module _ (t : Tree) (g : IsGoodTree t) (olddir : ℕ) (oldname : List ℕ) (newd
       let more = more_names q in
       let s = same_counts (stamped t.moment) joined newdir q (λ r. refl) in
       let e = same_counts (moved_below t.moment newdir) stamps ino q
-          (λ r. ap (count_names q) (placed-listed newdir r.body)) in
+      (λ r. ap (count_names q) (placed-listed newdir r.body)) in
       let one = ap (λ i. cond {A = ℕ} (i == q) 1 0) w.old.names in
       omega arith
 
@@ -303,29 +314,56 @@ module _ (t : Tree) (g : IsGoodTree t) (olddir : ℕ) (oldname : List ℕ) (newd
   parted_good = all_good parts rs olddir g.records (λ r at.
       let good = g.records olddir d w.old.at in
       subst (λ (r : Record). IsGoodRecord (parts r)) (same_some d r (sym w.old.at ∙ at))
-      (record { body = good_parted d.body oldname w.old.e w.old.directory good.body w.old.goes;
-          mode = good.mode; links = good.links; atime = good.atime; mtime = g.moment; ctime =
-          g.moment }))
+      (record {
+        body = good_parted d.body oldname w.old.e w.old.directory good.body w.old.goes;
+        mode = good.mode;
+        links = good.links;
+        atime = good.atime;
+        mtime = g.moment;
+        ctime =
+            g.moment;
+      }))
 
   joined_good : (q : ℕ) (x : Record) → IsAt joined q x → IsGoodRecord x
   joined_good = all_good joins parted newdir parted_good (λ r at.
       let good = parted_good newdir m.0 m.1 in
       subst (λ (r : Record). IsGoodRecord (joins r)) (same_some m.0 r (sym m.1 ∙ at))
-      (record { body = good_joined (m.0).body newname ino m_directory good.body w.fine m_new; mode =
-          good.mode; links = good.links; atime = good.atime; mtime = good.mtime; ctime =
-          good.ctime }))
+      (record {
+        body = good_joined (m.0).body newname ino m_directory good.body w.fine m_new;
+        mode =
+            good.mode;
+        links = good.links;
+        atime = good.atime;
+        mtime = good.mtime;
+        ctime =
+            good.ctime;
+      }))
 
   stamps_good : (q : ℕ) (x : Record) → IsAt stamps q x → IsGoodRecord x
   stamps_good = all_good (stamped t.moment) joined newdir joined_good (λ r at.
       let good = joined_good newdir r at in
-      record { body = good.body; mode = good.mode; links = good.links; atime = good.atime; mtime =
-          g.moment; ctime = g.moment })
+      record {
+        body = good.body;
+        mode = good.mode;
+        links = good.links;
+        atime = good.atime;
+        mtime =
+            g.moment;
+        ctime = g.moment;
+      })
 
   made_records : (q : ℕ) (x : Record) → IsAt made q x → IsGoodRecord x
   made_records = all_good (moved_below t.moment newdir) stamps ino stamps_good (λ r at.
       let good = stamps_good ino r at in
-      record { body = placed-good newdir r.body good.body; mode = good.mode; links =
-          good.links; atime = good.atime; mtime = good.mtime; ctime = g.moment })
+      record {
+        body = placed-good newdir r.body good.body;
+        mode = good.mode;
+        links =
+            good.links;
+        atime = good.atime;
+        mtime = good.mtime;
+        ctime = g.moment;
+      })
 
   -- ---- above
 
@@ -335,7 +373,7 @@ module _ (t : Tree) (g : IsGoodTree t) (olddir : ℕ) (oldname : List ℕ) (newd
   moved_above x at es n up is =
       let was = change_from (moved_below t.moment newdir) stamps ino ino x at in
       ⊎_elim (λ h. placed-above newdir (was.0).body es n up
-          (ap (λ (r : Record). r.body) (sym h.1) ∙ is)) (λ h. absurd (h.0 refl)) was.2
+      (ap (λ (r : Record). r.body) (sym h.1) ∙ is)) (λ h. absurd (h.0 refl)) was.2
 
   if_there : (P : Record → Type 0) (i : ℕ) → ((y : Record) → IsAt made i y → P y)
       → IfSome (get made i) P
@@ -348,13 +386,13 @@ module _ (t : Tree) (g : IsGoodTree t) (olddir : ℕ) (oldname : List ℕ) (newd
   lists_it y at =
       let e = change_from (moved_below t.moment newdir) stamps ino newdir y at in
       let at_e : names_in ino y ≡ names_in ino e.0 =
-          ⊎_elim (λ h. ap (names_in ino) h.1 ∙ ap (count_names ino)
-          (placed-listed newdir (e.0).body)) (λ h. ap (names_in ino) h.1) e.2 in
+      ⊎_elim (λ h. ap (names_in ino) h.1 ∙ ap (count_names ino)
+      (placed-listed newdir (e.0).body)) (λ h. ap (names_in ino) h.1) e.2 in
       let s = change_from (stamped t.moment) joined newdir newdir e.0 e.1 in
       let at_s : names_in ino e.0 ≡ names_in ino s.0 =
-          ⊎_elim (λ h. ap (names_in ino) h.1) (λ h. ap (names_in ino) h.1) s.2 in
+      ⊎_elim (λ h. ap (names_in ino) h.1) (λ h. ap (names_in ino) h.1) s.2 in
       let j : joins m.0 ≡ s.0 = same_some (joins m.0) s.0
-          (sym (change_at joins parted newdir ∙ ap (option_map joins) m.1) ∙ s.1) in
+      (sym (change_at joins parted newdir ∙ ap (option_map joins) m.1) ∙ s.1) in
       let at_j = ap (names_in ino) j in
       let more = more_names ino in
       let one : cond {A = ℕ} (ino == ino) 1 0 ≡ 1 = grind (arith, nat_tests) in
@@ -380,23 +418,31 @@ module _ (t : Tree) (g : IsGoodTree t) (olddir : ℕ) (oldname : List ℕ) (newd
   climbs_away k zero i c past = c
   climbs_away zero (suc n) i c past = absurd (false≢true past)
   climbs_away (suc k) (suc n) i c past = ⊎_elim (λ is. inl is)
-      (λ s. by_tests s (i == ino) (i == TOP) refl refl past (λ low. climbs_away k n s.3 s.6 low)) c
-      where
-    by_tests : (s : (r : Record) × (es : List DirEntry) × (m : ℕ) × (above : ℕ) × IsAt rs i r
-        × (r.body ≡ Directory es m above) × Climbs rs n above) (b h : Bool) → (i == ino) ≡ b
-        → (i == TOP) ≡ h
-        → cond b false (cond h true (climbs_past rs ino k (above_at rs i))) ≡ true
+      (λ s. by_tests s (i == ino) (i == TOP) refl refl past
+      (λ low. climbs_away k n s.3 s.6 low)) c where
+        by_tests : (s : (r : Record) × (es : List DirEntry) × (m : ℕ) × (above : ℕ) × IsAt rs i r
+            × (r.body ≡ Directory es m above) × Climbs rs n above) (b h : Bool) → (i == ino) ≡ b
+            → (i == TOP) ≡ h
+            → cond b false (cond h true (climbs_past rs ino k (above_at rs i))) ≡ true
             → (climbs_past rs ino k s.3 ≡ true → Climbs made n s.3) → Climbs made (suc n) i
-    by_tests s true h here high past later = absurd (false≢true past)
-    by_tests s false true here high past later = inl (grind (arith, nat_tests))
-    by_tests s false false here high past later =
-        let ne : i ≢ ino = λ is. false≢true (sym here
+        by_tests s true h here high past later = absurd (false≢true past)
+        by_tests s false true here high past later = inl (grind (arith, nat_tests))
+        by_tests s false false here high past later =
+            let ne : i ≢ ino = λ is. false≢true (sym here
             ∙ (let same : (i == ino) ≡ true = grind (arith, nat_tests) in same)) in
-        let x = to i s.0 s.4 in
-        let stands = x.2.stays ne s.1 s.2 s.3 s.5 in
-        inr (x.0, stands.0, stands.1, s.3, x.1, stands.2, later
-            (subst (λ up. climbs_past rs ino k up ≡ true) (above_is i s.0 s.1 s.2 s.3 s.4 s.5)
-            past))
+            let x = to i s.0 s.4 in
+            let stands = x.2.stays ne s.1 s.2 s.3 s.5 in
+            inr (
+              x.0,
+              stands.0,
+              stands.1,
+              s.3,
+              x.1,
+              stands.2,
+              later
+                  (subst (λ up. climbs_past rs ino k up ≡ true) (above_is i s.0 s.1 s.2 s.3 s.4 s.5)
+                  past),
+            )
 
   is_made : (b : Body) → is_directory b ≡ true → (es : List DirEntry) × (n : ℕ) × (up : ℕ)
       × (b ≡ Directory es n up)
@@ -413,8 +459,8 @@ module _ (t : Tree) (g : IsGoodTree t) (olddir : ℕ) (oldname : List ℕ) (newd
       (λ s. ⊎_elim
       (λ eq.
       let moves : is_directory_at (body_at rs ino) ≡ true =
-          ap (λ o. is_directory_at (option_map (λ (r : Record). r.body) o))
-          (sym (ap (get rs) eq) ∙ s.4) ∙ ap is_directory s.5 in
+      ap (λ o. is_directory_at (option_map (λ (r : Record). r.body) o))
+      (sym (ap (get rs) eq) ∙ s.4) ∙ ap is_directory s.5 in
       let high = up moves in
       let x = to i s.0 s.4 in
       let b = is_made (x.0).body (x.2.directory ∙ ap is_directory s.5) in
@@ -434,7 +480,7 @@ module _ (t : Tree) (g : IsGoodTree t) (olddir : ℕ) (oldname : List ℕ) (newd
     by_kind true is = ∥∥₁_elim (g.climbs newdir w.n w.there w.directory w.live) (hlevel props)
         (λ up.
         ∥∥₁_map c (λ c. climbs_over c.0 q c.1
-            (λ moves. (up.0, climbs_away w.steps up.0 newdir up.1 (w.past moves)))))
+        (λ moves. (up.0, climbs_away w.steps up.0 newdir up.1 (w.past moves)))))
     by_kind false is = ∥∥₁_map c (λ c. climbs_over c.0 q c.1
         (λ moves. absurd (false≢true (sym is ∙ moves))))
 
@@ -449,22 +495,27 @@ module _ (t : Tree) (g : IsGoodTree t) (olddir : ℕ) (oldname : List ℕ) (newd
     records = made_records;
     entries = λ q x e at c. let was = from q x at in ⊎_elim
         (λ c. let had = g.entries q was.0 e was.1 c in (stored e.ino had.0, had.1))
-        (λ is. (subst (λ i. IsSome (get made i)) (sym is)
-            (stored ino (named_is_stored t g ino named)), λ high. not_top (sym is ∙ high)))
+        (λ is. (
+          subst (λ i. IsSome (get made i)) (sym is)
+              (stored ino (named_is_stored t g ino named)),
+          λ high. not_top (sym is ∙ high),
+        ))
         (was.2.entries e c);
     links = λ q x at. let was = from q x at in
         was.2.links ∙ g.links q was.0 was.1 ∙ ap (λ n. links_of (was.0).body n (is_linked rs q))
-            (sym (counts q)) ∙ ap (links_of (was.0).body (name_count made q)) (sym (same_linked q))
+        (sym (counts q)) ∙ ap (links_of (was.0).body (name_count made q)) (sym (same_linked q))
         ∙ sym (was.2.shows (name_count made q) (is_linked made q));
     once = λ q x at is. let was = from q x at in let le =
         g.once q was.0 was.1 (sym was.2.directory ∙ is) in let same = counts q in omega arith;
     above = λ q x es n up at is live ne. ⊎_elim
         (λ eq.
         let low = moved_above x (sym (ap (get made) eq) ∙ at) es n up is in
-        subst (λ up. IsSome (get made up) × IfSome (get made up) (λ d. 1 ≤ names_in q d)) (sym low)
-        (stored newdir (subst IsSome (sym w.there) refl), subst
-            (λ q. IfSome (get made newdir) (λ d. 1 ≤ names_in q d)) (sym eq)
-            (if_there (λ d. 1 ≤ names_in ino d) newdir lists_it)))
+        subst (λ up. IsSome (get made up) × IfSome (get made up) (λ d. 1 ≤ names_in q d)) (sym low) (
+          stored newdir (subst IsSome (sym w.there) refl),
+          subst
+              (λ q. IfSome (get made newdir) (λ d. 1 ≤ names_in q d)) (sym eq)
+              (if_there (λ d. 1 ≤ names_in ino d) newdir lists_it),
+        ))
         (λ nq.
         let was = from q x at in
         let b = was.2.place nq es n up is in
@@ -482,8 +533,8 @@ module _ (t : Tree) (g : IsGoodTree t) (olddir : ℕ) (oldname : List ℕ) (newd
         let none = sym (same_linked q) ∙ loose in
         was.2.lists
         (λ is. some_listed (ap listed (ap (λ (r : Record). r.body)
-            (same_some d was.0 (sym w.old.at ∙ sym (ap (get rs) is) ∙ was.1)))
-            ∙ g.emptied q was.0 was.1 none))
+        (same_some d was.0 (sym w.old.at ∙ sym (ap (get rs) is) ∙ was.1)))
+        ∙ g.emptied q was.0 was.1 none))
         (λ is. false≢true (sym none ∙ ap (is_linked rs) is ∙ w.live))
         ∙ g.emptied q was.0 was.1 none;
   } where

@@ -30,14 +30,14 @@ found_counts p (f ∷ es) e at =
 -- without regard to case or with it, what is found is counted
 found_among_counts : (casefold : Bool) (name : List ℕ) (es : List DirEntry) (e : DirEntry)
     → found_among casefold name es ≡ Some e → 0 < count_names e.ino es
-found_among_counts casefold name es e at = by_exact (is_some (entry_named name es)) casefold refl at
-    where
-  by_exact : (b c : Bool) → is_some (entry_named name es) ≡ b
-      → cond b (entry_named name es) (cond c (entry_folded name es) None) ≡ Some e
-      → 0 < count_names e.ino es
-  by_exact true c is at = found_counts (λ e. bytes_eq e.name name) es e at
-  by_exact false true is at = found_counts (λ e. same_folded e.name name) es e at
-  by_exact false false is at = absurd (cc)
+found_among_counts casefold name es e at = by_exact (is_some (entry_named name es)) casefold
+    refl at where
+      by_exact : (b c : Bool) → is_some (entry_named name es) ≡ b
+          → cond b (entry_named name es) (cond c (entry_folded name es) None) ≡ Some e
+          → 0 < count_names e.ino es
+      by_exact true c is at = found_counts (λ e. bytes_eq e.name name) es e at
+      by_exact false true is at = found_counts (λ e. same_folded e.name name) es e at
+      by_exact false false is at = absurd (cc)
 
 -- by exact name
 pub found_among-exact : (name : List ℕ) (es : List DirEntry)
@@ -59,16 +59,16 @@ in_body rs dir r (File bytes) casefold name ino at is e = absurd (cc)
 in_body rs dir r (Link target) casefold name ino at is e = absurd (cc)
 in_body rs dir r (Directory es n a) casefold name ino at is e =
     by_entry (found_among casefold name es) refl e where
-  by_entry : (o : Option DirEntry) → found_among casefold name es ≡ o → ino_or_missing o ≡ Ok ino
-      → 0 < name_count rs ino
-  by_entry None is e = absurd (cc)
-  by_entry (Some f) found e =
-      let same : f.ino ≡ ino = cc in
-      let here : names_in ino r ≡ count_names ino es = ap (λ b. count_names ino (listed b)) is in
-      let many = subst (λ k. 0 < count_names k es) same
+      by_entry : (o : Option DirEntry) → found_among casefold name es ≡ o → ino_or_missing o ≡ Ok ino
+          → 0 < name_count rs ino
+      by_entry None is e = absurd (cc)
+      by_entry (Some f) found e =
+          let same : f.ino ≡ ino = cc in
+          let here : names_in ino r ≡ count_names ino es = ap (λ b. count_names ino (listed b)) is in
+          let many = subst (λ k. 0 < count_names k es) same
           (found_among_counts casefold name es f found) in
-      let le = names_in-le rs dir ino r at in
-      omega arith
+          let le = names_in-le rs dir ino r at in
+          omega arith
 
 pub found_is_named : (casefold : Bool) (t : Tree) (dir : ℕ) (name : List ℕ) (ino : ℕ)
     → find casefold t dir name ≡ Ok ino → 0 < name_count t.records ino
@@ -84,13 +84,13 @@ pub entry_that_names : (i : ℕ) (es : List DirEntry) → 0 < count_names i es �
 entry_that_names i [] many = absurd (omega arith)
 entry_that_names i (e ∷ es) many = by_first (λ more. entry_that_names i es more) (e.ino == i) refl
     many where
-  by_first : (0 < count_names i es → (f : DirEntry) × Contains es f × (f.ino ≡ i)) → (b : Bool)
-      → (e.ino == i) ≡ b → 0 < cond {A = ℕ} b 1 0 + count_names i es → (f : DirEntry)
-      × Contains (e ∷ es) f × (f.ino ≡ i)
-  by_first later true is more = (e, (0, omega arith, refl), grind (arith, nat_tests))
-  by_first later false is more =
-      let rest = later (omega arith) in
-      (rest.0, Contains-append_right (e ∷ []) es rest.0 rest.1, rest.2)
+      by_first : (0 < count_names i es → (f : DirEntry) × Contains es f × (f.ino ≡ i)) → (b : Bool)
+          → (e.ino == i) ≡ b → 0 < cond {A = ℕ} b 1 0 + count_names i es → (f : DirEntry)
+          × Contains (e ∷ es) f × (f.ino ≡ i)
+      by_first later true is more = (e, (0, omega arith, refl), grind (arith, nat_tests))
+      by_first later false is more =
+          let rest = later (omega arith) in
+          (rest.0, Contains-append_right (e ∷ []) es rest.0 rest.1, rest.2)
 
 -- an entry is counted where it stands
 pub contained_counts : (es : List DirEntry) (e : DirEntry) (k : ℕ) → k < length es
@@ -119,7 +119,7 @@ names_somewhere rs i many =
           ap (weight (names_in i)) at in omega arith)
       by_record q (Some r) at some =
           let here = entry_that_names i (listed r.body)
-              (subst (λ n. 0 < n) (ap (weight (names_in i)) at) some) in
+          (subst (λ n. 0 < n) (ap (weight (names_in i)) at) some) in
           (q, r, here.0, at, here.1, here.2)
 
 -- in a good tree what is named is stored, and the top is not named

@@ -37,14 +37,21 @@ module _ (t : Tree) (g : IsGoodTree t) (dir : ℕ) (name : List ℕ)
 
   joined_good : name_fault name ≡ None → IsGoodRecord (joined_by name t.next w.d)
   joined_good fine = let d = g.records dir w.d w.at in
-      record { body = good_joined w.d.body name t.next w.directory d.body fine w.new; mode =
-          d.mode; links = d.links; atime = d.atime; mtime = d.mtime; ctime = d.ctime }
+      record {
+        body = good_joined w.d.body name t.next w.directory d.body fine w.new;
+        mode =
+            d.mode;
+        links = d.links;
+        atime = d.atime;
+        mtime = d.mtime;
+        ctime = d.ctime;
+      }
 
   pub with_record_good : name_fault name ≡ None → IsGoodTree (with_record t dir name r)
   with_record_good fine = subst (λ (rs : Records). IsGoodTree
       (record t { records = rs; next = t.next + 1 })) (sym records_are)
       (added_good t g dir name w.d (joined_by name t.next w.d) r is_added (joined_good fine)
-          new.good)
+      new.good)
 
   -- the holds that were there, and any of the new record
   module _ (held held' : ℕ → Bool) (other : (q : ℕ) → q ≢ t.next → held' q ≡ held q) where
@@ -75,9 +82,20 @@ module _ (t : Tree) (g : IsGoodTree t) (dir : ℕ) (name : List ℕ)
 pub new_directory : (born : Stamp) (mode uid gid dir : ℕ) → IsGoodStamp born → mode < 4096
     → IsNew dir (directory_record born mode uid gid dir)
 new_directory born mode uid gid dir stamp low = record {
-  good = record { body = (omega arith, λ k d low. absurd (omega arith), λ i j d less low. absurd
-      (omega arith)); mode = low; links = omega arith; atime = stamp; mtime = stamp; ctime =
-      stamp };
+  good = record {
+    body = (
+      omega arith,
+      λ k d low. absurd (omega arith),
+      λ i j d less low. absurd
+          (omega arith),
+    );
+    mode = low;
+    links = omega arith;
+    atime = stamp;
+    mtime = stamp;
+    ctime =
+        stamp;
+  };
   lists = refl;
   shows = refl;
   under = λ es next up is. let same : dir ≡ up = cc in sym same;
@@ -86,8 +104,15 @@ new_directory born mode uid gid dir stamp low = record {
 pub new_link : (born : Stamp) (uid gid dir : ℕ) (target : List ℕ) → IsGoodStamp born
     → IsGoodTarget target → IsNew dir (link_record born uid gid target)
 new_link born uid gid dir target stamp good = record {
-  good = record { body = good; mode = omega arith; links = omega arith; atime = stamp; mtime =
-      stamp; ctime = stamp };
+  good = record {
+    body = good;
+    mode = omega arith;
+    links = omega arith;
+    atime = stamp;
+    mtime =
+        stamp;
+    ctime = stamp;
+  };
   lists = refl;
   shows = refl;
   under = λ es next up is. absurd (cc);
@@ -98,7 +123,7 @@ new_link born uid gid dir target stamp good = record {
 pub placed_good : (t : Tree) → IsGoodTree t → (dir : ℕ) (name : List ℕ) (r : Record) → IsNew dir r
     → name_fault name ≡ None → (o : Option ℕ) → create_refused t dir name ≡ o
     → (ino : ℕ) (u : Tree) → unless_refused o t.next (with_record t dir name r) ≡ Ok (ino, u)
-        → IsGoodTree u
+    → IsGoodTree u
 placed_good t g dir name r new fine (Some e) is ino u made = absurd (cc)
 placed_good t g dir name r new fine None is ino u made =
     let both : ◌≡◌ {A = ℕ × Tree} (t.next, with_record t dir name r) (ino, u) = cc in

@@ -28,7 +28,7 @@ module _ {X : Type 0} where
         let rest = later is in (
           ⊎_elim
               (λ eq. absurd (let none : find nat_cmp e.0 es ≡ None = ap (λ k. find nat_cmp k es) eq
-                  ∙ none_later f es h in let some = rest.0 in cc))
+              ∙ none_later f es h in let some = rest.0 in cc))
               (λ ne. find_later f es e.0 ne ∙ rest.0)
               (cases_eq e.0 f.0),
           rest.1,
@@ -52,9 +52,13 @@ record_after-stored t i a = by_next (next_after i t.records) refl where
   by_next (Some e) found is =
       let same : attr_of e.0 e.1 ≡ a = cc in
       let number : e.0 ≡ a.ino = ap (λ (a : Attr). a.ino) same in
-      let at = next_after-get i t.records e found in
-      (e.1, ap (get t.records) (sym number) ∙ at.0, ap (λ n. attr_of n e.1) (sym number)
-          ∙ same, subst (λ n. i < n) number at.1)
+      let at = next_after-get i t.records e found in (
+        e.1,
+        ap (get t.records) (sym number) ∙ at.0,
+        ap (λ n. attr_of n e.1) (sym number)
+            ∙ same,
+        subst (λ n. i < n) number at.1,
+      )
 
 pub record_after-stat : (t : Tree) (i : ℕ) (a : Attr) → record_after_of t i ≡ Some a
     → (stat_of t a.ino ≡ Ok a) × (i < a.ino)

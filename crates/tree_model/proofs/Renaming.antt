@@ -38,16 +38,16 @@ without-other : (name other : List ℕ) (es : List DirEntry) → name ≢ other
 without-other name other [] ne = refl
 without-other name other (e ∷ es) ne = by_tests (bytes_eq e.name name) (bytes_eq e.name other) refl
     refl (without-other name other es ne) where
-  by_tests : (b c : Bool) → bytes_eq e.name name ≡ b → bytes_eq e.name other ≡ c
-      → entry_named other (without name es) ≡ entry_named other es
-      → entry_named other (cond b es (e ∷ without name es)) ≡ cond c (Some e) (entry_named other es)
-  by_tests true true here there later = absurd
-      (ne (sym ((bytes_eq-Decides e.name name).0 here) ∙ (bytes_eq-Decides e.name other).0 there))
-  by_tests true false here there later = refl
-  by_tests false true here there later = ap (λ c. cond c (Some e)
-      (entry_named other (without name es))) there
-  by_tests false false here there later = ap (λ c. cond c (Some e)
-      (entry_named other (without name es))) there ∙ later
+      by_tests : (b c : Bool) → bytes_eq e.name name ≡ b → bytes_eq e.name other ≡ c
+          → entry_named other (without name es) ≡ entry_named other es
+          → entry_named other (cond b es (e ∷ without name es)) ≡ cond c (Some e) (entry_named other es)
+      by_tests true true here there later = absurd
+          (ne (sym ((bytes_eq-Decides e.name name).0 here) ∙ (bytes_eq-Decides e.name other).0 there))
+      by_tests true false here there later = refl
+      by_tests false true here there later = ap (λ c. cond c (Some e)
+          (entry_named other (without name es))) there
+      by_tests false false here there later = ap (λ c. cond c (Some e)
+          (entry_named other (without name es))) there ∙ later
 
 no_entry : DirEntry
 no_entry = record { cookie = 0; name = []; ino = 0 }
@@ -57,23 +57,23 @@ none_by : (name : List ℕ) (es : List DirEntry)
 none_by name [] all = refl
 none_by name (e ∷ es) all = by_test (bytes_eq e.name name) refl
     (none_by name es (λ k low. all (suc k) (omega arith))) where
-  by_test : (b : Bool) → bytes_eq e.name name ≡ b → entry_named name es ≡ None
-      → cond b (Some e) (entry_named name es) ≡ None
-  by_test true is later = absurd (all 0 (omega arith) ((bytes_eq-Decides e.name name).0 is))
-  by_test false is later = later
+      by_test : (b : Bool) → bytes_eq e.name name ≡ b → entry_named name es ≡ None
+          → cond b (Some e) (entry_named name es) ≡ None
+      by_test true is later = absurd (all 0 (omega arith) ((bytes_eq-Decides e.name name).0 is))
+      by_test false is later = later
 
 -- where names differ, a name that goes is gone
 without-itself : (name : List ℕ) (es : List DirEntry)
     → AllPairs (λ (e f : DirEntry). e.name ≢ f.name) es → entry_named name (without name es) ≡ None
 without-itself name [] pairs = refl
 without-itself name (e ∷ es) pairs = by_test (bytes_eq e.name name) refl
-    (without-itself name es (λ i j d less low. pairs (suc i) (suc j) d (omega arith) (omega arith)))
-    where
-  by_test : (b : Bool) → bytes_eq e.name name ≡ b → entry_named name (without name es) ≡ None
-      → entry_named name (cond b es (e ∷ without name es)) ≡ None
-  by_test true is later = none_by name es (λ k low same. pairs 0 (suc k) no_entry (omega arith)
-      (omega arith) ((bytes_eq-Decides e.name name).0 is ∙ sym same))
-  by_test false is later = ap (λ c. cond c (Some e) (entry_named name (without name es))) is ∙ later
+    (without-itself name es
+    (λ i j d less low. pairs (suc i) (suc j) d (omega arith) (omega arith))) where
+      by_test : (b : Bool) → bytes_eq e.name name ≡ b → entry_named name (without name es) ≡ None
+          → entry_named name (cond b es (e ∷ without name es)) ≡ None
+      by_test true is later = none_by name es (λ k low same. pairs 0 (suc k) no_entry (omega arith)
+          (omega arith) ((bytes_eq-Decides e.name name).0 is ∙ sym same))
+      by_test false is later = ap (λ c. cond c (Some e) (entry_named name (without name es))) is ∙ later
 
 pairs_of : (b : Body) → IsGoodBody b → AllPairs (λ (e f : DirEntry). e.name ≢ f.name) (listed b)
 pairs_of (File bytes) good = λ i j d less low. absurd (omega arith)
@@ -89,8 +89,8 @@ change_told : {X : Type 0} (tell : Option Body → X) (f : Record → Record) (r
 change_told {X} tell f rs i q same = ⊎_elim
     (λ is.
     ap (λ q. tell (body_at (change f rs i) q)) is
-        ∙ ap (λ o. tell (option_map (λ (r : Record). r.body) o)) (change_at f rs i)
-        ∙ by_record (get rs i)
+    ∙ ap (λ o. tell (option_map (λ (r : Record). r.body) o)) (change_at f rs i)
+    ∙ by_record (get rs i)
     ∙ ap (λ q. tell (body_at rs q)) (sym is))
     (λ ne. ap (λ o. tell (option_map (λ (r : Record). r.body) o)) (change_keeps f rs i q ne))
     (cases_eq q i) where
@@ -104,8 +104,12 @@ pub change_body : (f : Record → Record) (rs : Records) (i q : ℕ)
     → ((r : Record) → (f r).body ≡ r.body) → (r : Record) → IsAt rs q r → (x : Record)
     × IsAt (change f rs i) q x × (x.body ≡ r.body)
 change_body f rs i q same r at = ⊎_elim
-    (λ is. (f r, ap (get (change f rs i)) is ∙ change_at f rs i
-        ∙ ap (option_map f) (sym (ap (get rs) is) ∙ at), same r))
+    (λ is. (
+      f r,
+      ap (get (change f rs i)) is ∙ change_at f rs i
+          ∙ ap (option_map f) (sym (ap (get rs) is) ∙ at),
+      same r,
+    ))
     (λ ne. (r, change_keeps f rs i q ne ∙ at, refl))
     (cases_eq q i)
 
@@ -120,7 +124,7 @@ climbs_past-same : (rs rs' : Records) → ((q : ℕ) → above_at rs q ≡ above
 climbs_past-same rs rs' same ino zero i = refl
 climbs_past-same rs rs' same ino (suc k) i =
     ap (λ b. cond (i == ino) false (cond (i == TOP) true b))
-        (climbs_past-same rs rs' same ino k (above_at rs i) ∙ ap (climbs_past rs' ino k) (same i))
+    (climbs_past-same rs rs' same ino k (above_at rs i) ∙ ap (climbs_past rs' ino k) (same i))
 
 -- ---- what is known where nothing refuses
 
@@ -146,9 +150,9 @@ module _ (t : Tree) (g : IsGoodTree t) (olddir : ℕ) (oldname : List ℕ) (newd
     (newname : List ℕ) (fine : name_fault newname ≡ None) (ino : ℕ)
     (is : lookup_of t olddir oldname ≡ Ok ino)
     (directory : is_directory_at (body_at t.records newdir) ≡ true)
-        (live : is_linked t.records newdir ≡ true)
-        (away : is_directory_at (body_at t.records ino) ≡ true
-        → climbs_past t.records ino t.next newdir ≡ true) where
+    (live : is_linked t.records newdir ≡ true)
+    (away : is_directory_at (body_at t.records ino) ≡ true
+    → climbs_past t.records ino t.next newdir ≡ true) where
   abbrev rs : Records
   rs = t.records
 
@@ -235,14 +239,14 @@ module _ (t : Tree) (g : IsGoodTree t) (olddir : ℕ) (oldname : List ℕ) (newd
     same_above : (q : ℕ) → above_at rs q ≡ above_at left.records q
     same_above q = sym (
         change_told (λ o. unwrap_or (option_map above o) 0) (parted_by newname t.moment) mid newdir
-            q (λ r. with_entries-up r.body _ _)
+        q (λ r. with_entries-up r.body _ _)
         ∙ change_told (λ o. unwrap_or (option_map above o) 0) (one_name_less t.moment) rs i q
-            (λ r. refl))
+        (λ r. refl))
 
     same_kind : is_directory_at (body_at left.records ino) ≡ is_directory_at (body_at rs ino)
     same_kind =
         change_told is_directory_at (parted_by newname t.moment) mid newdir ino
-            (λ r. with_entries-is_directory r.body _ _)
+        (λ r. with_entries-is_directory r.body _ _)
         ∙ change_told is_directory_at (one_name_less t.moment) rs i ino (λ r. refl)
 
     pub replacing_move : IsMove left olddir oldname newdir newname ino
@@ -295,16 +299,20 @@ pub free_of : (t : Tree) (olddir newdir ino : ℕ) (there : Option ℕ)
 free_of t olddir newdir ino there = by_test (is_at_or_below t ino newdir) refl where
   by_test : (b : Bool) → is_at_or_below t ino newdir ≡ b
       → cond b (Some EINVAL) (first_of (replace_refused t.records ino there)
-          (room_refused t.limits.entries (not (is_some there) && not (olddir == newdir))
-          (body_at t.records newdir))) ≡ None
+      (room_refused t.limits.entries (not (is_some there) && not (olddir == newdir))
+      (body_at t.records newdir))) ≡ None
       → IsFree t newdir ino there (not (is_some there) && not (olddir == newdir))
   by_test true below e = absurd (cc)
   by_test false below e =
       let both = both_none (replace_refused t.records ino there)
-          (room_refused t.limits.entries (not (is_some there) && not (olddir == newdir))
-          (body_at t.records newdir)) e in
-      record { away = away_from (is_directory_at (body_at t.records ino))
-          (climbs_past t.records ino t.next newdir) below; place = both.0; room = both.1 }
+      (room_refused t.limits.entries (not (is_some there) && not (olddir == newdir))
+      (body_at t.records newdir)) e in
+      record {
+        away = away_from (is_directory_at (body_at t.records ino))
+            (climbs_past t.records ino t.next newdir) below;
+        place = both.0;
+        room = both.1;
+      }
 
 -- ---- the tree
 
@@ -313,22 +321,27 @@ module _ (t : Tree) (g : IsGoodTree t) (olddir : ℕ) (oldname : List ℕ) (newd
     (newname : List ℕ) (fine : name_fault newname ≡ None) (ino : ℕ)
     (is : lookup_of t olddir oldname ≡ Ok ino)
     (directory : is_directory_at (body_at t.records newdir) ≡ true)
-        (live : is_linked t.records newdir ≡ true) where
+    (live : is_linked t.records newdir ≡ true) where
   pub move_is : (r : Result ℕ ℕ) → lookup_of t newdir newname ≡ r
       → same_ino ino (result_ok r) ≡ false → move_refused t olddir newdir ino (result_ok r) ≡ None
       → IsGoodTree (without_replaced t newdir newname (result_ok r))
-          × IsMove (without_replaced t newdir newname (result_ok r)) olddir oldname newdir newname
-          ino
-  move_is (Err e) found other free = (g, free_move t g olddir oldname newdir newname fine ino is
-      directory live (free_of t olddir newdir ino None free).away e found)
+      × IsMove (without_replaced t newdir newname (result_ok r)) olddir oldname newdir newname
+      ino
+  move_is (Err e) found other free = (
+    g,
+    free_move t g olddir oldname newdir newname fine ino is
+        directory live (free_of t olddir newdir ino None free).away e found,
+  )
   move_is (Ok i) found other free =
       let known = free_of t olddir newdir ino (Some i) free in
       let empty = empty_place (is_directory_at (body_at t.records ino))
-          (is_directory_at (body_at t.records i)) (is_empty_at (body_at t.records i)) known.place in
+      (is_directory_at (body_at t.records i)) (is_empty_at (body_at t.records i)) known.place in
       let ne : i ≢ ino = λ same. false≢true (sym other
-          ∙ (let is : (i == ino) ≡ true = grind (arith, nat_tests) in is)) in
-      (without_good t g newdir newname i found empty, replacing_move t g olddir oldname newdir
-          newname fine ino is directory live known.away i found empty ne)
+      ∙ (let is : (i == ino) ≡ true = grind (arith, nat_tests) in is)) in (
+        without_good t g newdir newname i found empty,
+        replacing_move t g olddir oldname newdir
+            newname fine ino is directory live known.away i found empty ne,
+      )
 
 same_or_moved : (held : ℕ → Bool) (b : Bool) (o : Option ℕ) (t v u : Tree)
     → cond {A = Result (Unit {0} × Tree) ℕ} b (Ok (tt, t)) (unless_refused o tt (keep held v)) ≡ Ok
@@ -349,32 +362,32 @@ pub renamed_good : (held : ℕ → Bool) (t : Tree) → IsGoodTree t
 renamed_good held t g olddir oldname newdir newname fine u =
     by_kinds (is_directory_at (body_at t.records olddir))
     (is_directory_at (body_at t.records newdir)) refl where
-  by_link : (ino : ℕ) → lookup_of t olddir oldname ≡ Ok ino
-      → is_directory_at (body_at t.records newdir) ≡ true → (b : Bool)
-      → is_linked t.records newdir ≡ b
-      → cond (not b) (Err ENOENT) (move_to held t olddir oldname newdir newname ino
+      by_link : (ino : ℕ) → lookup_of t olddir oldname ≡ Ok ino
+          → is_directory_at (body_at t.records newdir) ≡ true → (b : Bool)
+          → is_linked t.records newdir ≡ b
+          → cond (not b) (Err ENOENT) (move_to held t olddir oldname newdir newname ino
           (told_at t newdir newname)) ≡ Ok (tt, u) → IsGoodTree u
-  by_link ino is directory false live made = absurd (cc)
-  by_link ino is directory true live made =
-      same_or_moved held (same_ino ino (told_at t newdir newname))
+      by_link ino is directory false live made = absurd (cc)
+      by_link ino is directory true live made =
+          same_or_moved held (same_ino ino (told_at t newdir newname))
           (move_refused t olddir newdir ino (told_at t newdir newname)) t
           (with_moved (without_replaced t newdir newname (told_at t newdir newname)) olddir oldname
           newdir newname ino) u made g (λ other free.
-      let move = move_is t g olddir oldname newdir newname fine ino is directory live
+          let move = move_is t g olddir oldname newdir newname fine ino is directory live
           (lookup_of t newdir newname) refl other free in
-      moved_good (without_replaced t newdir newname (told_at t newdir newname)) move.0 olddir
+          moved_good (without_replaced t newdir newname (told_at t newdir newname)) move.0 olddir
           oldname newdir newname ino move.1)
 
-  by_old : is_directory_at (body_at t.records newdir) ≡ true → (r : Result ℕ ℕ)
-      → lookup_of t olddir oldname ≡ r → renamed_at held t olddir oldname newdir newname r ≡ Ok
-      (tt, u) → IsGoodTree u
-  by_old directory (Err e) is made = absurd (cc)
-  by_old directory (Ok ino) is made = by_link ino is directory (is_linked t.records newdir) refl
-      made
+      by_old : is_directory_at (body_at t.records newdir) ≡ true → (r : Result ℕ ℕ)
+          → lookup_of t olddir oldname ≡ r → renamed_at held t olddir oldname newdir newname r ≡ Ok
+          (tt, u) → IsGoodTree u
+      by_old directory (Err e) is made = absurd (cc)
+      by_old directory (Ok ino) is made = by_link ino is directory (is_linked t.records newdir) refl
+          made
 
-  by_kinds : (b c : Bool) → is_directory_at (body_at t.records newdir) ≡ c
-      → cond (not b || not c) (Err ENOTDIR) (renamed_at held t olddir oldname newdir newname
-      (lookup_of t olddir oldname)) ≡ Ok (tt, u) → IsGoodTree u
-  by_kinds false c is made = absurd (cc)
-  by_kinds true false is made = absurd (cc)
-  by_kinds true true is made = by_old is (lookup_of t olddir oldname) refl made
+      by_kinds : (b c : Bool) → is_directory_at (body_at t.records newdir) ≡ c
+          → cond (not b || not c) (Err ENOTDIR) (renamed_at held t olddir oldname newdir newname
+          (lookup_of t olddir oldname)) ≡ Ok (tt, u) → IsGoodTree u
+      by_kinds false c is made = absurd (cc)
+      by_kinds true false is made = absurd (cc)
+      by_kinds true true is made = by_old is (lookup_of t olddir oldname) refl made

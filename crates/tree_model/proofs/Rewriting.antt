@@ -59,15 +59,15 @@ length_resized len bytes =
     let all = length-append (take len bytes) (replicate (len - length bytes) 0) in
     let front = length-take len bytes in
     let zeros : length (replicate {A = ℕ} (len - length bytes) 0) ≡ len - length bytes =
-        length-replicate (len - length bytes) 0 in
+    length-replicate (len - length bytes) 0 in
     omega arith
 
 length_written : (offset limit : ℕ) (new old : List ℕ) → offset + length new ≤ limit
     → length old ≤ limit → length (written offset new old) ≤ limit
 length_written offset limit new old fits low =
     let all : length (written offset new old) ≡ length (resized offset old ++ new) + length
-        (drop (offset + length new) old) = length-append (resized offset old ++ new)
-        (drop (offset + length new) old) in
+    (drop (offset + length new) old) = length-append (resized offset old ++ new)
+    (drop (offset + length new) old) in
     let both = length-append (resized offset old) new in
     let front = length_resized offset old in
     let behind = length-drop (offset + length new) old in
@@ -81,8 +81,15 @@ module _ (t : Tree) (g : IsGoodTree t) (ino : ℕ) where
       → Amends t ino (refused_unless_file e) (rewritten_at t.moment h)
   rewritten_good h e grows r at free = let w = g.records ino r at in record {
     at = at;
-    good = record { body = good_bytes h e r.body free grows w.body; mode = w.mode; links =
-        w.links; atime = w.atime; mtime = g.moment; ctime = g.moment };
+    good = record {
+      body = good_bytes h e r.body free grows w.body;
+      mode = w.mode;
+      links =
+          w.links;
+      atime = w.atime;
+      mtime = g.moment;
+      ctime = g.moment;
+    };
     same_links = refl;
     lists = listed_same h r.body;
     shows = shows_same h r.body;
@@ -111,14 +118,14 @@ module _ (t : Tree) (g : IsGoodTree t) (ino : ℕ) where
       (overwritten_at t.moment offset (fitting t.limits.file offset new))
   overwritten_good offset new r at free = by_test (length (fitting t.limits.file offset new) == 0)
       refl where
-    by_test : (b : Bool) → (length (fitting t.limits.file offset new) == 0) ≡ b
-        → IsAltered t ino r (cond b r (rewritten_at t.moment
-        (written offset (fitting t.limits.file offset new)) r))
-    by_test true none = same_body t ino r r at refl refl (g.records ino r at)
-    by_test false some = rewritten_good (written offset (fitting t.limits.file offset new)) _
-        (λ e bytes low.
-        let cut = length-take (t.limits.file - offset) new in
-        let not_none : 1 ≤ length (fitting t.limits.file offset new) = grind (arith, nat_tests) in
-        let most = g.limits.0 in
-        length_written offset 1073741824 (fitting t.limits.file offset new) bytes (omega arith) low)
+        by_test : (b : Bool) → (length (fitting t.limits.file offset new) == 0) ≡ b
+            → IsAltered t ino r (cond b r (rewritten_at t.moment
+            (written offset (fitting t.limits.file offset new)) r))
+        by_test true none = same_body t ino r r at refl refl (g.records ino r at)
+        by_test false some = rewritten_good (written offset (fitting t.limits.file offset new)) _
+            (λ e bytes low.
+            let cut = length-take (t.limits.file - offset) new in
+            let not_none : 1 ≤ length (fitting t.limits.file offset new) = grind (arith, nat_tests) in
+            let most = g.limits.0 in
+            length_written offset 1073741824 (fitting t.limits.file offset new) bytes (omega arith) low)
             r at free

@@ -66,9 +66,9 @@ file_at = ap (λ rs. get rs 2) records_are ∙ insert_keeps
 pub nothing_else : (q : ℕ) → q ≢ 1 → q ≢ 2 → get sample.records q ≡ None
 nothing_else q n1 n2 =
     ap (λ rs. get rs q) records_are ∙ insert_keeps (insert alone.records 2 (file_record born world))
-        1 directory q n1
+    1 directory q n1
     ∙ insert_keeps alone.records 2 (file_record born world) q n2
-        ∙ insert_keeps empty 1 (top_record born 493 1 2) q n1 ∙ get-empty nat_cmp q
+    ∙ insert_keeps empty 1 (top_record born 493 1 2) q n1 ∙ get-empty nat_cmp q
 
 -- ---- what is told
 
@@ -91,8 +91,19 @@ in_file = ap (looked_up false hello) file_at
 names_of_path : path_names (codes "//a/b/") ≡ codes "a" ∷ codes "b" ∷ []
 names_of_path = refl
 
-pub told : stat_of sample 2 ≡ Ok (record { ino = 2; kind = kind.File; mode = 420; uid = 5; gid =
-    6; links = 1; size = 5; atime = born; mtime = born; ctime = born })
+pub told : stat_of sample 2 ≡ Ok (record {
+  ino = 2;
+  kind = kind.File;
+  mode = 420;
+  uid = 5;
+  gid =
+      6;
+  links = 1;
+  size = 5;
+  atime = born;
+  mtime = born;
+  ctime = born;
+})
 told = ap (attr_or_missing 2) file_at
 
 listed_first : peek_entry_of sample 1 0 ≡ Some (record { cookie = 1; name = hello; ino = 2 })
@@ -144,13 +155,13 @@ all_linked = ap (λ (rs : Records). let left : Tree = record sample { records = 
     (same_gets (retain_keys sample.records (is_linked sample.records)) sample.records (λ q.
     retained sample.records (is_linked sample.records) q ∙ ⊎_elim
     (λ one. ap (λ q. cond (is_linked sample.records q) (get sample.records q) None) one
-        ∙ sym (ap (get sample.records) one))
+    ∙ sym (ap (get sample.records) one))
     (λ n1. ⊎_elim
     (λ two. ap (λ q. cond (is_linked sample.records q) (get sample.records q) None) two
-        ∙ ap (λ b. cond b (get sample.records 2) None) file_is_linked
-        ∙ sym (ap (get sample.records) two))
+    ∙ ap (λ b. cond b (get sample.records 2) None) file_is_linked
+    ∙ sym (ap (get sample.records) two))
     (λ n2. ap (cond (is_linked sample.records q) (get sample.records q))
-        (sym (nothing_else q n1 n2)) ∙ same (is_linked sample.records q) (get sample.records q))
+    (sym (nothing_else q n1 n2)) ∙ same (is_linked sample.records q) (get sample.records q))
     (cases_eq q 2))
     (cases_eq q 1))) where
       same : (b : Bool) (o : Option Record) → cond b o o ≡ o
@@ -361,7 +372,7 @@ module _ (held : ℕ → Bool) where
   pub into_file : rename_of held sample 1 hello 2 hello ≡ Err ENOTDIR
   into_file =
       ap (λ a. moved 1 hello 2 hello a (is_directory_at (body_at sample.records 2))
-          (lookup_of sample 1 hello)) kind_of_top
+      (lookup_of sample 1 hello)) kind_of_top
       ∙ ap (λ b. moved 1 hello 2 hello true b (lookup_of sample 1 hello)) kind_of_file
 
   in_top : (oldname newname : List ℕ) → rename_of held sample 1 oldname 1 newname ≡ renamed_at held

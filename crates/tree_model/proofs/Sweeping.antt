@@ -68,7 +68,7 @@ module _ {rs : Records} {next : ℕ} {held : ℕ → Bool} (s : IsCounted rs nex
   no_links i r at =
       ap has_no_links at ∙ ap (λ n. n == 0) (s.links i r at)
       ∙ no_links_by r.body i (name_count rs i)
-          (λ e. s.top_is_directory r (subst (λ k. IsAt rs k r) e at))
+      (λ e. s.top_is_directory r (subst (λ k. IsAt rs k r) e at))
 
   at_one : (i : ℕ) (o : Option Record) → get rs i ≡ o
       → cond (is_linked rs i || held i) (get rs i) None ≡ get (swept held rs i) i
@@ -76,16 +76,16 @@ module _ {rs : Records} {next : ℕ} {held : ℕ → Bool} (s : IsCounted rs nex
       ∙ none_case (is_linked rs i || held i) (has_no_links (get rs i) && not (held i)) rs i at
   at_one i (Some r) at =
       ap (λ o. cond (is_linked rs i || held i) o None) at
-          ∙ some_case (is_linked rs i) (held i) rs i r at
+      ∙ some_case (is_linked rs i) (held i) rs i r at
       ∙ ap (λ b. get (cond (b && not (held i)) (remove rs i) rs) i) (sym (no_links i r at))
 
   pub kept_is_swept : (i : ℕ) → IsKeptBut rs held i
       → retain_keys rs (λ q. is_linked rs q || held q) ≡ swept held rs i
   kept_is_swept i kept = same_gets _ _ (λ q. retained rs (λ q. is_linked rs q || held q) q ∙ ⊎_elim
       (λ e. subst (λ k. cond (is_linked rs k || held k) (get rs k) None ≡ get (swept held rs i) k)
-          (sym e) (at_one i (get rs i) refl))
+      (sym e) (at_one i (get rs i) refl))
       (λ ne. stays (is_linked rs q || held q) (get rs q) (kept q ne)
-          ∙ sym (elsewhere (has_no_links (get rs i) && not (held i)) rs i q ne))
+      ∙ sym (elsewhere (has_no_links (get rs i) && not (held i)) rs i q ne))
       (cases_eq q i))
 
   -- a record that is neither linked nor held lists nothing, so the counts stay where it goes
@@ -132,21 +132,24 @@ module _ {rs : Records} {next : ℕ} {held : ℕ → Bool} (s : IsCounted rs nex
       (ap (λ o. has_no_links o && not (held i)) (sym at) ∙ e))
   by_test i kept (Some r) at true e =
       let both = free_of (is_linked rs i) (held i)
-          (ap (λ b. b && not (held i)) (sym (no_links i r at)) ∙ e) in (
+      (ap (λ b. b && not (held i)) (sym (no_links i r at)) ∙ e) in (
         counted_removed i r at both.0 both.1,
         λ q had. ⊎_elim (λ e. absurd (false≢true
             (subst IsSome (ap (get (remove rs i)) e ∙ removed rs i) had)))
             (λ ne. ap (λ b. b || held q) (same_linked i r at both.0 both.1 q)
-                ∙ kept q ne (subst IsSome (remove_keeps rs i q ne) had)) (cases_eq q i),
+            ∙ kept q ne (subst IsSome (remove_keeps rs i q ne) had)) (cases_eq q i),
       )
-  by_test i kept None at false e = (s, λ q had. kept q
-      (λ e. false≢true (subst IsSome (ap (get rs) e ∙ at) had)) had)
+  by_test i kept None at false e = (
+    s,
+    λ q had. kept q
+        (λ e. false≢true (subst IsSome (ap (get rs) e ∙ at) had)) had,
+  )
   by_test i kept (Some r) at false e = (
     s,
     λ q had. ⊎_elim
         (λ is. subst (λ k. (is_linked rs k || held k) ≡ true) (sym is)
-            (kept_of (is_linked rs i) (held i)
-            (ap (λ b. b && not (held i)) (sym (no_links i r at)) ∙ e)))
+        (kept_of (is_linked rs i) (held i)
+        (ap (λ b. b && not (held i)) (sym (no_links i r at)) ∙ e)))
         (λ ne. kept q ne had) (cases_eq q i),
   )
 

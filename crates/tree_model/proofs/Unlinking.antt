@@ -64,8 +64,8 @@ module _ (t : Tree) (g : IsGoodTree t) (dir ino : ℕ) (name : List ℕ) (e : Di
   apart is =
       let same : d ≡ x = same_some d x (sym w.at ∙ ap (get rs) is ∙ w.there) in
       let none : entry_named name (listed d.body) ≡ None =
-          ap (λ (r : Record). entry_named name (listed r.body)) same
-          ∙ ap (entry_named name) w.nothing in
+      ap (λ (r : Record). entry_named name (listed r.body)) same
+      ∙ ap (entry_named name) w.nothing in
       let some = w.goes in
       cc
 
@@ -138,10 +138,10 @@ module _ (t : Tree) (g : IsGoodTree t) (dir ino : ℕ) (name : List ℕ) (e : Di
       → IsAt made q r → P q r
   by_place P here there other q r is = ⊎_elim
       (λ eq. let same = same_some x' r (sym at_ino ∙ sym (ap (get made) eq) ∙ is) in subst
-          (λ q. P q r) (sym eq) (subst (P ino) same here))
+      (λ q. P q r) (sym eq) (subst (P ino) same here))
       (λ ne. ⊎_elim
       (λ eq. let same = same_some d' r (sym at_dir ∙ sym (ap (get made) eq) ∙ is) in subst
-          (λ q. P q r) (sym eq) (subst (P dir) same there))
+      (λ q. P q r) (sym eq) (subst (P dir) same there))
       (λ nd. other q r ne nd (sym (at_other q ne nd) ∙ is))
       (cases_eq q dir))
       (cases_eq q ino)
@@ -150,14 +150,14 @@ module _ (t : Tree) (g : IsGoodTree t) (dir ino : ℕ) (name : List ℕ) (e : Di
   stored q had = ⊎_elim
       (λ eq. subst IsSome (sym (ap (get made) eq ∙ at_ino)) refl)
       (λ ne. ⊎_elim (λ eq. subst IsSome (sym (ap (get made) eq ∙ at_dir)) refl)
-          (λ nd. subst IsSome (sym (at_other q ne nd)) had) (cases_eq q dir))
+      (λ nd. subst IsSome (sym (at_other q ne nd)) had) (cases_eq q dir))
       (cases_eq q ino)
 
   was_stored : (q : ℕ) → IsSome (get made q) → IsSome (get rs q)
   was_stored q had = ⊎_elim
       (λ eq. subst IsSome (sym (ap (get rs) eq ∙ w.there)) refl)
       (λ ne. ⊎_elim (λ eq. subst IsSome (sym (ap (get rs) eq ∙ w.at)) refl)
-          (λ nd. subst IsSome (at_other q ne nd) had) (cases_eq q dir))
+      (λ nd. subst IsSome (at_other q ne nd) had) (cases_eq q dir))
       (cases_eq q ino)
 
   same_above : (es : List DirEntry) (n up : ℕ) → d'.body ≡ Directory es n up → (gs : List DirEntry)
@@ -184,8 +184,16 @@ module _ (t : Tree) (g : IsGoodTree t) (dir ino : ℕ) (name : List ℕ) (e : Di
       (λ nd. ⊎_elim
       (λ eq.
       let same : x ≡ s.0 = same_some x s.0 (sym w.there ∙ sym (ap (get rs) eq) ∙ s.4) in
-      inr (x', s.1, s.2, s.3, ap (get made) eq ∙ at_ino, w.same_body
-          ∙ ap (λ (r : Record). r.body) same ∙ s.5, climbs_on n s.3 s.6))
+      inr (
+        x',
+        s.1,
+        s.2,
+        s.3,
+        ap (get made) eq ∙ at_ino,
+        w.same_body
+            ∙ ap (λ (r : Record). r.body) same ∙ s.5,
+        climbs_on n s.3 s.6,
+      ))
       (λ ne. inr (s.0, s.1, s.2, s.3, at_other i ne nd ∙ s.4, s.5, climbs_on n s.3 s.6))
       (cases_eq i ino))
       (cases_eq i dir))
@@ -196,7 +204,7 @@ module _ (t : Tree) (g : IsGoodTree t) (dir ino : ℕ) (name : List ℕ) (e : Di
   still_above q up other names = ⊎_elim
       (λ eq.
       let was : 1 ≤ names_in q d = subst (λ o. IfSome o (λ r. 1 ≤ names_in q r))
-          (ap (get rs) eq ∙ w.at) names in
+      (ap (get rs) eq ∙ w.at) names in
       let fewer = fewer_names q in
       let none = not_named q other in
       let now : 1 ≤ names_in q d' = omega arith in
@@ -204,9 +212,9 @@ module _ (t : Tree) (g : IsGoodTree t) (dir ino : ℕ) (name : List ℕ) (e : Di
       (λ nd. ⊎_elim
       (λ eq.
       let was : 1 ≤ names_in q x = subst (λ o. IfSome o (λ r. 1 ≤ names_in q r))
-          (ap (get rs) eq ∙ w.there) names in
+      (ap (get rs) eq ∙ w.there) names in
       let now : 1 ≤ names_in q x' = subst (λ b. 1 ≤ count_names q (listed b)) (sym w.same_body) was
-          in
+      in
       subst (λ o. IfSome o (λ r. 1 ≤ names_in q r)) (sym (ap (get made) eq ∙ at_ino)) now)
       (λ ne. subst (λ o. IfSome o (λ r. 1 ≤ names_in q r)) (sym (at_other up ne nd)) names)
       (cases_eq up ino))
@@ -230,30 +238,30 @@ module _ (t : Tree) (g : IsGoodTree t) (dir ino : ℕ) (name : List ℕ) (e : Di
       entries = λ q r y is c. by_place (λ q r. (y : DirEntry) → Contains (listed r.body) y
           → IsSome (get made y.ino) × (y.ino ≢ TOP))
           (λ y c. absurd (let none = subst (λ es. Contains es y) lists_nothing c in let low =
-              none.1 in omega arith))
+          none.1 in omega arith))
           (λ y c. let had = g.entries dir d y w.at
-              (without-Contains name (listed d.body) e y w.goes
-              (subst (λ es. Contains es y) lists_less c)) in (stored y.ino had.0, had.1))
+          (without-Contains name (listed d.body) e y w.goes
+          (subst (λ es. Contains es y) lists_less c)) in (stored y.ino had.0, had.1))
           (λ q r ne nd was y c. let had = g.entries q r y was c in (stored y.ino had.0, had.1))
           q r is y c;
       links = by_place (λ q r. r.links ≡ links_of r.body (name_count made q) (is_linked made q))
           (w.left ∙ ap (links_left x.body) (g.links ino x w.there)
           ∙ links_shown x.body (name_count rs ino) (name_count made ino) (is_linked rs ino)
-              (is_linked made ino) one_name_less (λ is. loose (ap is_directory w.same_body ∙ is))
+          (is_linked made ino) one_name_less (λ is. loose (ap is_directory w.same_body ∙ is))
           ∙ sym (ap (λ b. links_of b (name_count made ino) (is_linked made ino)) w.same_body))
           (w.same_links ∙ g.links dir d w.at ∙ ap (links_of d.body (name_count rs dir))
-              (sym (same_linked dir apart)) ∙ shows_links d.body _ _ (name_count rs dir)
-              (name_count made dir) (is_linked made dir) w.directory
-              ∙ ap (λ b. links_of b (name_count made dir) (is_linked made dir)) (sym w.parted))
+          (sym (same_linked dir apart)) ∙ shows_links d.body _ _ (name_count rs dir)
+          (name_count made dir) (is_linked made dir) w.directory
+          ∙ ap (λ b. links_of b (name_count made dir) (is_linked made dir)) (sym w.parted))
           (λ q r ne nd was. g.links q r was ∙ ap (λ n. links_of r.body n (is_linked rs q))
-              (sym (same_count q ne)) ∙ ap (links_of r.body (name_count made q))
-              (sym (same_linked q ne)));
+          (sym (same_count q ne)) ∙ ap (links_of r.body (name_count made q))
+          (sym (same_linked q ne)));
       once = by_place (λ q r. IsTrue (is_directory r.body) → name_count made q ≤ 1)
           (λ is. let none = unnamed is in omega arith)
           (λ is. let le = g.once dir d w.at w.directory in let same =
-              same_count dir apart in omega arith)
+          same_count dir apart in omega arith)
           (λ q r ne nd was is. let le = g.once q r was is in let same =
-              same_count q ne in omega arith);
+          same_count q ne in omega arith);
       above = λ q r es n up at is live ne. by_place
           (λ q r. (es : List DirEntry) (n up : ℕ) → r.body ≡ Directory es n up
           → IsTrue (is_linked made q) → q ≢ TOP → IsSome (get made up)
@@ -273,16 +281,16 @@ module _ (t : Tree) (g : IsGoodTree t) (dir ino : ℕ) (name : List ℕ) (e : Di
           (λ q r. q ≡ TOP → (es : List DirEntry) (n up : ℕ) → r.body ≡ Directory es n up → up ≡ TOP)
           (λ top es n up is. absurd (not_top top))
           (λ top es n up is. let old = same_above es n up is in g.top_above d old.0 old.1 up
-              (sym (ap (get rs) top) ∙ w.at) old.2)
+          (sym (ap (get rs) top) ∙ w.at) old.2)
           (λ q r nn nd at top es n up is. g.top_above r es n up (sym (ap (get rs) top) ∙ at) is)
           TOP r at refl es n up is;
       climbs = by_place (λ q r. IsTrue (is_directory r.body) → IsTrue (is_linked made q)
           → ∥ ((n : ℕ) × Climbs made n q) ∥₁)
           (λ is live. absurd (not_live is live))
           (λ is live. ∥∥₁_map (g.climbs dir d w.at w.directory w.live)
-              (λ c. (c.0, climbs_on c.0 dir c.1)))
+          (λ c. (c.0, climbs_on c.0 dir c.1)))
           (λ q r ne nd was is live. ∥∥₁_map (g.climbs q r was is (sym (same_linked q ne) ∙ live))
-              (λ c. (c.0, climbs_on c.0 q c.1)));
+          (λ c. (c.0, climbs_on c.0 q c.1)));
       emptied = by_place (λ q r. is_linked made q ≡ false → listed r.body ≡ [])
           (λ loose. lists_nothing)
           (λ loose. absurd (false≢true (sym loose ∙ same_linked dir apart ∙ w.live)))
@@ -291,10 +299,10 @@ module _ (t : Tree) (g : IsGoodTree t) (dir ino : ℕ) (name : List ℕ) (e : Di
       top_stays : IsTrue (is_directory_at (option_map (λ (r : Record). r.body) (get made TOP)))
       top_stays = ⊎_elim
           (λ eq. subst (λ o. is_directory_at (option_map (λ (r : Record). r.body) o) ≡ true)
-              (sym (ap (get made) eq ∙ at_dir))
-              (ap is_directory w.parted ∙ with_entries-is_directory d.body _ _ ∙ w.directory))
+          (sym (ap (get made) eq ∙ at_dir))
+          (ap is_directory w.parted ∙ with_entries-is_directory d.body _ _ ∙ w.directory))
           (λ nd. subst (λ o. is_directory_at (option_map (λ (r : Record). r.body) o) ≡ true)
-              (sym (at_other TOP (λ is. not_top (sym is)) nd)) g.top_is_directory)
+          (sym (at_other TOP (λ is. not_top (sym is)) nd)) g.top_is_directory)
           (cases_eq TOP dir)
 
   -- every other record is linked or held as before

@@ -5,8 +5,14 @@ use Rattle.frame_pump.proofs.Pumping.{Completes-last, StopsBy-spent, StopsBy-rea
 use Rattle.frame_pump.proofs.run.handle_frames.Goals as goal
 
 pub loop-handled-init : goal.loop-handled-init
-loop-handled-init g c = record { pumping = Pumping-none _ _ _ c.requires; kept = refl; input =
-    refl; lender = refl; output = refl }
+loop-handled-init g c = record {
+  pumping = Pumping-none _ _ _ c.requires;
+  kept = refl;
+  input =
+      refl;
+  lender = refl;
+  output = refl;
+}
 
 pub loop-handled-preserved : goal.loop-handled-preserved
 loop-handled-preserved g c =
@@ -23,7 +29,7 @@ loop-handled-preserved g c =
 pub returns-in-Ok-false-clause-loops : goal.returns-in-Ok-false-clause-loops
 returns-in-Ok-false-clause-loops g c =
     Completes-turn _ _ _ _ _ _ _ _ _ c.loop-handled.invariant.pumping _ (omega arith)
-        (rw c.in-Ok-false.field-0-test at c.in-Ok-false.ensures.turn)
+    (rw c.in-Ok-false.field-0-test at c.in-Ok-false.ensures.turn)
 
 pub returns-in-Err-clause-loops : goal.returns-in-Err-clause-loops
 returns-in-Err-clause-loops g c = StopsBy-turn _ _ _ _ _ _ _ _ _ c.loop-handled.invariant.pumping _
@@ -33,17 +39,17 @@ pub returns-then-n-eq0-clause-loops : goal.returns-then-n-eq0-clause-loops
 returns-then-n-eq0-clause-loops g c =
     let e = c.in-Ok.ensures in
     Completes-last _ _ _ _ _ _ _ _ c.loop-handled.invariant.pumping (omega arith) refl refl _
-        e.cause (sym e.bound.1 ∙ c.if-n-eq0.true) e.bytes
-        (e.end (omega (arith, c.read_full.auto.buf)))
+    e.cause (sym e.bound.1 ∙ c.if-n-eq0.true) e.bytes
+    (e.end (omega (arith, c.read_full.auto.buf)))
 
 pub returns-in-Ok-clause-loops : goal.returns-in-Ok-clause-loops
 returns-in-Ok-clause-loops g c =
     let e = c.in-Ok.ensures in
     StopsBy-spent _ _ _ _ _ _ _ _ c.loop-handled.invariant.pumping (omega arith) refl refl _ e.cause
-        (omega (arith, e.bound.0, e.bound.1, c.read_full.auto.buf)) e.bytes
+    (omega (arith, e.bound.0, e.bound.1, c.read_full.auto.buf)) e.bytes
 
 pub returns-clause-loops : goal.returns-clause-loops
 returns-clause-loops g c =
     let e = c.in-Err-read_full.ensures in
     StopsBy-read _ _ _ _ _ _ _ _ c.loop-handled.invariant.pumping (omega arith) refl refl e.err.0
-        e.cause e.err.1 (omega (arith, e.err.2, c.read_full.auto.buf))
+    e.cause e.err.1 (omega (arith, e.err.2, c.read_full.auto.buf))

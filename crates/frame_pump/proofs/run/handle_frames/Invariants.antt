@@ -7,11 +7,21 @@ abbrev pub invariant-loop-handled : goal.invariant-loop-handled
 invariant-loop-handled g l = record {
   pumping : Pumping (g.A.Answerer.session l.initial.answerer l.initial.below)
       (g.A.Answerer.session l.answerer l.below) (g.A.Answerer.stands l.answerer l.below)
-      (record { left = g.S.Source.left l.initial.input; sent =
-          g.K.Sink.sent l.initial.out; read_faults =
-          g.S.Source.faults l.initial.input; write_faults = g.K.Sink.faults l.initial.out })
-      (record { left = g.S.Source.left l.input; sent = g.K.Sink.sent l.out; read_faults =
-          g.S.Source.faults l.input; write_faults = g.K.Sink.faults l.out }) l.handled;
+      (record {
+        left = g.S.Source.left l.initial.input;
+        sent =
+            g.K.Sink.sent l.initial.out;
+        read_faults =
+            g.S.Source.faults l.initial.input;
+        write_faults = g.K.Sink.faults l.initial.out;
+      })
+      (record {
+        left = g.S.Source.left l.input;
+        sent = g.K.Sink.sent l.out;
+        read_faults =
+            g.S.Source.faults l.input;
+        write_faults = g.K.Sink.faults l.out;
+      }) l.handled;
   kept : g.A.Answerer.kept l.answerer l.below ≡ g.A.Answerer.kept l.initial.answerer
       l.initial.below;
   input : g.S.Source.kept l.input ≡ g.S.Source.kept l.initial.input;

@@ -11,9 +11,9 @@ returns-in-Ok-clause-pumps g c =
     let end : Moment = g.N.Nine.at c.run_frames-told.new.below in
     let e = c.in-Ok.ensures in
     Pumps-run _ after end _ c.in-Ok.gate c.run_frames-told.new.answerer _ _ _ _ _ e.attached e.kept
-        c.run_frames-told.ensures.runs c.run_frames-told.ensures.kept
+    c.run_frames-told.ensures.runs c.run_frames-told.ensures.kept
     c.clear_fids.ensures.state c.clear_fids.ensures.faults c.clear_fids.ensures.asked
-        c.clear_fids.ensures.kept.steady
+    c.clear_fids.ensures.kept.steady
 
 pub returns-in-Ok-clause-played : goal.returns-in-Ok-clause-played
 returns-in-Ok-clause-played g c = played_whole _ _ _ _ _ _ (returns-in-Ok-clause-pumps g c).outcome

@@ -8,4 +8,4 @@ use Rattle.libmount.proofs.overlay.push_dirs.Goals as goal
 pub returns-after-loop-dir : goal.returns-after-loop-dir
 returns-after-loop-dir c =
     rw (join_words escaped_dir (λ v. v.items) (58 ∷ []) c.args.dirs.now c.in-Some.first.now
-        c.in-Some.rest.now c.in-Some.ensures.cases) (grind (arith, common_steps))
+    c.in-Some.rest.now c.in-Some.ensures.cases) (grind (arith, common_steps))

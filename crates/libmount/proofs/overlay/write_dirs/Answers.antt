@@ -8,4 +8,4 @@ use Rattle.libmount.proofs.overlay.write_dirs.Goals as goal
 pub returns-after-loop-dir : goal.returns-after-loop-dir
 returns-after-loop-dir g c =
     rw (join_words quoted (λ v. v.items) (58 ∷ []) c.args.dirs.now c.in-Some.first.now
-        c.in-Some.rest.now c.in-Some.ensures.cases) (search (rules, common_steps))
+    c.in-Some.rest.now c.in-Some.ensures.cases) (search (rules, common_steps))

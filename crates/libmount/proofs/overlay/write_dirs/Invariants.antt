@@ -10,5 +10,5 @@ abbrev pub invariant-loop-dir : goal.invariant-loop-dir
 invariant-loop-dir g l =
     IsPlainFormatter l.initial.f →
     HasWritten g.W.Write.write_str_gives l.initial.f
-        (flat_map (λ (dir : Vec ℕ Global). codes ":" ++ quoted dir.items) (take l.dir-index l.rest))
-        l.f
+    (flat_map (λ (dir : Vec ℕ Global). codes ":" ++ quoted dir.items) (take l.dir-index l.rest))
+    l.f

@@ -8,7 +8,7 @@ pub returns-in-Ok-clause-value : goal.returns-in-Ok-clause-value
 returns-in-Ok-clause-value c =
     let t = c.in-Ok.ensures.takes.answer in
     let e = header_alone-text c.args.bytes.now c.take_text.new.text.items
-        c.take_text.new.source.rest.now (sym c.new-source.ensures ∙ t.1) t.2 in
+    c.take_text.new.source.rest.now (sym c.new-source.ensures ∙ t.1) t.2 in
     rw (e, ← c.deref.ensures.value) c.read_text.ensures.value
 
 pub returns-in-Err-NoEnd-clause-value : goal.returns-in-Err-NoEnd-clause-value

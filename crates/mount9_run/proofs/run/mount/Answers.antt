@@ -41,13 +41,13 @@ returns-in-Some-clause-ended g c = λ served. absurd
 pub returns-in-Some-clause-takes : goal.returns-in-Some-clause-takes
 returns-in-Some-clause-takes g c = λ told. always (g.S.Source.left c.args.input.now) (λ bytes.
     subst (λ (r : Option BridgeError). Took (mounted_taken (share_view c.args.words.now)
-        (tree c.args.header.host) bytes r) (g.S.Source.left c.args.input.now)
-        (g.S.Source.left c.args.input.now)) c.in-Some.ensures.why
-        (took_nothing (g.S.Source.left c.args.input.now)))
+    (tree c.args.header.host) bytes r) (g.S.Source.left c.args.input.now)
+    (g.S.Source.left c.args.input.now)) c.in-Some.ensures.why
+    (took_nothing (g.S.Source.left c.args.input.now)))
 
 pub returns-clause-takes : goal.returns-clause-takes
 returns-clause-takes g c = λ told.
     subst (λ (r : Option BridgeError). IfSome (g.S.Source.left c.args.input.now)
-        (λ bytes. Took (mounted_taken (share_view c.args.words.now) (tree c.args.header.host) bytes
-        r) (g.S.Source.left c.args.input.now) (g.S.Source.left c.serve.new.input)))
-        c.in_default.ensures.why (c.serve.ensures.takes told)
+    (λ bytes. Took (mounted_taken (share_view c.args.words.now) (tree c.args.header.host) bytes
+    r) (g.S.Source.left c.args.input.now) (g.S.Source.left c.serve.new.input)))
+    c.in_default.ensures.why (c.serve.ensures.takes told)

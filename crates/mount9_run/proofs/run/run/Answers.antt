@@ -5,18 +5,26 @@ use Rattle.mount9_run.proofs.TakenInput.{told_by_code}
 use Rattle.mount9_run.proofs.run.run.Goals as goal
 
 pub returns-clause-exits : goal.returns-clause-exits
-returns-clause-exits g c = record { status = c.answer.result; is = c.exit_code.ensures; ran =
-    c.answer.ensures.ran }
+returns-clause-exits g c = record {
+  status = c.answer.result;
+  is = c.exit_code.ensures;
+  ran =
+      c.answer.ensures.ran;
+}
 
 pub returns-clause-refused : goal.returns-clause-refused
-returns-clause-refused g c = λ none. record { status = c.answer.result; is =
-    c.exit_code.ensures; ran = c.answer.ensures.refused none }
+returns-clause-refused g c = λ none. record {
+  status = c.answer.result;
+  is =
+      c.exit_code.ensures;
+  ran = c.answer.ensures.refused none;
+}
 
 pub returns-clause-played : goal.returns-clause-played
 returns-clause-played g c = λ zero.
     let served = served_by_code c.answer.result (sym c.exit_code.ensures ∙ zero) in
     Ran-played c.args.words.now (g.S.Source.left c.args.input.now) _ _ _ _ _ _ c.answer.result
-        served (c.answer.ensures.headed served) c.answer.ensures.ran
+    served (c.answer.ensures.headed served) c.answer.ensures.ran
 
 pub returns-clause-valid : goal.returns-clause-valid
 returns-clause-valid g c = Ran-valid c.args.words.now (g.S.Source.left c.args.input.now) _ _ _ _ _ _

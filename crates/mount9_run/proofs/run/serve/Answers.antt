@@ -21,7 +21,7 @@ returns-clause-ran g c = Ran-unreported (share_view c.args.words.now) _ _ _
 pub returns-in-Ok-ending_of-clause-ended : goal.returns-in-Ok-ending_of-clause-ended
 returns-in-Ok-ending_of-clause-ended g c = λ served.
     c.share-told.ensures.ended (served_ending _ c.in-Ok-ending_of.ending
-        (sym c.in-Ok-ending_of.ensures.by) (served_text _ c.tell_report.ensures.told served))
+    (sym c.in-Ok-ending_of.ensures.by) (served_text _ c.tell_report.ensures.told served))
 
 pub returns-clause-ended : goal.returns-clause-ended
 returns-clause-ended g c = λ served. absurd (unserved _ c.in-Err.status (sym c.in-Err.ensures.by)

@@ -18,9 +18,9 @@ returns-clause-shares g c =
     let at = c.in-Ok.ensures.host in
     let last = c.into_host-host.result in
     subst (λ (x : TreeHost). Shares (share_view c.args.words.now) (tree x)
-        (g.S.Source.left c.args.input.now) (g.S.Source.faults c.args.input.now)
-        (g.S.Source.faults c.pump-told.new.input) c.pump-told.new.out.bytes.items (tree last)
-        c.pump-told.result) at
+    (g.S.Source.left c.args.input.now) (g.S.Source.faults c.args.input.now)
+    (g.S.Source.faults c.pump-told.new.input) c.pump-told.new.out.bytes.items (tree last)
+    c.pump-told.result) at
     (Shares-from (share_view c.args.words.now) _ _
     (ap (λ (s : ServerState). s.settings) c.in-Ok.ensures.state ∙ c.requires.settings)
     (ap (λ (s : ServerState). s.msize) c.in-Ok.ensures.state ∙ c.requires.msize)
@@ -37,9 +37,9 @@ returns-clause-takes g c = λ ok.
     let last = c.into_host-host.result in
     let e = ok_of _ ok in
     subst (λ (x : TreeHost). IfSome (g.S.Source.left c.args.input.now)
-        (λ bytes. Took (served_taken (share_view c.args.words.now)
-        (root_given (share_view c.args.words.now) (linked (tree x))) bytes)
-        (g.S.Source.left c.args.input.now) (g.S.Source.left c.pump-told.new.input))) at
+    (λ bytes. Took (served_taken (share_view c.args.words.now)
+    (root_given (share_view c.args.words.now) (linked (tree x))) bytes)
+    (g.S.Source.left c.args.input.now) (g.S.Source.left c.pump-told.new.input))) at
     (took_by (share_view c.args.words.now) _ _
     (ap (λ (s : ServerState). s.settings) c.in-Ok.ensures.state ∙ c.requires.settings)
     (ap (λ (s : ServerState). s.msize) c.in-Ok.ensures.state ∙ c.requires.msize)

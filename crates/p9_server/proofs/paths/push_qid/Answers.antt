@@ -11,5 +11,5 @@ pub returns-clause-spells : goal.returns-clause-spells
 returns-clause-spells c =
     let fits : QidSpells (qid_of c.args.qid) = search rules in
     subst (λ (qs : List Qid). AllByRecursion QidSpells qs)
-        (sym (pushed c.push.new.self.items c.args.qids.now.items c.args.qid c.in-Ok.ensures.items))
+    (sym (pushed c.push.new.self.items c.args.qids.now.items c.args.qid c.in-Ok.ensures.items))
     (all_more (map qid_of c.args.qids.now.items) (qid_of c.args.qid) c.requires.spells fits)

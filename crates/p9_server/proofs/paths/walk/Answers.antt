@@ -33,7 +33,7 @@ returns-in-Err g c =
           (g.H.Host.calls c.step_to.new.host).faults
           (g.H.Host.calls c.let_go-in-Err.new.host).faults
           c.in-Err.e l.invariant.steady l.invariant.faults (ap (λ (k : Calls). k.faults) d.calls)
-              e.cause;
+          e.cause;
       steady = ap (λ (k : Calls). k.steady) d.calls ∙ e.steady ∙ l.invariant.steady;
     }
 
@@ -57,7 +57,7 @@ loop-walked-preserved g c =
           (c.push_qid.ensures.items ∙ ap (λ (q : Qid). map qid_plain l.qids.items ++ (q ∷ []))
           c.qid_of.ensures)
           (d.kept (walked_kept w c.as_bytes.result.now here is c.in-Ok.attr t1 t2 h1 h2 e.answer
-              e.held d.released kept e.tree) ∙ e.tree ∙ w.tree);
+          e.held d.released kept e.tree) ∙ e.tree ∙ w.tree);
       spells = c.push_qid.ensures.spells;
       room = let more = c.push_qid.ensures.capacity in let had = l.invariant.room in omega arith;
       faults = ap (λ (k : Calls). k.faults) d.calls ∙ e.cause.counted ∙ l.invariant.faults;

@@ -5,5 +5,10 @@ use Rattle.std.proofs.lemmas.Str.{IsUtf8-from_ascii, is_utf8-from_IsUtf8}
 use Rattle.p9_server.proofs.tests.server_of_a_link.Goals as goal
 
 pub add-requires-clause-item : goal.add-requires-clause-item
-add-requires-clause-item c = (omega arith, omega arith, is_utf8-from_IsUtf8 (codes "a/gh")
-    (IsUtf8-from_ascii (codes "a/gh") (search rules)), refl)
+add-requires-clause-item c = (
+  omega arith,
+  omega arith,
+  is_utf8-from_IsUtf8 (codes "a/gh")
+      (IsUtf8-from_ascii (codes "a/gh") (search rules)),
+  refl,
+)

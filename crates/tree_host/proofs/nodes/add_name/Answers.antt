@@ -12,13 +12,13 @@ use Rattle.tree_host.proofs.nodes.add_name.Goals as goal
 pub link_more-requires : goal.link_more-requires
 link_more-requires c =
     let same = ap (λ (rs : Records). map.get rs c.args.ino) c.in_ok-push_into.ensures.ok
-        ∙ change_keeps (joined_by c.args.name.now c.args.ino) c.args.nodes.now c.args.dir c.args.ino
-        (λ is. c.requires.apart (sym is)) in
+    ∙ change_keeps (joined_by c.args.name.now c.args.ino) c.args.nodes.now c.args.dir c.args.ino
+    (λ is. c.requires.apart (sym is)) in
     subst (λ o. unwrap_or (option_map links o) 0 < 2 ^ 64 - 1) (sym same) c.requires.few
 
 pub returns-clause-ok : goal.returns-clause-ok
 returns-clause-ok c =
     c.link_more.ensures ∙ ap (λ (rs : Records). change one_link_more rs c.args.ino)
-        c.in_ok-push_into.ensures.ok
+    c.in_ok-push_into.ensures.ok
     ∙ changes_commute one_link_more (joined_by c.args.name.now c.args.ino) c.args.nodes.now
-        c.args.dir c.args.ino c.requires.apart
+    c.args.dir c.args.ino c.requires.apart

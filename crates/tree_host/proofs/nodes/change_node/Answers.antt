@@ -11,6 +11,6 @@ returns-in-Some-clause-made c =
     let i = c.args.ino in
     let w = c.change.new.self in
     made_at (change_refused c.args.wanted c.args.limit) (changed_by c.args.wanted c.args.moment) rs
-        _ i c.in-Some.node.now w c.change.result c.in-Some.ensures.value
+    _ i c.in-Some.node.now w c.change.result c.in-Some.ensures.value
     (subst (λ o. OnSome o (c.get_mut.follows.lender w ≡ map.insert rs i w)) c.in-Some.is
-        (c.get_mut.follows.holds w)) c.change.ensures.made
+    (c.get_mut.follows.holds w)) c.change.ensures.made

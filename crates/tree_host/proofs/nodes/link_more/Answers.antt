@@ -11,6 +11,6 @@ returns-in-Some c =
     let i = c.args.ino in
     let w = c.link_more.new.self in
     subst (λ o. OnSome o (c.get_mut.follows.lender w ≡ map.insert rs i w)) c.in-Some.is
-        (c.get_mut.follows.holds w)
+    (c.get_mut.follows.holds w)
     ∙ ap (λ r. map.insert rs i r) c.link_more.ensures
     ∙ ap (λ o. changed one_link_more o rs i) c.in-Some.ensures.value

@@ -13,7 +13,7 @@ returns-in-Some-clause-ok c =
     let w = c.join.new.self in
     on_ok c.join.result c.join.ensures.ok (λ is.
     subst (λ o. OnSome o (c.get_mut.follows.lender w ≡ map.insert rs i w)) c.in-Some.is
-        (c.get_mut.follows.holds w)
+    (c.get_mut.follows.holds w)
     ∙ ap (λ r. map.insert rs i r) is
     ∙ ap (λ o. changed (joined_by c.args.name.now c.args.ino) o rs i) c.in-Some.ensures.value)
 
@@ -24,6 +24,6 @@ returns-in-Some-clause-err c =
     let w = c.join.new.self in
     on_err c.join.result c.join.ensures.err (λ is.
     subst (λ o. OnSome o (c.get_mut.follows.lender w ≡ map.insert rs i w)) c.in-Some.is
-        (c.get_mut.follows.holds w)
+    (c.get_mut.follows.holds w)
     ∙ ap (λ r. map.insert rs i r) is
     ∙ rewritten rs i c.in-Some.node.now c.in-Some.ensures.value)

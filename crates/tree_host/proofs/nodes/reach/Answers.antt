@@ -12,12 +12,12 @@ use Rattle.tree_host.proofs.nodes.reach.Goals as goal
 pub loop-part-preserved : goal.loop-part-preserved
 loop-part-preserved c =
     c.walk_part-at.ensures _ c.loop-part.invariant
-        ∙ ap as_errno (sym (walk_parts-push (λ (p : Bor (List ℕ)). p.now) c.args.nodes.now (Ok TOP)
-        c.loop-part.yielded c.in-Some.part))
+    ∙ ap as_errno (sym (walk_parts-push (λ (p : Bor (List ℕ)). p.now) c.args.nodes.now (Ok TOP)
+    c.loop-part.yielded c.in-Some.part))
 
 pub returns : goal.returns
 returns c =
     let t = YieldsList-end (YieldsList-from_slice_split _ (λ b. b == 47) c.args.path.now (cc) (cc)
-        refl (λ x b q k. search (rules, tests))) c.loop-part.yielded _ c.loop-part.yielded_by _ _
-        c.in-None.is c.next.ensures.steps in
+    refl (λ x b q k. search (rules, tests))) c.loop-part.yielded _ c.loop-part.yielded_by _ _
+    c.in-None.is c.next.ensures.steps in
     c.loop-part.invariant ∙ ap (λ ps. as_errno (walk_parts c.args.nodes.now (Ok TOP) ps)) t.0

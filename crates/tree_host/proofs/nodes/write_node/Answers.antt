@@ -11,7 +11,7 @@ returns-in-Some c =
     let rs = a.nodes.now in
     let w = c.write.new.self in
     made_at (write_refused a.limit a.offset a.new.now)
-        (overwritten_at a.moment a.offset (fitting a.limit a.offset a.new.now)) rs _ a.ino
-        c.in-Some.node.now w c.write.result c.in-Some.ensures.value
+    (overwritten_at a.moment a.offset (fitting a.limit a.offset a.new.now)) rs _ a.ino
+    c.in-Some.node.now w c.write.result c.in-Some.ensures.value
     (subst (λ o. OnSome o (c.get_mut.follows.lender w ≡ map.insert rs a.ino w)) c.in-Some.is
-        (c.get_mut.follows.holds w)) c.write.ensures
+    (c.get_mut.follows.holds w)) c.write.ensures

@@ -7,6 +7,6 @@ use Rattle.tree_model.proofs.laws.trees_with_a_created_file_are_good.Goals as go
 pub returns : goal.returns
 returns c = λ t u dir name mode ino g fine made.
     made_good (create_refused t dir name) t.next ino
-        (with_new t dir name (empty_file t.moment mode)) u made
-        (λ free. with_new_good t g dir name (empty_file t.moment mode)
-        (new_file t.moment mode dir g.moment) free fine)
+    (with_new t dir name (empty_file t.moment mode)) u made
+    (λ free. with_new_good t g dir name (empty_file t.moment mode)
+    (new_file t.moment mode dir g.moment) free fine)

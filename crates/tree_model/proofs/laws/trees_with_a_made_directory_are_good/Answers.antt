@@ -8,6 +8,6 @@ use Rattle.tree_model.proofs.laws.trees_with_a_made_directory_are_good.Goals as 
 pub returns : goal.returns
 returns c = λ t u dir name mode a g fine made.
     made_good (create_refused t dir name) (attr_of t.next (empty_directory t.moment mode dir)) a
-        (with_new t dir name (empty_directory t.moment mode dir)) u made
+    (with_new t dir name (empty_directory t.moment mode dir)) u made
     (λ free. with_new_good t g dir name (empty_directory t.moment mode dir)
-        (new_empty_directory t.moment mode dir g.moment) free fine)
+    (new_empty_directory t.moment mode dir g.moment) free fine)

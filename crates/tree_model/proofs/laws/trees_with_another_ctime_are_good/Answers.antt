@@ -7,4 +7,4 @@ use Rattle.tree_model.proofs.laws.trees_with_another_ctime_are_good.Goals as goa
 pub returns : goal.returns
 returns c = λ t u ino g is.
     changing_good tt tt (restamped t.moment) ino t u (refused_at never (body_at t.records ino)) is
-        (changed_good t g (restamped t.moment) ino (restamped_good t g ino))
+    (changed_good t g (restamped t.moment) ino (restamped_good t g ino))

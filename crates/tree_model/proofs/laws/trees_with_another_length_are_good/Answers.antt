@@ -7,4 +7,4 @@ use Rattle.tree_model.proofs.laws.trees_with_another_length_are_good.Goals as go
 pub returns : goal.returns
 returns c = λ t u ino len g is.
     call_good t g ino (len_refused t.limits.file len) (rewritten_at t.moment (resized len))
-        (resized_good t g ino len) tt tt u is
+    (resized_good t g ino len) tt tt u is

@@ -8,6 +8,6 @@ use Rattle.tree_model.proofs.laws.trees_with_another_mode_are_good.Goals as goal
 pub returns : goal.returns
 returns c = λ t u ino mode g is.
     changing_good tt tt (λ (r : Record). record r { mode = mode % 4096; ctime = t.moment }) ino t u
-        (refused_at refused_for_link (body_at t.records ino)) is
+    (refused_at refused_for_link (body_at t.records ino)) is
     (changed_good t g (λ (r : Record). record r { mode = mode % 4096; ctime = t.moment }) ino
-        (mode_good t g ino (mode % 4096) (low_mode mode)))
+    (mode_good t g ino (mode % 4096) (low_mode mode)))

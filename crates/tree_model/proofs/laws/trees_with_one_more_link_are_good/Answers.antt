@@ -9,5 +9,5 @@ use Rattle.tree_model.proofs.laws.trees_with_one_more_link_are_good.Goals as goa
 pub returns : goal.returns
 returns c = λ t u dir ino name g fine made.
     made_good (link_refused (is_linked t.records dir) t.limits name (body_at t.records dir)
-        (get t.records ino)) tt tt (with_name t dir name ino) u made
-        (λ free. with_name_good t g dir ino name free fine)
+    (get t.records ino)) tt tt (with_name t dir name ino) u made
+    (λ free. with_name_good t g dir ino name free fine)

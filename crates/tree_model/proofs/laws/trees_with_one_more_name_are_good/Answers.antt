@@ -9,4 +9,4 @@ use Rattle.tree_model.proofs.laws.trees_with_one_more_name_are_good.Goals as goa
 pub returns : goal.returns
 returns c = λ t dir ino name n u g fine made.
     linked_unless_good t g dir ino name fine (link_refused (is_linked t.records dir) t.limits name
-        (body_at t.records dir) (get t.records ino)) refl n u made
+    (body_at t.records dir) (get t.records ino)) refl n u made

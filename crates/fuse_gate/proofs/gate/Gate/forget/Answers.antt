@@ -21,8 +21,8 @@ returns-in_default-clause-gone g c = unknown_left (g.N.Nine.at c.args.nine.now) 
 pub returns-then-node-number-clause-gone : goal.returns-then-node-number-clause-gone
 returns-then-node-number-clause-gone g c =
     less_left (g.N.Nine.at c.args.nine.now) c.requires (g.met.N.Nine.good c.args.nine.now) c.args.id
-        c.args.number c.in-Some.node (sym (c.in-Some.ensures ∙ c.get.ensures))
-        c.if-id-eq-FUSE_ROOT_ID.false _ c.count_down.ensures c.if-node-number.true
+    c.args.number c.in-Some.node (sym (c.in-Some.ensures ∙ c.get.ensures))
+    c.if-id-eq-FUSE_ROOT_ID.false _ c.count_down.ensures c.if-node-number.true
 
 pub overflow_cast-id : goal.overflow_cast-id
 overflow_cast-id g c = let low = node_below c.requires c.args.id c.in-Some.node
@@ -32,20 +32,20 @@ pub returns-in_err-clunk-clause-unfinished : goal.returns-in_err-clunk-clause-un
 returns-in_err-clunk-clause-unfinished g c =
     on_err c.from_residual.result _
     (node_part (g.N.Nine.at c.args.nine.now) c.requires (g.met.N.Nine.good c.args.nine.now)
-        c.args.id c.args.number c.in-Some.node (sym (c.in-Some.ensures ∙ c.get.ensures))
-        c.if-id-eq-FUSE_ROOT_ID.false c.if-node-number.false (g.N.Nine.at c.clunk.new.nine)
-        c.in_err-clunk.ensures.unfinished)
+    c.args.id c.args.number c.in-Some.node (sym (c.in-Some.ensures ∙ c.get.ensures))
+    c.if-id-eq-FUSE_ROOT_ID.false c.if-node-number.false (g.N.Nine.at c.clunk.new.nine)
+    c.in_err-clunk.ensures.unfinished)
 
 pub remove_node-requires : goal.remove_node-requires
 remove_node-requires g c =
     let some = used_some c.requires c.args.id c.in-Some.node
-        (sym (c.in-Some.ensures ∙ c.get.ensures)) in
+    (sym (c.in-Some.ensures ∙ c.get.ensures)) in
     subst (λ (x : Gate). 1 ≤ x.used) (sym c.count_message.ensures) some
 
 pub returns-clause-gone : goal.returns-clause-gone
 returns-clause-gone g c =
     node_left (g.N.Nine.at c.args.nine.now) c.requires (g.met.N.Nine.good c.args.nine.now) c.args.id
-        c.args.number c.in-Some.node (sym (c.in-Some.ensures ∙ c.get.ensures))
-        c.if-id-eq-FUSE_ROOT_ID.false c.if-node-number.false _ (g.N.Nine.at c.clunk.new.nine)
+    c.args.number c.in-Some.node (sym (c.in-Some.ensures ∙ c.get.ensures))
+    c.if-id-eq-FUSE_ROOT_ID.false c.if-node-number.false _ (g.N.Nine.at c.clunk.new.nine)
     (c.remove_node.ensures ∙ ap (λ (x : Gate). without_node x c.args.id c.in-Some.node.ino)
-        c.count_message.ensures) c.in_ok-clunk.ensures.gone.asked c.in_ok-clunk.ensures.gone.state
+    c.count_message.ensures) c.in_ok-clunk.ensures.gone.asked c.in_ok-clunk.ensures.gone.state

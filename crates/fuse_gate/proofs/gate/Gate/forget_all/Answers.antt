@@ -20,20 +20,20 @@ loop-rest-init g c = Batching-none c.args.self.now (g.N.Nine.at c.args.nine.now)
 pub loop-rest-preserved : goal.loop-rest-preserved
 loop-rest-preserved g c =
     subst (Batching c.args.self.now (g.N.Nine.at c.args.nine.now) c.forget.new.self
-        (g.N.Nine.at c.forget.new.nine) c.args.pairs.now) (sym c.split_at.ensures.back)
+    (g.N.Nine.at c.forget.new.nine) c.args.pairs.now) (sym c.split_at.ensures.back)
     (Batching-more (g.met.N.Nine.good c.args.nine.now).tree c.loop-rest.invariant
-        (c.read-one.result.nodeid, c.read-one.result.nlookup) c.loop-rest-test.true
-        (pair_is c.read-one.result _ _ c.read-one.ensures c.split_at.ensures.front)
+    (c.read-one.result.nodeid, c.read-one.result.nlookup) c.loop-rest-test.true
+    (pair_is c.read-one.result _ _ c.read-one.ensures c.split_at.ensures.front)
     c.forget.new.self (g.N.Nine.at c.forget.new.nine) c.in_ok-forget.ensures.gone
-        c.in_ok-forget.ensures.kept)
+    c.in_ok-forget.ensures.kept)
 
 pub returns-in_err-forget-clause-unfinished : goal.returns-in_err-forget-clause-unfinished
 returns-in_err-forget-clause-unfinished g c =
     on_err c.from_residual.result _
     (Batching-part (g.met.N.Nine.good c.args.nine.now).tree c.loop-rest.invariant
-        (c.read-one.result.nodeid, c.read-one.result.nlookup) c.loop-rest-test.true
-        (pair_is c.read-one.result _ _ c.read-one.ensures c.split_at.ensures.front) _
-        c.in_err-forget.ensures.unfinished)
+    (c.read-one.result.nodeid, c.read-one.result.nlookup) c.loop-rest-test.true
+    (pair_is c.read-one.result _ _ c.read-one.ensures c.split_at.ensures.front) _
+    c.in_err-forget.ensures.unfinished)
 
 pub returns-clause-gone : goal.returns-clause-gone
 returns-clause-gone g c = Batching-whole (g.met.N.Nine.good c.args.nine.now).tree

@@ -12,24 +12,24 @@ use Rattle.fuse_gate.proofs.gate.Gate.read.Goals as goal
 pub returns-in_default-clause-served : goal.returns-in_default-clause-served
 returns-in_default-clause-served g c =
     refused_before c.requires (g.met.N.Nine.good c.args.nine.now) 0
-        (read c.args.handle c.args.offset c.args.size 0 None) _
-        (read_unknown (g.N.Nine.at c.args.nine.now) c.requires c.args.handle c.args.offset
-        c.args.size (sym (c.in_default.ensures ∙ c.get.ensures)))
+    (read c.args.handle c.args.offset c.args.size 0 None) _
+    (read_unknown (g.N.Nine.at c.args.nine.now) c.requires c.args.handle c.args.offset
+    c.args.size (sym (c.in_default.ensures ∙ c.get.ensures)))
 
 pub returns-then-found-clause-served : goal.returns-then-found-clause-served
 returns-then-found-clause-served g c =
     refused_before c.requires (g.met.N.Nine.good c.args.nine.now) 0
-        (read c.args.handle c.args.offset c.args.size 0 None) _
-        (read_directory (g.N.Nine.at c.args.nine.now) c.requires c.args.handle c.args.offset
-        c.args.size c.in-Some.found (sym (c.in-Some.ensures ∙ c.get.ensures)) c.if-found.true)
+    (read c.args.handle c.args.offset c.args.size 0 None) _
+    (read_directory (g.N.Nine.at c.args.nine.now) c.requires c.args.handle c.args.offset
+    c.args.size c.in-Some.found (sym (c.in-Some.ensures ∙ c.get.ensures)) c.if-found.true)
 
 pub returns-then-found-eq-O_WRONLY-clause-served : goal.returns-then-found-eq-O_WRONLY-clause-served
 returns-then-found-eq-O_WRONLY-clause-served g c =
     refused_before c.requires (g.met.N.Nine.good c.args.nine.now) 0
-        (read c.args.handle c.args.offset c.args.size 0 None) _
-        (read_write_only (g.N.Nine.at c.args.nine.now) c.requires c.args.handle c.args.offset
-        c.args.size c.in-Some.found (sym (c.in-Some.ensures ∙ c.get.ensures)) c.if-found.false
-        c.if-found-eq-O_WRONLY.true)
+    (read c.args.handle c.args.offset c.args.size 0 None) _
+    (read_write_only (g.N.Nine.at c.args.nine.now) c.requires c.args.handle c.args.offset
+    c.args.size c.in-Some.found (sym (c.in-Some.ensures ∙ c.get.ensures)) c.if-found.false
+    c.if-found-eq-O_WRONLY.true)
 
 pub overflow_cast-handle : goal.overflow_cast-handle
 overflow_cast-handle g c = let low = handle_below c.requires c.args.handle c.in-Some.found
@@ -38,14 +38,14 @@ overflow_cast-handle g c = let low = handle_below c.requires c.args.handle c.in-
 pub read_pieces-requires-clause-opened : goal.read_pieces-requires-clause-opened
 read_pieces-requires-clause-opened g c =
     reads_file (g.N.Nine.at c.args.nine.now) c.requires c.args.handle c.args.offset c.args.size
-        c.in-Some.found (sym (c.in-Some.ensures ∙ c.get.ensures)) c.if-found.false
-        c.if-found-eq-O_WRONLY.false
+    c.in-Some.found (sym (c.in-Some.ensures ∙ c.get.ensures)) c.if-found.false
+    c.if-found-eq-O_WRONLY.false
 
 pub returns-clause-served : goal.returns-clause-served
 returns-clause-served g c =
     ok_map c.read_pieces.result _ _
     (λ r served. read_served (g.N.Nine.at c.args.nine.now) c.requires c.args.handle c.args.offset
-        c.args.size c.in-Some.found (sym (c.in-Some.ensures ∙ c.get.ensures)) c.if-found.false
-        c.if-found-eq-O_WRONLY.false (g.met.N.Nine.good c.args.nine.now) c.min.result c.min.ensures
-        _ _ served)
+    c.args.size c.in-Some.found (sym (c.in-Some.ensures ∙ c.get.ensures)) c.if-found.false
+    c.if-found-eq-O_WRONLY.false (g.met.N.Nine.good c.args.nine.now) c.min.result c.min.ensures
+    _ _ served)
     c.read_pieces.ensures.served

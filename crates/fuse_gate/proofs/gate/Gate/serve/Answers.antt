@@ -9,6 +9,6 @@ use Rattle.fuse_gate.proofs.gate.Gate.serve.Goals as goal
 pub returns-in-Read-clause-served : goal.returns-in-Read-clause-served
 returns-in-Read-clause-served g c =
     subst (λ (b : Body). IfOk c.read.result (λ reply. ServesRequest c.args.node (plain b)
-        (c.args.self.now, g.N.Nine.at c.args.nine.now)
-        (c.read.new.self, g.N.Nine.at c.read.new.nine) (reply_of reply))) (sym c.in-Read.is)
-        c.read.ensures.served
+    (c.args.self.now, g.N.Nine.at c.args.nine.now)
+    (c.read.new.self, g.N.Nine.at c.read.new.nine) (reply_of reply))) (sym c.in-Read.is)
+    c.read.ensures.served

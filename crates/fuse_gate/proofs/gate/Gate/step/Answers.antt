@@ -21,19 +21,19 @@ write_reply-requires-clause-short g c = served_short c.args.frame.now _ _ _
 pub returns-then-is_silent-clause-ok : goal.returns-then-is_silent-clause-ok
 returns-then-is_silent-clause-ok g c =
     answers_silent c.args.frame.now c.read-head.result
-        (c.args.self.now, g.N.Nine.at c.args.nine.now)
-        (c.serve_frame.new.self, g.N.Nine.at c.serve_frame.new.nine)
-        (reply_of c.in_ok-answer.answer) c.args.reply.now.items c.args.reply.now.items
-        c.args.reply.now.items
+    (c.args.self.now, g.N.Nine.at c.args.nine.now)
+    (c.serve_frame.new.self, g.N.Nine.at c.serve_frame.new.nine)
+    (reply_of c.in_ok-answer.answer) c.args.reply.now.items c.args.reply.now.items
+    c.args.reply.now.items
     c.read-head.ensures refl c.in_ok-answer.ensures.kept c.in_ok-answer.ensures.served
-        c.if-is_silent.ensures refl
+    c.if-is_silent.ensures refl
 
 pub returns-clause-ok : goal.returns-clause-ok
 returns-clause-ok g c =
     answers_spoken c.args.frame.now c.read-head.result
-        (c.args.self.now, g.N.Nine.at c.args.nine.now)
-        (c.serve_frame.new.self, g.N.Nine.at c.serve_frame.new.nine)
-        (reply_of c.in_ok-answer.answer) c.args.reply.now.items c.reserve.new.self.items
-        c.write_reply.new.out.items
+    (c.args.self.now, g.N.Nine.at c.args.nine.now)
+    (c.serve_frame.new.self, g.N.Nine.at c.serve_frame.new.nine)
+    (reply_of c.in_ok-answer.answer) c.args.reply.now.items c.reserve.new.self.items
+    c.write_reply.new.out.items
     c.read-head.ensures c.reserve.ensures.items c.in_ok-answer.ensures.kept
-        c.in_ok-answer.ensures.served c.if-is_silent.ensures c.write_reply.ensures
+    c.in_ok-answer.ensures.served c.if-is_silent.ensures c.write_reply.ensures

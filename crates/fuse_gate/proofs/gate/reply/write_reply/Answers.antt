@@ -26,8 +26,12 @@ reply_opened-requires c = room c.args.unique.0 _ _ c.args.reply.now c.requires.r
     (Opened c.in-Opened.handle) c.in-Opened.is
 
 pub reply_bytes-requires-clause-room : goal.reply_bytes-requires-clause-room
-reply_bytes-requires-clause-room c = omega (arith, ap length c.deref.ensures.value, room
-    c.args.unique.0 _ _ c.args.reply.now c.requires.room (Bytes c.in-Bytes.bytes) c.in-Bytes.is)
+reply_bytes-requires-clause-room c = omega (
+  arith,
+  ap length c.deref.ensures.value,
+  room
+      c.args.unique.0 _ _ c.args.reply.now c.requires.room (Bytes c.in-Bytes.bytes) c.in-Bytes.is,
+)
 
 pub reply_empty-requires : goal.reply_empty-requires
 reply_empty-requires c = room c.args.unique.0 _ _ c.args.reply.now c.requires.room Done c.in-Done.is

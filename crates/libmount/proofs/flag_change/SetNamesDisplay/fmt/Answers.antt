@@ -18,19 +18,23 @@ unfolding names_of
 loop-row-preserved g c = elim c.if-contains.branch [
   | then-contains+in_ok-write w ↦
       let more = passing_more (is_set (bits_of c.args.self.now.0)) named
-          c.flag_names-row-items.result.now c.loop-row.row-index _ c.loop-row-test.true
-          (sym c.contains.ensures ∙ w.if-contains.true) in
+      c.flag_names-row-items.result.now c.loop-row.row-index _ c.loop-row-test.true
+      (sym c.contains.ensures ∙ w.if-contains.true) in
       rw (w.f-is, w.separator-is) (
         λ plain. let before = c.loop-row.invariant.0 plain in
             put_two g.W.Write.write_str_gives _ _ _ _ _ _ before
-                (w.in_ok-write.ensures.writes before.plain refl)
+            (w.in_ok-write.ensures.writes before.plain refl)
             (join_written name_of (44 ∷ []) _ _ _ _ c.loop-row.invariant.1 more),
         sym (between_more (44 ∷ []) _ _ _ more),
         (44 ∷ [], (refl, comma_is_text)),
       )
   | else-contains w ↦
-      rw (w.f-is, w.separator-is, passing_same (is_set (bits_of c.args.self.now.0)) named
-          c.flag_names-row-items.result.now c.loop-row.row-index _ c.loop-row-test.true
-          (sym c.contains.ensures ∙ w.if-contains.false))
+      rw (
+        w.f-is,
+        w.separator-is,
+        passing_same (is_set (bits_of c.args.self.now.0)) named
+            c.flag_names-row-items.result.now c.loop-row.row-index _ c.loop-row-test.true
+            (sym c.contains.ensures ∙ w.if-contains.false),
+      )
       c.loop-row.invariant
 ]

@@ -11,7 +11,7 @@ use Rattle.libmount.proofs.flag_change.SetNamesDisplay.fmt.Given as goal
 abbrev pub invariant-loop-row : goal.invariant-loop-row
 invariant-loop-row g l =
     (IsPlainFormatter l.initial.f → HasWritten g.W.Write.write_str_gives l.initial.f
-        (names_of (bits_of l.self.0) (map named (take l.row-index l.row-items))) l.f)
+    (names_of (bits_of l.self.0) (map named (take l.row-index l.row-items))) l.f)
     × (l.separator ≡ between (codes ",") (filter (is_set (bits_of l.self.0))
-        (map named (take l.row-index l.row-items))))
+    (map named (take l.row-index l.row-items))))
     × shadow (Utf8 l.separator)

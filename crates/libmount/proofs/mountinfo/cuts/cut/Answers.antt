@@ -10,15 +10,20 @@ returns-then-starts_with-clause-value c =
     let mark = c.args.mark.now in
     let bytes = c.args.bytes.now in
     let found = Looked-found mark bytes at c.loop-at-test.true _ c.starts_with.ensures.value
-        c.if-starts_with.true c.loop-at.invariant in
+    c.if-starts_with.true c.loop-at.invariant in
     let left = take_rest (from bytes at) (length mark)
-        ∙ ap (drop (length mark)) (take_rest bytes at) in
+    ∙ ap (drop (length mark)) (take_rest bytes at) in
     cut-placed mark bytes c.args.bytes.ref_ptr.1 _ _ _ _
     (sym (ap (λ (p : List ℕ × List ℕ). p.0) found))
     (left ∙ sym (ap (λ (p : List ℕ × List ℕ). p.1) found))
     refl
-    (omega (arith, ap length left, length-drop (length mark) (drop at bytes), length-drop at bytes,
-        ap length (take_rest bytes at)))
+    (omega (
+      arith,
+      ap length left,
+      length-drop (length mark) (drop at bytes),
+      length-drop at bytes,
+      ap length (take_rest bytes at),
+    ))
 
 pub loop-at-preserved : goal.loop-at-preserved
 loop-at-preserved c = Looked-more c.args.mark.now c.args.bytes.now c.loop-at.at c.loop-at-test.true

@@ -10,4 +10,4 @@ pub returns : goal.returns
 returns c =
     let none : length c.bytes.rest.now ≡ 0 = grind (arith, nat_tests) in
     sym (append-nil c.bytes.bytes.items) ∙ ap (λ (t : List ℕ). c.bytes.bytes.items ++ t)
-        (sym (ap decoded (nil_from_length c.bytes.rest.now none) ∙ decoded-nil)) ∙ c.bytes.invariant
+    (sym (ap decoded (nil_from_length c.bytes.rest.now none) ∙ decoded-nil)) ∙ c.bytes.invariant

@@ -9,7 +9,7 @@ pub returns-then-starts_with_escape : goal.returns-then-starts_with_escape
 returns-then-starts_with_escape c =
     let e = c.starts_with_escape.ensures in
     sym (c.loop-at.invariant ∙ has-found c.args.text.now c.loop-at.at
-        (e.long c.if-starts_with_escape.true) (sym e.value ∙ c.if-starts_with_escape.true))
+    (e.long c.if-starts_with_escape.true) (sym e.value ∙ c.if-starts_with_escape.true))
 
 pub loop-at-preserved : goal.loop-at-preserved
 loop-at-preserved c = c.loop-at.invariant ∙ has-more c.args.text.now c.loop-at.at

@@ -16,7 +16,7 @@ pub returns-in-Err : goal.returns-in-Err
 returns-in-Err c =
     sym (digits_value-whole c.args.digits.now (omega arith) ∙ c.loop-digit.invariant.same
     ∙ whole-stop c.loop-digit.number c.loop-digit.digit-index c.args.digits.now
-        c.loop-digit-test.true c.in-Err.fault _ refl c.loop-digit.invariant.fits c.in-Err.ensures)
+    c.loop-digit-test.true c.in-Err.fault _ refl c.loop-digit.invariant.fits c.in-Err.ensures)
 
 pub loop-digit-preserved : goal.loop-digit-preserved
 loop-digit-preserved c = record {
@@ -30,4 +30,4 @@ returns c =
     let some : 0 < length c.args.digits.now = grind (arith, nat_tests) in
     sym (digits_value-whole c.args.digits.now some ∙ c.loop-digit.invariant.same
     ∙ whole-end c.loop-digit.number c.loop-digit.digit-index c.args.digits.now (omega arith)
-        c.loop-digit.invariant.fits)
+    c.loop-digit.invariant.fits)

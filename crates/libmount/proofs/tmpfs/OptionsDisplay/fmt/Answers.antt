@@ -16,17 +16,21 @@ unfolding options_text
 loop-option-preserved g c = elim c.match-option.branch [
   | in-Some+in_ok-write w ↦
       let more = given_more c.args.self.now.0 c.loop-option.option-index w.in-Some.option
-          c.loop-option-test.true w.in-Some.is in
+      c.loop-option-test.true w.in-Some.is in
       rw (w.f-is, w.separator-is) (
         λ plain. let before = c.loop-option.invariant.0 plain in
             put_two g.W.Write.write_str_gives _ _ _ _ _ _ before
-                (w.in_ok-write.ensures.writes before.plain refl)
+            (w.in_ok-write.ensures.writes before.plain refl)
             (join_written option_text (44 ∷ []) _ _ _ w.in-Some.option c.loop-option.invariant.1
-                more),
+            more),
         sym (between_more (44 ∷ []) _ _ w.in-Some.option more),
         (44 ∷ [], (refl, comma_is_text)),
       )
   | in_default w ↦
-      rw (w.f-is, w.separator-is, given_same c.args.self.now.0 c.loop-option.option-index
-          c.loop-option-test.true w.in_default.is) c.loop-option.invariant
+      rw (
+        w.f-is,
+        w.separator-is,
+        given_same c.args.self.now.0 c.loop-option.option-index
+            c.loop-option-test.true w.in_default.is,
+      ) c.loop-option.invariant
 ]

@@ -11,7 +11,7 @@ use Rattle.libmount.proofs.tmpfs.OptionsDisplay.fmt.Given as goal
 abbrev pub invariant-loop-option : goal.invariant-loop-option
 invariant-loop-option g l =
     (IsPlainFormatter l.initial.f → HasWritten g.W.Write.write_str_gives l.initial.f
-        (options_text (take l.option-index l.options)) l.f)
+    (options_text (take l.option-index l.options)) l.f)
     × (l.separator ≡ between (codes ",") (filter_map (λ option. option)
-        (take l.option-index l.options)))
+    (take l.option-index l.options)))
     × shadow (Utf8 l.separator)

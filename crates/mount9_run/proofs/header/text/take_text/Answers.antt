@@ -7,20 +7,32 @@ use Rattle.mount9_run.proofs.header.text.take_text.Goals as goal
 pub returns-then-n-eq0-clause-takes : goal.returns-then-n-eq0-clause-takes
 returns-then-n-eq0-clause-takes g c =
     let e = c.in-Ok.ensures in
-    record { answer = (e.cause ∙ c.bytes.invariant.takes.input, Endless-end _ _ _ _ _ _ _ _ _
-        (sym e.bound.1 ∙ c.if-n-eq0.true) c.bytes-test.true c.bytes.invariant.takes e.bytes
-        (e.end (omega (arith, c.read_full.auto.buf)))) }
+    record {
+      answer = (
+        e.cause ∙ c.bytes.invariant.takes.input,
+        Endless-end _ _ _ _ _ _ _ _ _
+            (sym e.bound.1 ∙ c.if-n-eq0.true) c.bytes-test.true c.bytes.invariant.takes e.bytes
+            (e.end (omega (arith, c.read_full.auto.buf))),
+      );
+    }
 
 pub returns-in-None-clause-takes : goal.returns-in-None-clause-takes
 returns-in-None-clause-takes g c =
     let e = c.in-Ok.ensures in
-    record { answer = Taking-end _ _ _ _ _ _ _ _ _ _ _ c.bytes.invariant.takes c.bytes-test.true
-        (subst (Consumes _ _) (single c.read_full.new.buf c.in-Ok.n c.read_full.auto.buf e.bound.0
-        c.if-n-eq0.false) e.bytes) e.cause (rw c.in-None.is at c.in_ok-scan.ensures) }
+    record {
+      answer = Taking-end _ _ _ _ _ _ _ _ _ _ _ c.bytes.invariant.takes c.bytes-test.true
+          (subst (Consumes _ _) (single c.read_full.new.buf c.in-Ok.n c.read_full.auto.buf e.bound.0
+          c.if-n-eq0.false) e.bytes) e.cause (rw c.in-None.is at c.in_ok-scan.ensures);
+    }
 
 pub returns-clause-takes : goal.returns-clause-takes
-returns-clause-takes g c = record { answer = (c.bytes.invariant.takes.input, Endless-limit _ _ _ _ _
-    _ _ c.bytes.invariant.takes (omega arith)) }
+returns-clause-takes g c = record {
+  answer = (
+    c.bytes.invariant.takes.input,
+    Endless-limit _ _ _ _ _
+        _ _ c.bytes.invariant.takes (omega arith),
+  );
+}
 
 pub returns-then-n-eq0-clause-kept : goal.returns-then-n-eq0-clause-kept
 returns-then-n-eq0-clause-kept g c = c.in-Ok.ensures.kept ∙ c.bytes.invariant.kept

@@ -36,7 +36,11 @@ lines-preserved c =
     record {
       lines = c.lines.invariant.lines ∙ gathered-more _ _ _ _ _ _ _ c.in_ok-line.ensures.value _ e
           ∙ ap (λ (b : Stamp). gathered (record_at b) (tree c.take_line.new.host)
-              c.in_ok-line.next.number (lines_of c.in_ok-line.next.rest.now)) (sym step.born);
-      rest = record { born = step.born ∙ before.born; holds = step.holds ∙ before.holds; calls =
-          step.calls ∙ before.calls };
+          c.in_ok-line.next.number (lines_of c.in_ok-line.next.rest.now)) (sym step.born);
+      rest = record {
+        born = step.born ∙ before.born;
+        holds = step.holds ∙ before.holds;
+        calls =
+            step.calls ∙ before.calls;
+      };
     }

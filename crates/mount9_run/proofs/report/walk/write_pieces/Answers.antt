@@ -16,35 +16,38 @@ returns-then-is_empty g c =
     let bytes = bytes_at (tree c.args.host.now) c.args.ino in
     let piece = c.as_slice-piece.result.now in
     let is : piece ≡ part bytes c.pieces.offset 4096 = c.as_slice-piece.ensures.value
-        ∙ c.in-Ok.ensures in
+    ∙ c.in-Ok.ensures in
     Writing-end (Writing-at (encode-end bytes piece c.pieces.offset is
-        (eqb-true _ 0 (sym c.if-is_empty.ensures))) c.pieces.invariant.writing)
+    (eqb-true _ 0 (sym c.if-is_empty.ensures))) c.pieces.invariant.writing)
 
 pub returns-in_err-write_hex : goal.returns-in_err-write_hex
 returns-in_err-write_hex g c =
     let bytes = bytes_at (tree c.args.host.now) c.args.ino in
     let piece = c.as_slice-piece.result.now in
     let is : piece ≡ part bytes c.pieces.offset 4096 = c.as_slice-piece.ensures.value
-        ∙ c.in-Ok.ensures in
+    ∙ c.in-Ok.ensures in
     let p = err_from_is_err_and c.from_residual.result c.from_residual.ensures.1 in rw (p.1, p.2)
-        (Writing-stop _ (Writing-at (encode-step bytes piece c.pieces.offset is _ refl)
-        c.pieces.invariant.writing) c.in_err-write_hex.field-0.0 c.in_err-write_hex.ensures)
+    (Writing-stop _ (Writing-at (encode-step bytes piece c.pieces.offset is _ refl)
+    c.pieces.invariant.writing) c.in_err-write_hex.field-0.0 c.in_err-write_hex.ensures)
 
 pub overflow_add-offset : goal.overflow_add-offset
 overflow_add-offset g c =
     let bytes = bytes_at (tree c.args.host.now) c.args.ino in
     let piece = c.as_slice-piece.result.now in
     let is : piece ≡ part bytes c.pieces.offset 4096 = c.as_slice-piece.ensures.value
-        ∙ c.in-Ok.ensures in
-    omega (arith, piece_within bytes piece c.pieces.offset is c.pieces.invariant.within,
-        bytes_at-short (tree c.args.host.now) c.args.host.now.good c.args.ino)
+    ∙ c.in-Ok.ensures in
+    omega (
+      arith,
+      piece_within bytes piece c.pieces.offset is c.pieces.invariant.within,
+      bytes_at-short (tree c.args.host.now) c.args.host.now.good c.args.ino,
+    )
 
 pub pieces-preserved : goal.pieces-preserved
 pieces-preserved g c =
     let bytes = bytes_at (tree c.args.host.now) c.args.ino in
     let piece = c.as_slice-piece.result.now in
     let is : piece ≡ part bytes c.pieces.offset 4096 = c.as_slice-piece.ensures.value
-        ∙ c.in-Ok.ensures in
+    ∙ c.in-Ok.ensures in
     record {
       writing = Writing-more (Writing-at (encode-step bytes piece c.pieces.offset is _ refl)
           c.pieces.invariant.writing) c.in_ok-write_hex.ensures;

@@ -16,9 +16,9 @@ returns-in-Some-clause-step g c =
     let s = c.args.self.now in
     let tree = g.H.Host.tree s.host in
     let kept = kept_named (g.H.Host.holds s.host) s.fids s.sound.held tree
-        (g.met.H.Host.stored s.host).kept in
+    (g.met.H.Host.stored s.host).kept in
     attach_unknown tree s.fids s.msize s.share c.args.fid kept (g.H.Host.calls s.host).steady
-        c.in-Some.e (g.H.Host.calls s.host).faults c.in-Some.ensures
+    c.in-Some.e (g.H.Host.calls s.host).faults c.in-Some.ensures
 
 pub attach_path-requires-clause-room : goal.attach_path-requires-clause-room
 attach_path-requires-clause-room g c = let s =
@@ -29,21 +29,21 @@ returns-in-Err-clause-step g c =
     let s = c.args.self.now in
     let tree = g.H.Host.tree s.host in
     let kept = kept_named (g.H.Host.holds s.host) s.fids s.sound.held tree
-        (g.met.H.Host.stored s.host).kept in
+    (g.met.H.Host.stored s.host).kept in
     let allowed = sym c.in_default.is ∙ c.attach_refused.ensures in
     let e = c.in-Err.ensures in
     attach_failed tree s.fids s.msize s.share c.args.fid kept (g.H.Host.calls s.host).steady allowed
-        (g.H.Host.tree c.attach_path.new.host) (g.H.Host.calls s.host).faults
-        (g.H.Host.calls c.attach_path.new.host).faults e.tree c.in-Err.e
+    (g.H.Host.tree c.attach_path.new.host) (g.H.Host.calls s.host).faults
+    (g.H.Host.calls c.attach_path.new.host).faults e.tree c.in-Err.e
     (subst (λ (names : List (List ℕ)). Finds tree (root_of tree names) (Err c.in-Err.e))
-        c.root.ensures.root e.answer) e.cause
+    c.root.ensures.root e.answer) e.cause
 
 pub name_by_fid-requires-clause-kept : goal.name_by_fid-requires-clause-kept
 name_by_fid-requires-clause-kept g c =
     let s = c.args.self.now in
     subst (λ (t : Tree). IsKept t.records (is_held s.fids)) (sym c.in-Ok.ensures.tree)
     (kept_named (g.H.Host.holds s.host) s.fids s.sound.held (g.H.Host.tree s.host)
-        (g.met.H.Host.stored s.host).kept)
+    (g.met.H.Host.stored s.host).kept)
 
 pub invariant_of-self-2 : goal.invariant_of-self-2
 invariant_of-self-2 g c =
@@ -54,9 +54,9 @@ invariant_of-self-2 g c =
       sound = sound_with (g.H.Host.holds s.host) s.fids s.msize s.share s.sound
           (g.H.Host.holds c.name_by_fid.new.host) c.name_by_fid.new.fids e.held
           (named_few (g.H.Host.holds s.host) s.fids s.msize s.share s.sound c.args.fid
-              c.in-Ok.attr.ino c.name_by_fid.new.fids
-              (λ absent. attach_room s.fids s.share.limit c.args.fid allowed) c.name_by_fid.result
-              e.fids e.memory);
+          c.in-Ok.attr.ino c.name_by_fid.new.fids
+          (λ absent. attach_room s.fids s.share.limit c.args.fid allowed) c.name_by_fid.result
+          e.fids e.memory);
     }
 
 pub returns-in-Err-name_by_fid-clause-step : goal.returns-in-Err-name_by_fid-clause-step
@@ -64,15 +64,15 @@ returns-in-Err-name_by_fid-clause-step g c =
     let s = c.args.self.now in
     let tree = g.H.Host.tree s.host in
     let kept = kept_named (g.H.Host.holds s.host) s.fids s.sound.held tree
-        (g.met.H.Host.stored s.host).kept in
+    (g.met.H.Host.stored s.host).kept in
     let allowed = sym c.in_default.is ∙ c.attach_refused.ensures in
     let a = c.in-Ok.ensures in
     let e = c.in-Err-name_by_fid.ensures in
     attach_no_memory tree s.fids s.msize s.share c.args.fid kept (g.H.Host.calls s.host).steady
-        allowed (g.H.Host.tree c.name_by_fid.new.host) (g.H.Host.calls s.host).faults
-        (g.H.Host.calls c.name_by_fid.new.host).faults
+    allowed (g.H.Host.tree c.name_by_fid.new.host) (g.H.Host.calls s.host).faults
+    (g.H.Host.calls c.name_by_fid.new.host).faults
     c.in-Ok.attr (subst (λ (names : List (List ℕ)). Finds tree (root_of tree names)
-        (Ok c.in-Ok.attr)) c.root.ensures.root a.answer) c.name_by_fid.new.fids
+    (Ok c.in-Ok.attr)) c.root.ensures.root a.answer) c.name_by_fid.new.fids
     (e.tree ∙ ap (keep (is_held c.name_by_fid.new.fids)) a.tree)
-        (ap (λ (k : Calls). k.faults) e.calls ∙ a.cause.counted) c.in-Err-name_by_fid.e e.memory.0
-        e.memory.1
+    (ap (λ (k : Calls). k.faults) e.calls ∙ a.cause.counted) c.in-Err-name_by_fid.e e.memory.0
+    e.memory.1

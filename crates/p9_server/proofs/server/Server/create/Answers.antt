@@ -14,15 +14,16 @@ returns-in-Err-clause-step g c gid =
     let s = c.args.self.now in
     let tree = g.H.Host.tree s.host in
     let kept = kept_named (g.H.Host.holds s.host) s.fids s.sound.held tree
-        (g.met.H.Host.stored s.host).kept in
+    (g.met.H.Host.stored s.host).kept in
     unknown_step tree s.fids s.msize s.share c.args.fid c.args.name.now c.args.flags c.args.mode gid
-        kept (g.H.Host.calls s.host).steady (g.H.Host.calls s.host).faults c.in-Err.e
-        c.in-Err.ensures
+    kept (g.H.Host.calls s.host).steady (g.H.Host.calls s.host).faults c.in-Err.e
+    c.in-Err.ensures
 
 pub create_file-requires : goal.create_file-requires
-create_file-requires g c = let s = c.args.self.now in record
-    { held = named_held (g.H.Host.holds s.host) s.fids s.sound.held c.args.fid c.in-Ok.dir
-    c.in-Ok.ensures }
+create_file-requires g c = let s = c.args.self.now in record {
+  held = named_held (g.H.Host.holds s.host) s.fids s.sound.held c.args.fid c.in-Ok.dir
+      c.in-Ok.ensures;
+}
 
 pub returns-in-Err-create_file-clause-step : goal.returns-in-Err-create_file-clause-step
 returns-in-Err-create_file-clause-step g c gid =
@@ -31,18 +32,18 @@ returns-in-Err-create_file-clause-step g c gid =
     let e = c.in-Err-create_file.ensures in
     let tree = g.H.Host.tree s.host in
     let kept = kept_named (g.H.Host.holds s.host) s.fids s.sound.held tree
-        (g.met.H.Host.stored s.host).kept in
+    (g.met.H.Host.stored s.host).kept in
     failed_step tree s.fids s.msize s.share c.args.fid c.args.name.now c.args.flags c.args.mode gid
-        kept (g.H.Host.calls s.host).steady c.in-Ok.dir c.in-Ok.ensures (g.H.Host.tree h)
-        (g.H.Host.calls s.host).faults (g.H.Host.calls h).faults
+    kept (g.H.Host.calls s.host).steady c.in-Ok.dir c.in-Ok.ensures (g.H.Host.tree h)
+    (g.H.Host.calls s.host).faults (g.H.Host.calls h).faults
     (g.met.H.Host.good s.host) c.in-Err-create_file.e e.answer e.cause
 
 pub release-requires : goal.release-requires
 release-requires g c =
     let s = c.args.self.now in
     dir_held (g.H.Host.holds s.host) s.fids s.msize s.share s.sound c.args.fid c.in-Ok.dir
-        c.in-Ok-create_file.attr.ino c.args.flags c.in-Ok.ensures
-        (g.H.Host.holds c.create_file.new.host) c.in-Ok-create_file.ensures.held
+    c.in-Ok-create_file.attr.ino c.args.flags c.in-Ok.ensures
+    (g.H.Host.holds c.create_file.new.host) c.in-Ok-create_file.ensures.held
     (named_held (g.H.Host.holds s.host) s.fids s.sound.held c.args.fid c.in-Ok.dir c.in-Ok.ensures)
 
 pub invariant_of-self-2 : goal.invariant_of-self-2
@@ -53,12 +54,12 @@ invariant_of-self-2 g c =
           c.in-Ok.dir c.in-Ok-create_file.attr.ino c.args.flags c.in-Ok.ensures
           (g.H.Host.holds c.create_file.new.host) c.in-Ok-create_file.ensures.held
           (dir_held (g.H.Host.holds s.host) s.fids s.msize s.share s.sound c.args.fid c.in-Ok.dir
-              c.in-Ok-create_file.attr.ino c.args.flags c.in-Ok.ensures
-              (g.H.Host.holds c.create_file.new.host) c.in-Ok-create_file.ensures.held
+          c.in-Ok-create_file.attr.ino c.args.flags c.in-Ok.ensures
+          (g.H.Host.holds c.create_file.new.host) c.in-Ok-create_file.ensures.held
           (named_held (g.H.Host.holds s.host) s.fids s.sound.held c.args.fid c.in-Ok.dir
-              c.in-Ok.ensures))
+          c.in-Ok.ensures))
           (g.H.Host.holds c.release.new.self) c.release.ensures.holds c.replace.new.self
-              (c.replace.ensures ∙ ap (λ (f : Fid). insert s.fids c.args.fid f) c.opened.ensures);
+          (c.replace.ensures ∙ ap (λ (f : Fid). insert s.fids c.args.fid f) c.opened.ensures);
     }
 
 pub returns-clause-step : goal.returns-clause-step
@@ -69,20 +70,20 @@ returns-clause-step g c gid =
     let e = c.in-Ok-create_file.ensures in
     let tree = g.H.Host.tree s.host in
     let kept = kept_named (g.H.Host.holds s.host) s.fids s.sound.held tree
-        (g.met.H.Host.stored s.host).kept in
+    (g.met.H.Host.stored s.host).kept in
     let fids_are = c.replace.ensures ∙ ap (λ (f : Fid). insert s.fids c.args.fid f) c.opened.ensures
-        in
+    in
     created_step tree s.fids s.msize s.share c.args.fid c.args.name.now c.args.flags c.args.mode gid
-        kept (g.H.Host.calls s.host).steady c.in-Ok.dir c.in-Ok.ensures (g.H.Host.tree h)
-        (g.H.Host.calls s.host).faults (g.H.Host.calls n).faults
+    kept (g.H.Host.calls s.host).steady c.in-Ok.dir c.in-Ok.ensures (g.H.Host.tree h)
+    (g.H.Host.calls s.host).faults (g.H.Host.calls n).faults
     c.qid_of.result c.in-Ok-create_file.attr e.answer c.qid_of.ensures c.replace.new.self fids_are
-        (g.H.Host.tree n)
+    (g.H.Host.tree n)
     (moved_tree (g.H.Host.holds s.host) s.fids s.msize s.share s.sound c.args.fid c.in-Ok.dir
-        c.in-Ok-create_file.attr.ino c.args.flags c.in-Ok.ensures (g.H.Host.holds h) e.held
+    c.in-Ok-create_file.attr.ino c.args.flags c.in-Ok.ensures (g.H.Host.holds h) e.held
     (dir_held (g.H.Host.holds s.host) s.fids s.msize s.share s.sound c.args.fid c.in-Ok.dir
-        c.in-Ok-create_file.attr.ino c.args.flags c.in-Ok.ensures (g.H.Host.holds h) e.held
-        (named_held (g.H.Host.holds s.host) s.fids s.sound.held c.args.fid c.in-Ok.dir
-        c.in-Ok.ensures))
+    c.in-Ok-create_file.attr.ino c.args.flags c.in-Ok.ensures (g.H.Host.holds h) e.held
+    (named_held (g.H.Host.holds s.host) s.fids s.sound.held c.args.fid c.in-Ok.dir
+    c.in-Ok.ensures))
     (g.H.Host.holds n) c.release.ensures.holds c.replace.new.self fids_are (g.H.Host.tree h)
-        (g.H.Host.tree n) c.release.ensures.tree)
+    (g.H.Host.tree n) c.release.ensures.tree)
     (ap (λ (k : Calls). k.faults) c.release.ensures.calls ∙ e.cause.counted)

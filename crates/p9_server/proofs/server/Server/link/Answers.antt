@@ -24,13 +24,13 @@ returns-in-Err-clause-step g c =
     let tree = g.H.Host.tree s.host in
     let a = c.args in
     refused_step (link a.dfid a.fid a.name.now) links links tree s.fids s.msize s.share
-        (g.H.Host.calls s.host).steady (link_told (server_state tree s.fids s.msize s.share) a.dfid
-        a.fid a.name.now) refl
+    (g.H.Host.calls s.host).steady (link_told (server_state tree s.fids s.msize s.share) a.dfid
+    a.fid a.name.now) refl
     (kept_named (g.H.Host.holds s.host) s.fids s.sound.held tree (g.met.H.Host.stored s.host).kept)
-        c.in-Err.e
+    c.in-Err.e
     (at_unknown s.fids a.fid (λ ino. at_fid (get s.fids a.dfid)
-        (λ dir. unless_fault a.name.now (link_of tree ino dir a.name.now))) c.in-Err.e
-        c.in-Err.ensures) (g.H.Host.calls s.host).faults
+    (λ dir. unless_fault a.name.now (link_of tree ino dir a.name.now))) c.in-Err.e
+    c.in-Err.ensures) (g.H.Host.calls s.host).faults
 
 pub returns-in-Err-ino_for-clause-step : goal.returns-in-Err-ino_for-clause-step
 returns-in-Err-ino_for-clause-step g c =
@@ -39,21 +39,21 @@ returns-in-Err-ino_for-clause-step g c =
     let a = c.args in
     let before = server_state tree s.fids s.msize s.share in
     refused_step (link a.dfid a.fid a.name.now) links links tree s.fids s.msize s.share
-        (g.H.Host.calls s.host).steady (at_fid (get s.fids a.dfid)
-        (λ dir. unless_fault a.name.now (link_of tree c.in-Ok.ino dir a.name.now)))
+    (g.H.Host.calls s.host).steady (at_fid (get s.fids a.dfid)
+    (λ dir. unless_fault a.name.now (link_of tree c.in-Ok.ino dir a.name.now)))
     (ap (tree_answer before links) (at_known s.fids a.fid
-        (λ ino. at_fid (get s.fids a.dfid) (λ dir. unless_fault a.name.now
-        (link_of tree ino dir a.name.now))) c.in-Ok.ino c.in-Ok.ensures))
+    (λ ino. at_fid (get s.fids a.dfid) (λ dir. unless_fault a.name.now
+    (link_of tree ino dir a.name.now))) c.in-Ok.ino c.in-Ok.ensures))
     (kept_named (g.H.Host.holds s.host) s.fids s.sound.held tree (g.met.H.Host.stored s.host).kept)
-        c.in-Err-ino_for.e
+    c.in-Err-ino_for.e
     (at_unnamed s.fids a.dfid (λ dir. link_of tree c.in-Ok.ino dir a.name.now) a.name.now
-        c.in-Err-ino_for.e c.in-Err-ino_for.ensures) (g.H.Host.calls s.host).faults
+    c.in-Err-ino_for.e c.in-Err-ino_for.ensures) (g.H.Host.calls s.host).faults
 
 pub link-requires : goal.link-requires
 link-requires g c =
     let s = c.args.self.now in
     let good = good_name s.fids c.args.dfid c.args.name.now c.in-Ok-ino_for.dir
-        c.in-Ok-ino_for.ensures in
+    c.in-Ok-ino_for.ensures in
     record {
       held = named_held (g.H.Host.holds s.host) s.fids s.sound.held c.args.fid c.in-Ok.ino
           c.in-Ok.ensures;
@@ -71,14 +71,14 @@ returns-clause-step g c =
     let e = c.link.ensures in
     let before = server_state tree s.fids s.msize s.share in
     passed_step (link a.dfid a.fid a.name.now) links tree s.fids s.msize s.share
-        (g.H.Host.calls s.host).steady (link_of tree c.in-Ok.ino c.in-Ok-ino_for.dir a.name.now)
+    (g.H.Host.calls s.host).steady (link_of tree c.in-Ok.ino c.in-Ok-ino_for.dir a.name.now)
     (ap (tree_answer before links) (at_known s.fids a.fid
-        (λ ino. at_fid (get s.fids a.dfid) (λ dir. unless_fault a.name.now
-        (link_of tree ino dir a.name.now))) c.in-Ok.ino c.in-Ok.ensures
+    (λ ino. at_fid (get s.fids a.dfid) (λ dir. unless_fault a.name.now
+    (link_of tree ino dir a.name.now))) c.in-Ok.ino c.in-Ok.ensures
     ∙ at_named s.fids a.dfid (λ dir. link_of tree c.in-Ok.ino dir a.name.now) a.name.now
-        c.in-Ok-ino_for.dir c.in-Ok-ino_for.ensures))
+    c.in-Ok-ino_for.dir c.in-Ok-ino_for.ensures))
     (kept_named (g.H.Host.holds s.host) s.fids s.sound.held tree (g.met.H.Host.stored s.host).kept)
-        refl (g.H.Host.tree n) (g.H.Host.calls s.host).faults (g.H.Host.calls n).faults
+    refl (g.H.Host.tree n) (g.H.Host.calls s.host).faults (g.H.Host.calls n).faults
     (kept_after (g.H.Host.holds s.host) (g.H.Host.holds n) e.holds s.fids s.sound.held
-        (g.H.Host.tree n) (g.met.H.Host.stored n).kept)
+    (g.H.Host.tree n) (g.met.H.Host.stored n).kept)
     c.link.result e.leaves e.caused.cause

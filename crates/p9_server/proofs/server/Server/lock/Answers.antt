@@ -18,14 +18,14 @@ returns-in_err-open_ino g c =
     let m = c.args.m in
     let tree = g.H.Host.tree s.host in
     let kept = kept_named (g.H.Host.holds s.host) s.fids s.sound.held tree
-        (g.met.H.Host.stored s.host).kept in
+    (g.met.H.Host.stored s.host).kept in
     record {
       step = unopened_step {A = Rlock} (lock m.fid m.kind_ m.flags m.start m.length m.proc_id
           m.client_id) (λ r. locked r.status) (λ _. locked 0)
           (server_state tree s.fids s.msize s.share) kept (g.H.Host.calls s.host).steady nothing
           m.fid (g.H.Host.calls s.host).faults
           c.from_residual.result c.in_err-open_ino.field-0.0 c.from_residual.ensures.1 is_open refl
-              c.in_err-open_ino.ensures;
+          c.in_err-open_ino.ensures;
     }
 
 pub returns : goal.returns
@@ -34,14 +34,14 @@ returns g c =
     let m = c.args.m in
     let tree = g.H.Host.tree s.host in
     let kept = kept_named (g.H.Host.holds s.host) s.fids s.sound.held tree
-        (g.met.H.Host.stored s.host).kept in
+    (g.met.H.Host.stored s.host).kept in
     record {
       step = told_step {A = Rlock} (lock m.fid m.kind_ m.flags m.start m.length m.proc_id
           m.client_id) (λ r. locked r.status) (λ _. locked 0)
           (server_state tree s.fids s.msize s.share) kept (g.H.Host.calls s.host).steady
           (by_open_fid is_open nothing (get s.fids m.fid)) refl
           (server_state tree s.fids s.msize s.share) refl (g.H.Host.calls s.host).faults
-              (g.H.Host.calls s.host).faults (record { status = 0 }) tt
-              (by_opened nothing is_open (get s.fids m.fid) c.in_ok-open_ino.field-0
-              c.in_ok-open_ino.ensures).2 refl refl;
+          (g.H.Host.calls s.host).faults (record { status = 0 }) tt
+          (by_opened nothing is_open (get s.fids m.fid) c.in_ok-open_ino.field-0
+          c.in_ok-open_ino.ensures).2 refl refl;
     }

@@ -30,19 +30,22 @@ returns-in-Err-clause-step g c gid =
     let tree = g.H.Host.tree s.host in
     let a = c.args in
     refused_step (mkdir a.dfid a.name.now a.mode gid) makes told_qid tree s.fids s.msize s.share
-        (g.H.Host.calls s.host).steady (mkdir_told (server_state tree s.fids s.msize s.share) a.dfid
-        a.name.now a.mode) refl
+    (g.H.Host.calls s.host).steady (mkdir_told (server_state tree s.fids s.msize s.share) a.dfid
+    a.name.now a.mode) refl
     (kept_named (g.H.Host.holds s.host) s.fids s.sound.held tree (g.met.H.Host.stored s.host).kept)
-        c.in-Err.e
+    c.in-Err.e
     (at_unnamed s.fids a.dfid (λ dir. mkdir_of tree dir a.name.now a.mode) a.name.now c.in-Err.e
-        c.in-Err.ensures) (g.H.Host.calls s.host).faults
+    c.in-Err.ensures) (g.H.Host.calls s.host).faults
 
 pub mkdir-requires : goal.mkdir-requires
 mkdir-requires g c =
     let s = c.args.self.now in
     let good = good_name s.fids c.args.dfid c.args.name.now c.in-Ok.dir c.in-Ok.ensures in
-    record { held = named_held (g.H.Host.holds s.host) s.fids s.sound.held c.args.dfid c.in-Ok.dir
-        good.1; named = good.0 }
+    record {
+      held = named_held (g.H.Host.holds s.host) s.fids s.sound.held c.args.dfid c.in-Ok.dir
+          good.1;
+      named = good.0;
+    }
 
 pub returns-in-Ok-mkdir-clause-step : goal.returns-in-Ok-mkdir-clause-step
 returns-in-Ok-mkdir-clause-step g c gid =
@@ -53,13 +56,13 @@ returns-in-Ok-mkdir-clause-step g c gid =
     let e = c.in-Ok-mkdir.ensures in
     let before = server_state tree s.fids s.msize s.share in
     done_step (mkdir a.dfid a.name.now a.mode gid) makes told_qid tree s.fids s.msize s.share
-        (g.H.Host.calls s.host).steady (mkdir_of tree c.in-Ok.dir a.name.now a.mode)
+    (g.H.Host.calls s.host).steady (mkdir_of tree c.in-Ok.dir a.name.now a.mode)
     (ap (tree_answer before makes) (at_named s.fids a.dfid
-        (λ dir. mkdir_of tree dir a.name.now a.mode) a.name.now c.in-Ok.dir c.in-Ok.ensures))
+    (λ dir. mkdir_of tree dir a.name.now a.mode) a.name.now c.in-Ok.dir c.in-Ok.ensures))
     (kept_named (g.H.Host.holds s.host) s.fids s.sound.held tree (g.met.H.Host.stored s.host).kept)
-        refl (g.H.Host.tree n) (g.H.Host.calls s.host).faults (g.H.Host.calls n).faults
+    refl (g.H.Host.tree n) (g.H.Host.calls s.host).faults (g.H.Host.calls n).faults
     (kept_after (g.H.Host.holds s.host) (g.H.Host.holds n) e.holds s.fids s.sound.held
-        (g.H.Host.tree n) (g.met.H.Host.stored n).kept)
+    (g.H.Host.tree n) (g.met.H.Host.stored n).kept)
     c.in-Ok-mkdir.attr c.qid_of.result e.leaves (ap made c.qid_of.ensures) e.caused.cause.counted
 
 pub returns-in-Err-mkdir-clause-step : goal.returns-in-Err-mkdir-clause-step
@@ -71,9 +74,9 @@ returns-in-Err-mkdir-clause-step g c gid =
     let e = c.in-Err-mkdir.ensures in
     let before = server_state tree s.fids s.msize s.share in
     failed_step (mkdir a.dfid a.name.now a.mode gid) makes told_qid tree s.fids s.msize s.share
-        (g.H.Host.calls s.host).steady (mkdir_of tree c.in-Ok.dir a.name.now a.mode)
+    (g.H.Host.calls s.host).steady (mkdir_of tree c.in-Ok.dir a.name.now a.mode)
     (ap (tree_answer before makes) (at_named s.fids a.dfid
-        (λ dir. mkdir_of tree dir a.name.now a.mode) a.name.now c.in-Ok.dir c.in-Ok.ensures))
+    (λ dir. mkdir_of tree dir a.name.now a.mode) a.name.now c.in-Ok.dir c.in-Ok.ensures))
     (kept_named (g.H.Host.holds s.host) s.fids s.sound.held tree (g.met.H.Host.stored s.host).kept)
-        refl (g.H.Host.tree n) (g.H.Host.calls s.host).faults (g.H.Host.calls n).faults
+    refl (g.H.Host.tree n) (g.H.Host.calls s.host).faults (g.H.Host.calls n).faults
     c.in-Err-mkdir.e e.leaves e.caused.cause

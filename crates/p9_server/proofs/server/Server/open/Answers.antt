@@ -13,9 +13,9 @@ returns-in-Err-clause-step g c =
     let s = c.args.self.now in
     let tree = g.H.Host.tree s.host in
     let kept = kept_named (g.H.Host.holds s.host) s.fids s.sound.held tree
-        (g.met.H.Host.stored s.host).kept in
+    (g.met.H.Host.stored s.host).kept in
     unknown_step tree s.fids s.msize s.share c.args.fid c.args.flags kept
-        (g.H.Host.calls s.host).steady (g.H.Host.calls s.host).faults c.in-Err.e c.in-Err.ensures
+    (g.H.Host.calls s.host).steady (g.H.Host.calls s.host).faults c.in-Err.e c.in-Err.ensures
 
 pub open_inode-requires : goal.open_inode-requires
 open_inode-requires g c = let s = c.args.self.now in named_held (g.H.Host.holds s.host) s.fids
@@ -27,12 +27,12 @@ returns-in-Err-open_inode-clause-step g c =
     let h = c.open_inode.new.host in
     let tree = g.H.Host.tree s.host in
     let kept = kept_named (g.H.Host.holds s.host) s.fids s.sound.held tree
-        (g.met.H.Host.stored s.host).kept in
+    (g.met.H.Host.stored s.host).kept in
     let e = c.in-Err-open_inode.ensures in
     failed_step tree s.fids s.msize s.share c.args.fid c.args.flags kept
-        (g.H.Host.calls s.host).steady c.in-Ok.ino c.in-Ok.ensures (g.H.Host.tree h)
+    (g.H.Host.calls s.host).steady c.in-Ok.ino c.in-Ok.ensures (g.H.Host.tree h)
     (kept_after (g.H.Host.holds s.host) (g.H.Host.holds h) e.holds s.fids s.sound.held
-        (g.H.Host.tree h) (g.met.H.Host.stored h).kept)
+    (g.H.Host.tree h) (g.met.H.Host.stored h).kept)
     (g.H.Host.calls s.host).faults (g.H.Host.calls h).faults c.in-Err-open_inode.e e.answer e.cause
 
 pub replace-requires : goal.replace-requires
@@ -55,13 +55,13 @@ returns-clause-step g c =
     let h = c.open_inode.new.host in
     let tree = g.H.Host.tree s.host in
     let kept = kept_named (g.H.Host.holds s.host) s.fids s.sound.held tree
-        (g.met.H.Host.stored s.host).kept in
+    (g.met.H.Host.stored s.host).kept in
     let e = c.in-Ok-open_inode.ensures in
     opened_step tree s.fids s.msize s.share c.args.fid c.args.flags kept
-        (g.H.Host.calls s.host).steady c.in-Ok.ino c.in-Ok.ensures (g.H.Host.tree h)
+    (g.H.Host.calls s.host).steady c.in-Ok.ino c.in-Ok.ensures (g.H.Host.tree h)
     (kept_after (g.H.Host.holds s.host) (g.H.Host.holds h) e.holds s.fids s.sound.held
-        (g.H.Host.tree h) (g.met.H.Host.stored h).kept)
+    (g.H.Host.tree h) (g.met.H.Host.stored h).kept)
     (g.H.Host.calls s.host).faults (g.H.Host.calls h).faults c.qid_of.result c.in-Ok-open_inode.attr
-        e.answer c.qid_of.ensures
+    e.answer c.qid_of.ensures
     c.replace.new.self (c.replace.ensures ∙ ap (λ (f : Fid). insert s.fids c.args.fid f)
-        c.opened.ensures) e.cause.counted
+    c.opened.ensures) e.cause.counted

@@ -34,12 +34,12 @@ returns-in-Err-clause-step g c =
     let a = c.args in
     let before = server_state tree s.fids s.msize s.share in
     refused_step (renameat a.olddirfid a.oldname.now a.newdirfid a.newname.now) moves moves tree
-        s.fids s.msize s.share (g.H.Host.calls s.host).steady
-        (renameat_told before a.olddirfid a.oldname.now a.newdirfid a.newname.now) refl
+    s.fids s.msize s.share (g.H.Host.calls s.host).steady
+    (renameat_told before a.olddirfid a.oldname.now a.newdirfid a.newname.now) refl
     (kept_named (g.H.Host.holds s.host) s.fids s.sound.held tree (g.met.H.Host.stored s.host).kept)
-        c.in-Err.e
+    c.in-Err.e
     (at_unknown s.fids a.olddirfid (to before a.oldname.now a.newdirfid a.newname.now) c.in-Err.e
-        c.in-Err.ensures) (g.H.Host.calls s.host).faults
+    c.in-Err.ensures) (g.H.Host.calls s.host).faults
 
 pub returns-in-Err-ino_for-clause-step : goal.returns-in-Err-ino_for-clause-step
 returns-in-Err-ino_for-clause-step g c =
@@ -48,15 +48,15 @@ returns-in-Err-ino_for-clause-step g c =
     let a = c.args in
     let before = server_state tree s.fids s.msize s.share in
     refused_step (renameat a.olddirfid a.oldname.now a.newdirfid a.newname.now) moves moves tree
-        s.fids s.msize s.share (g.H.Host.calls s.host).steady
-        (to before a.oldname.now a.newdirfid a.newname.now c.in-Ok.olddir)
+    s.fids s.msize s.share (g.H.Host.calls s.host).steady
+    (to before a.oldname.now a.newdirfid a.newname.now c.in-Ok.olddir)
     (ap (tree_answer before moves) (at_known s.fids a.olddirfid
-        (to before a.oldname.now a.newdirfid a.newname.now) c.in-Ok.olddir c.in-Ok.ensures))
+    (to before a.oldname.now a.newdirfid a.newname.now) c.in-Ok.olddir c.in-Ok.ensures))
     (kept_named (g.H.Host.holds s.host) s.fids s.sound.held tree (g.met.H.Host.stored s.host).kept)
-        c.in-Err-ino_for.e
+    c.in-Err-ino_for.e
     (at_unnamed s.fids a.newdirfid (λ newdir. unless_fault a.newname.now
-        (rename_of (is_named s.fids) tree c.in-Ok.olddir a.oldname.now newdir a.newname.now))
-        a.oldname.now c.in-Err-ino_for.e c.in-Err-ino_for.ensures) (g.H.Host.calls s.host).faults
+    (rename_of (is_named s.fids) tree c.in-Ok.olddir a.oldname.now newdir a.newname.now))
+    a.oldname.now c.in-Err-ino_for.e c.in-Err-ino_for.ensures) (g.H.Host.calls s.host).faults
 
 pub rename-requires-clause-from : goal.rename-requires-clause-from
 rename-requires-clause-from g c = let s = c.args.self.now in named_held (g.H.Host.holds s.host)
@@ -66,8 +66,8 @@ pub rename-requires-clause-to : goal.rename-requires-clause-to
 rename-requires-clause-to g c =
     let s = c.args.self.now in
     named_held (g.H.Host.holds s.host) s.fids s.sound.held c.args.newdirfid c.in-Ok-ino_for.newdir
-        (good_name s.fids c.args.newdirfid c.args.oldname.now c.in-Ok-ino_for.newdir
-        c.in-Ok-ino_for.ensures).1
+    (good_name s.fids c.args.newdirfid c.args.oldname.now c.in-Ok-ino_for.newdir
+    c.in-Ok-ino_for.ensures).1
 
 pub returns-in-Ok-check_name-clause-step : goal.returns-in-Ok-check_name-clause-step
 returns-in-Ok-check_name-clause-step g c =
@@ -79,24 +79,24 @@ returns-in-Ok-check_name-clause-step g c =
     let held = is_held (g.H.Host.holds s.host) in
     let before = server_state tree s.fids s.msize s.share in
     let moving : ℕ → ℕ → Result (Unit {0} × Tree) ℕ =
-        λ olddir newdir. rename_of (is_named s.fids) tree olddir a.oldname.now newdir a.newname.now
-        in
+    λ olddir newdir. rename_of (is_named s.fids) tree olddir a.oldname.now newdir a.newname.now
+    in
     passed_step (renameat a.olddirfid a.oldname.now a.newdirfid a.newname.now) moves tree s.fids
-        s.msize s.share (g.H.Host.calls s.host).steady
-        (rename_of held tree c.in-Ok.olddir a.oldname.now c.in-Ok-ino_for.newdir a.newname.now)
+    s.msize s.share (g.H.Host.calls s.host).steady
+    (rename_of held tree c.in-Ok.olddir a.oldname.now c.in-Ok-ino_for.newdir a.newname.now)
     (ap (tree_answer before moves) (at_known s.fids a.olddirfid
-        (to before a.oldname.now a.newdirfid a.newname.now) c.in-Ok.olddir c.in-Ok.ensures
+    (to before a.oldname.now a.newdirfid a.newname.now) c.in-Ok.olddir c.in-Ok.ensures
     ∙ at_named s.fids a.newdirfid (λ newdir. unless_fault a.newname.now
-        (moving c.in-Ok.olddir newdir)) a.oldname.now c.in-Ok-ino_for.newdir c.in-Ok-ino_for.ensures
+    (moving c.in-Ok.olddir newdir)) a.oldname.now c.in-Ok-ino_for.newdir c.in-Ok-ino_for.ensures
     ∙ (name_checked a.newname.now (moving c.in-Ok.olddir c.in-Ok-ino_for.newdir)
-        c.in-Ok-check_name.ensures).1
+    c.in-Ok-check_name.ensures).1
     ∙ sym (ap (λ (h : ℕ → Bool). rename_of h tree c.in-Ok.olddir a.oldname.now
-        c.in-Ok-ino_for.newdir a.newname.now)
-        (held_alike (g.H.Host.holds s.host) s.fids s.sound.held))))
+    c.in-Ok-ino_for.newdir a.newname.now)
+    (held_alike (g.H.Host.holds s.host) s.fids s.sound.held))))
     (kept_named (g.H.Host.holds s.host) s.fids s.sound.held tree (g.met.H.Host.stored s.host).kept)
-        refl (g.H.Host.tree n) (g.H.Host.calls s.host).faults (g.H.Host.calls n).faults
+    refl (g.H.Host.tree n) (g.H.Host.calls s.host).faults (g.H.Host.calls n).faults
     (kept_after (g.H.Host.holds s.host) (g.H.Host.holds n) e.holds s.fids s.sound.held
-        (g.H.Host.tree n) (g.met.H.Host.stored n).kept)
+    (g.H.Host.tree n) (g.met.H.Host.stored n).kept)
     c.rename.result e.leaves e.caused.cause
 
 pub returns-in-Err-check_name-clause-step : goal.returns-in-Err-check_name-clause-step
@@ -106,17 +106,17 @@ returns-in-Err-check_name-clause-step g c =
     let a = c.args in
     let before = server_state tree s.fids s.msize s.share in
     let moving : ℕ → ℕ → Result (Unit {0} × Tree) ℕ =
-        λ olddir newdir. rename_of (is_named s.fids) tree olddir a.oldname.now newdir a.newname.now
-        in
+    λ olddir newdir. rename_of (is_named s.fids) tree olddir a.oldname.now newdir a.newname.now
+    in
     refused_step (renameat a.olddirfid a.oldname.now a.newdirfid a.newname.now) moves moves tree
-        s.fids s.msize s.share (g.H.Host.calls s.host).steady
-        (unless_fault a.newname.now (moving c.in-Ok.olddir c.in-Ok-ino_for.newdir))
+    s.fids s.msize s.share (g.H.Host.calls s.host).steady
+    (unless_fault a.newname.now (moving c.in-Ok.olddir c.in-Ok-ino_for.newdir))
     (ap (tree_answer before moves) (at_known s.fids a.olddirfid
-        (to before a.oldname.now a.newdirfid a.newname.now) c.in-Ok.olddir c.in-Ok.ensures
+    (to before a.oldname.now a.newdirfid a.newname.now) c.in-Ok.olddir c.in-Ok.ensures
     ∙ at_named s.fids a.newdirfid (λ newdir. unless_fault a.newname.now
-        (moving c.in-Ok.olddir newdir)) a.oldname.now c.in-Ok-ino_for.newdir
-        c.in-Ok-ino_for.ensures))
+    (moving c.in-Ok.olddir newdir)) a.oldname.now c.in-Ok-ino_for.newdir
+    c.in-Ok-ino_for.ensures))
     (kept_named (g.H.Host.holds s.host) s.fids s.sound.held tree (g.met.H.Host.stored s.host).kept)
-        c.in-Err-check_name.e
+    c.in-Err-check_name.e
     (name_unchecked a.newname.now (moving c.in-Ok.olddir c.in-Ok-ino_for.newdir)
-        c.in-Err-check_name.e c.in-Err-check_name.ensures) (g.H.Host.calls s.host).faults
+    c.in-Err-check_name.e c.in-Err-check_name.ensures) (g.H.Host.calls s.host).faults

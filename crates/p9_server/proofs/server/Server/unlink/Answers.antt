@@ -29,26 +29,32 @@ returns-in-Err-clause-step g c =
     let tree = g.H.Host.tree s.host in
     let a = c.args in
     refused_step (unlinkat a.dirfd a.name.now a.flags) unlinks unlinks tree s.fids s.msize s.share
-        (g.H.Host.calls s.host).steady (unlinkat_told (server_state tree s.fids s.msize s.share)
-        a.dirfd a.name.now a.flags) refl
+    (g.H.Host.calls s.host).steady (unlinkat_told (server_state tree s.fids s.msize s.share)
+    a.dirfd a.name.now a.flags) refl
     (kept_named (g.H.Host.holds s.host) s.fids s.sound.held tree (g.met.H.Host.stored s.host).kept)
-        c.in-Err.e
+    c.in-Err.e
     (at_unnamed s.fids a.dirfd (λ dir. removed_by a.flags (is_named s.fids) tree dir a.name.now)
-        a.name.now c.in-Err.e c.in-Err.ensures) (g.H.Host.calls s.host).faults
+    a.name.now c.in-Err.e c.in-Err.ensures) (g.H.Host.calls s.host).faults
 
 pub unlink-requires : goal.unlink-requires
 unlink-requires g c =
     let s = c.args.self.now in
     let good = good_name s.fids c.args.dirfd c.args.name.now c.in-Ok.dir c.in-Ok.ensures in
-    record { held = named_held (g.H.Host.holds s.host) s.fids s.sound.held c.args.dirfd c.in-Ok.dir
-        good.1; named = good.0 }
+    record {
+      held = named_held (g.H.Host.holds s.host) s.fids s.sound.held c.args.dirfd c.in-Ok.dir
+          good.1;
+      named = good.0;
+    }
 
 pub rmdir-requires : goal.rmdir-requires
 rmdir-requires g c =
     let s = c.args.self.now in
     let good = good_name s.fids c.args.dirfd c.args.name.now c.in-Ok.dir c.in-Ok.ensures in
-    record { held = named_held (g.H.Host.holds s.host) s.fids s.sound.held c.args.dirfd c.in-Ok.dir
-        good.1; named = good.0 }
+    record {
+      held = named_held (g.H.Host.holds s.host) s.fids s.sound.held c.args.dirfd c.in-Ok.dir
+          good.1;
+      named = good.0;
+    }
 
 abbrev removing : (ℕ → Bool) → Tree → ℕ → List ℕ → ℕ → Result (Unit {0} × Tree) ℕ
 removing held t dir name flags = removed_by flags held t dir name
@@ -83,18 +89,18 @@ returns-then-flags-eq0-clause-step g c =
     let e = c.unlink.ensures in
     let before = server_state tree s.fids s.msize s.share in
     passed_step (unlinkat a.dirfd a.name.now a.flags) unlinks tree s.fids s.msize s.share
-        (g.H.Host.calls s.host).steady (unlink_of (is_held (g.H.Host.holds s.host)) tree c.in-Ok.dir
-        a.name.now)
+    (g.H.Host.calls s.host).steady (unlink_of (is_held (g.H.Host.holds s.host)) tree c.in-Ok.dir
+    a.name.now)
     (ap (tree_answer before unlinks) (at_named s.fids a.dirfd
-        (λ dir. removed_by a.flags (is_named s.fids) tree dir a.name.now) a.name.now c.in-Ok.dir
-        c.in-Ok.ensures
+    (λ dir. removed_by a.flags (is_named s.fids) tree dir a.name.now) a.name.now c.in-Ok.dir
+    c.in-Ok.ensures
     ∙ plain (is_named s.fids) tree c.in-Ok.dir a.name.now a.flags c.if-flags-eq0.true
     ∙ sym (ap (λ (h : ℕ → Bool). unlink_of h tree c.in-Ok.dir a.name.now)
-        (held_alike (g.H.Host.holds s.host) s.fids s.sound.held))))
+    (held_alike (g.H.Host.holds s.host) s.fids s.sound.held))))
     (kept_named (g.H.Host.holds s.host) s.fids s.sound.held tree (g.met.H.Host.stored s.host).kept)
-        refl (g.H.Host.tree n) (g.H.Host.calls s.host).faults (g.H.Host.calls n).faults
+    refl (g.H.Host.tree n) (g.H.Host.calls s.host).faults (g.H.Host.calls n).faults
     (kept_after (g.H.Host.holds s.host) (g.H.Host.holds n) e.holds s.fids s.sound.held
-        (g.H.Host.tree n) (g.met.H.Host.stored n).kept)
+    (g.H.Host.tree n) (g.met.H.Host.stored n).kept)
     c.unlink.result e.leaves e.caused.cause
 
 pub returns-then-flags-eq-P9_AT_REMOVEDIR-clause-step :
@@ -107,18 +113,18 @@ returns-then-flags-eq-P9_AT_REMOVEDIR-clause-step g c =
     let e = c.rmdir.ensures in
     let before = server_state tree s.fids s.msize s.share in
     passed_step (unlinkat a.dirfd a.name.now a.flags) unlinks tree s.fids s.msize s.share
-        (g.H.Host.calls s.host).steady (rmdir_of (is_held (g.H.Host.holds s.host)) tree c.in-Ok.dir
-        a.name.now)
+    (g.H.Host.calls s.host).steady (rmdir_of (is_held (g.H.Host.holds s.host)) tree c.in-Ok.dir
+    a.name.now)
     (ap (tree_answer before unlinks) (at_named s.fids a.dirfd
-        (λ dir. removed_by a.flags (is_named s.fids) tree dir a.name.now) a.name.now c.in-Ok.dir
-        c.in-Ok.ensures
+    (λ dir. removed_by a.flags (is_named s.fids) tree dir a.name.now) a.name.now c.in-Ok.dir
+    c.in-Ok.ensures
     ∙ whole (is_named s.fids) tree c.in-Ok.dir a.name.now a.flags c.if-flags-eq-P9_AT_REMOVEDIR.true
     ∙ sym (ap (λ (h : ℕ → Bool). rmdir_of h tree c.in-Ok.dir a.name.now)
-        (held_alike (g.H.Host.holds s.host) s.fids s.sound.held))))
+    (held_alike (g.H.Host.holds s.host) s.fids s.sound.held))))
     (kept_named (g.H.Host.holds s.host) s.fids s.sound.held tree (g.met.H.Host.stored s.host).kept)
-        refl (g.H.Host.tree n) (g.H.Host.calls s.host).faults (g.H.Host.calls n).faults
+    refl (g.H.Host.tree n) (g.H.Host.calls s.host).faults (g.H.Host.calls n).faults
     (kept_after (g.H.Host.holds s.host) (g.H.Host.holds n) e.holds s.fids s.sound.held
-        (g.H.Host.tree n) (g.met.H.Host.stored n).kept)
+    (g.H.Host.tree n) (g.met.H.Host.stored n).kept)
     c.rmdir.result e.leaves e.caused.cause
 
 pub returns-clause-step : goal.returns-clause-step
@@ -128,12 +134,15 @@ returns-clause-step g c =
     let a = c.args in
     let before = server_state tree s.fids s.msize s.share in
     refused_step (unlinkat a.dirfd a.name.now a.flags) unlinks unlinks tree s.fids s.msize s.share
-        (g.H.Host.calls s.host).steady (removed_by a.flags (is_named s.fids) tree c.in-Ok.dir
-        a.name.now)
+    (g.H.Host.calls s.host).steady (removed_by a.flags (is_named s.fids) tree c.in-Ok.dir
+    a.name.now)
     (ap (tree_answer before unlinks) (at_named s.fids a.dirfd
-        (λ dir. removed_by a.flags (is_named s.fids) tree dir a.name.now) a.name.now c.in-Ok.dir
-        c.in-Ok.ensures))
+    (λ dir. removed_by a.flags (is_named s.fids) tree dir a.name.now) a.name.now c.in-Ok.dir
+    c.in-Ok.ensures))
     (kept_named (g.H.Host.holds s.host) s.fids s.sound.held tree (g.met.H.Host.stored s.host).kept)
-        (Errno 22)
-    (22, refl, other (is_named s.fids) tree c.in-Ok.dir a.name.now a.flags c.if-flags-eq0.false
-        c.if-flags-eq-P9_AT_REMOVEDIR.false) (g.H.Host.calls s.host).faults
+    (Errno 22) (
+      22,
+      refl,
+      other (is_named s.fids) tree c.in-Ok.dir a.name.now a.flags c.if-flags-eq0.false
+          c.if-flags-eq-P9_AT_REMOVEDIR.false,
+    ) (g.H.Host.calls s.host).faults

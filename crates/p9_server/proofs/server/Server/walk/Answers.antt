@@ -15,16 +15,16 @@ returns-in-Err-clause-step g c =
     let s = c.args.self.now in
     let tree = g.H.Host.tree s.host in
     let kept = kept_named (g.H.Host.holds s.host) s.fids s.sound.held tree
-        (g.met.H.Host.stored s.host).kept in
+    (g.met.H.Host.stored s.host).kept in
     walk_unstarted (λ (v : Vec _ _). v.items) tree s.fids s.msize s.share s.sound.plain c.args.fid
-        c.args.newfid c.args.names.now kept (g.H.Host.calls s.host).steady c.in-Err.e
-        (g.H.Host.calls s.host).faults c.in-Err.ensures
+    c.args.newfid c.args.names.now kept (g.H.Host.calls s.host).steady c.in-Err.e
+    (g.H.Host.calls s.host).faults c.in-Err.ensures
 
 pub reach-requires-clause-held : goal.reach-requires-clause-held
 reach-requires-clause-held g c =
     let s = c.args.self.now in
     start_held s.fids s.share.limit c.args.fid c.args.newfid _ c.in-Ok.start c.in-Ok.ensures
-        (g.H.Host.holds s.host) s.sound.held
+    (g.H.Host.holds s.host) s.sound.held
 
 pub reach-requires-clause-room : goal.reach-requires-clause-room
 reach-requires-clause-room g c = let s = c.args.self.now in sound_room (g.H.Host.holds s.host)
@@ -35,21 +35,21 @@ returns-in-Err-reach-clause-step g c =
     let s = c.args.self.now in
     let tree = g.H.Host.tree s.host in
     let kept = kept_named (g.H.Host.holds s.host) s.fids s.sound.held tree
-        (g.met.H.Host.stored s.host).kept in
+    (g.met.H.Host.stored s.host).kept in
     let e = c.in-Err-reach.ensures in
     walk_stopped (λ (v : Vec _ _). v.items) tree s.fids s.msize s.share s.sound.plain c.args.fid
-        c.args.newfid c.args.names.now kept (g.H.Host.calls s.host).steady c.in-Ok.start
-        c.in-Ok.ensures
+    c.args.newfid c.args.names.now kept (g.H.Host.calls s.host).steady c.in-Ok.start
+    c.in-Ok.ensures
     (g.H.Host.tree c.reach.new.host) (g.H.Host.calls s.host).faults
-        (g.H.Host.calls c.reach.new.host).faults c.reach.new.qids e.tree c.in-Err-reach.e
-        c.told_so_far.result c.told_so_far.ensures.told c.told_so_far.ensures.error e.answer e.cause
+    (g.H.Host.calls c.reach.new.host).faults c.reach.new.qids e.tree c.in-Err-reach.e
+    c.told_so_far.result c.told_so_far.ensures.told c.told_so_far.ensures.error e.answer e.cause
 
 pub name_by_fid-requires-clause-kept : goal.name_by_fid-requires-clause-kept
 name_by_fid-requires-clause-kept g c =
     let s = c.args.self.now in
     subst (λ (t : Tree). IsKept t.records (is_held s.fids)) (sym c.in-Ok-reach.ensures.tree)
     (kept_named (g.H.Host.holds s.host) s.fids s.sound.held (g.H.Host.tree s.host)
-        (g.met.H.Host.stored s.host).kept)
+    (g.met.H.Host.stored s.host).kept)
 
 pub invariant_of-self-2 : goal.invariant_of-self-2
 invariant_of-self-2 g c =
@@ -59,9 +59,9 @@ invariant_of-self-2 g c =
       sound = sound_with (g.H.Host.holds s.host) s.fids s.msize s.share s.sound
           (g.H.Host.holds c.name_by_fid.new.host) c.name_by_fid.new.fids e.held
           (named_few (g.H.Host.holds s.host) s.fids s.msize s.share s.sound c.args.newfid
-              c.in-Ok-reach.at c.name_by_fid.new.fids
-              (start_room s.fids s.share.limit c.args.fid c.args.newfid _ c.in-Ok.start
-              c.in-Ok.ensures) c.name_by_fid.result e.fids e.memory);
+          c.in-Ok-reach.at c.name_by_fid.new.fids
+          (start_room s.fids s.share.limit c.args.fid c.args.newfid _ c.in-Ok.start
+          c.in-Ok.ensures) c.name_by_fid.result e.fids e.memory);
     }
 
 pub returns-in-Err-name_by_fid-clause-step : goal.returns-in-Err-name_by_fid-clause-step
@@ -69,14 +69,14 @@ returns-in-Err-name_by_fid-clause-step g c =
     let s = c.args.self.now in
     let tree = g.H.Host.tree s.host in
     let kept = kept_named (g.H.Host.holds s.host) s.fids s.sound.held tree
-        (g.met.H.Host.stored s.host).kept in
+    (g.met.H.Host.stored s.host).kept in
     let w = c.in-Ok-reach.ensures in
     let e = c.in-Err-name_by_fid.ensures in
     walk_no_memory (λ (v : Vec _ _). v.items) tree s.fids s.msize s.share s.sound.plain c.args.fid
-        c.args.newfid c.args.names.now kept (g.H.Host.calls s.host).steady c.in-Ok.start
-        c.in-Ok.ensures
+    c.args.newfid c.args.names.now kept (g.H.Host.calls s.host).steady c.in-Ok.start
+    c.in-Ok.ensures
     (g.H.Host.tree c.name_by_fid.new.host) (g.H.Host.calls s.host).faults
-        (g.H.Host.calls c.name_by_fid.new.host).faults c.name_by_fid.new.fids
+    (g.H.Host.calls c.name_by_fid.new.host).faults c.name_by_fid.new.fids
     (e.tree ∙ ap (keep (is_held c.name_by_fid.new.fids)) w.tree)
-        (ap (λ (k : Calls). k.faults) e.calls ∙ w.cause.counted) c.in-Err-name_by_fid.e e.memory.0
-        e.memory.1
+    (ap (λ (k : Calls). k.faults) e.calls ∙ w.cause.counted) c.in-Err-name_by_fid.e e.memory.0
+    e.memory.1

@@ -13,40 +13,40 @@ returns-in_default-clause-step g c =
     let s = c.args.self.now in
     let tree = g.H.Host.tree s.host in
     let kept = kept_named (g.H.Host.holds s.host) s.fids s.sound.held tree
-        (g.met.H.Host.stored s.host).kept in
+    (g.met.H.Host.stored s.host).kept in
     unknown_step tree s.fids s.msize s.share c.args.fid c.args.offset c.args.bytes.now kept
-        (g.H.Host.calls s.host).steady c.in_default.ensures (g.H.Host.calls s.host).faults
+    (g.H.Host.calls s.host).steady c.in_default.ensures (g.H.Host.calls s.host).faults
 
 pub returns-then-not-is_writable-clause-step : goal.returns-then-not-is_writable-clause-step
 returns-then-not-is_writable-clause-step g c =
     let s = c.args.self.now in
     let tree = g.H.Host.tree s.host in
     let kept = kept_named (g.H.Host.holds s.host) s.fids s.sound.held tree
-        (g.met.H.Host.stored s.host).kept in
+    (g.met.H.Host.stored s.host).kept in
     unwritable_step tree s.fids s.msize s.share c.args.fid c.args.offset c.args.bytes.now kept
-        (g.H.Host.calls s.host).steady c.in-Some.state.now c.in-Some.ensures
-        c.if-not-is_writable.ensures (g.H.Host.calls s.host).faults
+    (g.H.Host.calls s.host).steady c.in-Some.state.now c.in-Some.ensures
+    c.if-not-is_writable.ensures (g.H.Host.calls s.host).faults
 
 pub write_place-requires : goal.write_place-requires
 write_place-requires g c =
     let s = c.args.self.now in
     let tree = g.H.Host.tree s.host in
     let kept = kept_named (g.H.Host.holds s.host) s.fids s.sound.held tree
-        (g.met.H.Host.stored s.host).kept in
+    (g.met.H.Host.stored s.host).kept in
     writable_held tree s.fids s.msize s.share c.args.fid c.args.offset c.args.bytes.now kept
-        (g.H.Host.calls s.host).steady c.in-Some.state.now c.in-Some.ensures (g.H.Host.holds s.host)
-        s.sound.held c.in-Some.state.now.ino refl
+    (g.H.Host.calls s.host).steady c.in-Some.state.now c.in-Some.ensures (g.H.Host.holds s.host)
+    s.sound.held c.in-Some.state.now.ino refl
 
 pub write_at-requires : goal.write_at-requires
 write_at-requires g c =
     let s = c.args.self.now in
     let tree = g.H.Host.tree s.host in
     let kept = kept_named (g.H.Host.holds s.host) s.fids s.sound.held tree
-        (g.met.H.Host.stored s.host).kept in
+    (g.met.H.Host.stored s.host).kept in
     subst (λ (k : Holds). 0 < hold_count k c.ino-ino.result) (sym c.in-Ok.ensures.holds)
     (writable_held tree s.fids s.msize s.share c.args.fid c.args.offset c.args.bytes.now kept
-        (g.H.Host.calls s.host).steady c.in-Some.state.now c.in-Some.ensures (g.H.Host.holds s.host)
-        s.sound.held c.ino-ino.result c.ino-ino.ensures)
+    (g.H.Host.calls s.host).steady c.in-Some.state.now c.in-Some.ensures (g.H.Host.holds s.host)
+    s.sound.held c.ino-ino.result c.ino-ino.ensures)
 
 pub returns-in-Ok-write_at-clause-step : goal.returns-in-Ok-write_at-clause-step
 returns-in-Ok-write_at-clause-step g c =
@@ -56,14 +56,14 @@ returns-in-Ok-write_at-clause-step g c =
     let e = c.in-Ok-write_at.ensures in
     let tree = g.H.Host.tree s.host in
     let kept = kept_named (g.H.Host.holds s.host) s.fids s.sound.held tree
-        (g.met.H.Host.stored s.host).kept in
+    (g.met.H.Host.stored s.host).kept in
     write_step tree s.fids s.msize s.share c.args.fid c.args.offset c.args.bytes.now kept
-        (g.H.Host.calls s.host).steady c.in-Some.state.now c.in-Some.ensures
-        c.if-not-is_writable.ensures c.ino-ino.result c.in-Ok.place c.ino-ino.ensures p.answer
+    (g.H.Host.calls s.host).steady c.in-Some.state.now c.in-Some.ensures
+    c.if-not-is_writable.ensures c.ino-ino.result c.in-Ok.place c.ino-ino.ensures p.answer
     (g.H.Host.tree c.write_place.new.host) (g.H.Host.tree h) p.tree (g.H.Host.calls s.host).faults
-        (g.H.Host.calls h).faults (g.met.H.Host.good s.host)
+    (g.H.Host.calls h).faults (g.met.H.Host.good s.host)
     (kept_after (g.H.Host.holds s.host) (g.H.Host.holds h) (e.holds ∙ p.holds) s.fids s.sound.held
-        (g.H.Host.tree h) (g.met.H.Host.stored h).kept)
+    (g.H.Host.tree h) (g.met.H.Host.stored h).kept)
     c.in-Ok-write_at.n e.leaves (e.caused.cause.counted ∙ p.cause.counted)
 
 pub returns-in-Err-write_at-clause-step : goal.returns-in-Err-write_at-clause-step
@@ -75,12 +75,12 @@ returns-in-Err-write_at-clause-step g c =
     let e = c.in-Err-write_at.ensures in
     let tree = g.H.Host.tree s.host in
     let kept = kept_named (g.H.Host.holds s.host) s.fids s.sound.held tree
-        (g.met.H.Host.stored s.host).kept in
+    (g.met.H.Host.stored s.host).kept in
     failed_write tree s.fids s.msize s.share c.args.fid c.args.offset c.args.bytes.now kept
-        (g.H.Host.calls s.host).steady c.in-Some.state.now c.in-Some.ensures
-        c.if-not-is_writable.ensures c.ino-ino.result c.in-Ok.place c.ino-ino.ensures p.answer
+    (g.H.Host.calls s.host).steady c.in-Some.state.now c.in-Some.ensures
+    c.if-not-is_writable.ensures c.ino-ino.result c.in-Ok.place c.ino-ino.ensures p.answer
     (g.H.Host.tree w) (g.H.Host.tree h) p.tree (g.H.Host.calls s.host).faults
-        (g.H.Host.calls h).faults
+    (g.H.Host.calls h).faults
     c.in-Err-write_at.e e.leaves (later_cause (g.H.Host.calls s.host).steady
-        (g.H.Host.calls w).steady (g.H.Host.calls s.host).faults (g.H.Host.calls w).faults
-        (g.H.Host.calls h).faults _ p.steady p.cause.counted e.caused.cause)
+    (g.H.Host.calls w).steady (g.H.Host.calls s.host).faults (g.H.Host.calls w).faults
+    (g.H.Host.calls h).faults _ p.steady p.cause.counted e.caused.cause)

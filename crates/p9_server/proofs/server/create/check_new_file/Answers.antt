@@ -9,6 +9,6 @@ pub returns-in-Err-clause-answer : goal.returns-in-Err-clause-answer
 returns-in-Err-clause-answer g c =
     let h = c.args.host.now in
     fault_answers (unless (new_file_refused (is_directory_at
-        (body_at (g.H.Host.tree h).records c.args.dir)) c.args.name.now c.args.flags)) c.in-Err.e
+    (body_at (g.H.Host.tree h).records c.args.dir)) c.args.name.now c.args.flags)) c.in-Err.e
     (only_fault (g.H.Host.tree h) (g.H.Host.holds h) c.args.dir (g.met.H.Host.stored h).stored
-        c.requires c.in-Err.e c.in-Err.ensures.answer c.in-Err.ensures.memory)
+    c.requires c.in-Err.e c.in-Err.ensures.answer c.in-Err.ensures.memory)

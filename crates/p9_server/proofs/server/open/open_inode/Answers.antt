@@ -16,7 +16,7 @@ returns-in-Ok-empty_where-clause-answer g c =
     let s = c.stat.ensures in
     then_told (g.H.Host.tree h) (g.H.Host.tree n) c.args.ino c.args.flags o.answer.exactly
     (subst (λ (v : Tree). Leaves (emptied v c.args.ino c.args.flags) v (g.H.Host.tree n) (Ok tt))
-        o.tree e.leaves)
+    o.tree e.leaves)
     (g.H.Host.holds n) (g.met.H.Host.stored n).stored
-        (subst (λ (k : Holds). 0 < hold_count k c.args.ino) (sym (e.holds ∙ o.holds)) c.requires)
+    (subst (λ (k : Holds). 0 < hold_count k c.args.ino) (sym (e.holds ∙ o.holds)) c.requires)
     (g.H.Host.tree c.stat.new.self) s.tree c.stat.result s.answer s.memory

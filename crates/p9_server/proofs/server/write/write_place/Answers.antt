@@ -10,5 +10,5 @@ returns-in-Err-clause-answer g c =
     let h = c.args.host.now in
     fault_answers (Ok (write_place (g.H.Host.tree h) c.args.state.now c.args.offset)) c.in-Err.e
     (only_fault (g.H.Host.tree h) (g.H.Host.holds h) c.ino.result (g.met.H.Host.stored h).stored
-        (subst (λ i. 0 < hold_count (g.H.Host.holds h) i) (sym c.ino.ensures) c.requires) c.in-Err.e
-        c.in-Err.ensures.answer c.in-Err.ensures.memory)
+    (subst (λ i. 0 < hold_count (g.H.Host.holds h) i) (sym c.ino.ensures) c.requires) c.in-Err.e
+    c.in-Err.ensures.answer c.in-Err.ensures.memory)

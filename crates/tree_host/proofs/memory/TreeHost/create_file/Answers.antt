@@ -17,7 +17,7 @@ invariant_of-self c =
     let r = empty_file s.moment a.mode in
     let new = new_file s.moment a.mode a.dir s.good.moment in
     let made = c.in-Ok.ensures.ok ∙ ap (λ (r : Record). (with_new t a.dir n r).records)
-        c.empty_file-node.ensures in
+    c.empty_file-node.ensures in
     record {
       good = with_new_it_good t s.holds s.good s.stored a.dir n free r new c.requires
           c.create_node.new.nodes made;

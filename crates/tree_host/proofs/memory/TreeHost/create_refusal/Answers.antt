@@ -8,4 +8,4 @@ pub returns : goal.returns
 returns c =
     let s = c.args.self.now in
     c.refusal.ensures ∙ sym (refused_as (tree_from s.nodes s.next s.limits s.moment) s.holds s.good
-        s.stored c.args.dir c.args.name.now)
+    s.stored c.args.dir c.args.name.now)

@@ -8,4 +8,4 @@ pub returns : goal.returns
 returns c =
     let s = c.args.self.now in
     c.has_no_links.ensures ∙ unlinked_as (tree_from s.nodes s.next s.limits s.moment) s.holds s.good
-        s.stored c.args.dir [] c.args.dir [] 0 c.args.dir c.requires
+    s.stored c.args.dir [] c.args.dir [] 0 c.args.dir c.requires

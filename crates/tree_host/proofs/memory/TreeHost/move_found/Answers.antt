@@ -32,7 +32,7 @@ returns-clause-leaves c =
     let s = a.self.now in
     let t = tree_from s.nodes s.next s.limits s.moment in
     told_moved (is_held s.holds) t a.olddir a.oldname.now a.newdir a.newname.now a.ino
-        c.found-there.result (result_ok (lookup_of t a.newdir a.newname.now)) c.found-there.ensures
-        (sym c.is_same.ensures ∙ c.if-is_same.false)
+    c.found-there.result (result_ok (lookup_of t a.newdir a.newname.now)) c.found-there.ensures
+    (sym c.is_same.ensures ∙ c.if-is_same.false)
     (sym (c.move_refusal-refusal.ensures s.moment) ∙ c.in_default.is) _ c.move_free.result
-        c.move_free.ensures.ok c.move_free.ensures.err
+    c.move_free.ensures.ok c.move_free.ensures.err

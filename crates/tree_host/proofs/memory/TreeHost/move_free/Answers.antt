@@ -12,10 +12,10 @@ invariant_of-self c =
     let s = a.self.now in
     let q = c.requires in
     let made = c.sweep_replaced.ensures ∙ ap (λ (rs : Records). swept_of (is_held s.holds) a.there
-        rs) c.in-Ok.ensures.ok in
+    rs) c.in-Ok.ensures.ok in
     let is = moves (tree_from s.nodes s.next s.limits s.moment) s.holds s.good s.stored a.olddir
-        a.oldname.now a.newdir a.newname.now a.ino q.named q.old q.directory q.live a.there q.new
-        q.other q.free c.sweep_replaced.new.nodes made in
+    a.oldname.now a.newdir a.newname.now a.ino q.named q.old q.directory q.live a.there q.new
+    q.other q.free c.sweep_replaced.new.nodes made in
     record { good = is.good; stored = is.held; timed = s.timed }
 
 pub returns-in-Ok-clause-ok : goal.returns-in-Ok-clause-ok
@@ -24,7 +24,7 @@ returns-in-Ok-clause-ok c =
     let s = a.self.now in
     let q = c.requires in
     let made = c.sweep_replaced.ensures ∙ ap (λ (rs : Records). swept_of (is_held s.holds) a.there
-        rs) c.in-Ok.ensures.ok in
+    rs) c.in-Ok.ensures.ok in
     (moves (tree_from s.nodes s.next s.limits s.moment) s.holds s.good s.stored a.olddir
-        a.oldname.now a.newdir a.newname.now a.ino q.named q.old q.directory q.live a.there q.new
-        q.other q.free c.sweep_replaced.new.nodes made).tree
+    a.oldname.now a.newdir a.newname.now a.ino q.named q.old q.directory q.live a.there q.new
+    q.other q.free c.sweep_replaced.new.nodes made).tree

@@ -8,4 +8,4 @@ pub returns : goal.returns
 returns c =
     let s = c.args.self.now in
     c.link_refusal.ensures ∙ sym (named_as (tree_from s.nodes s.next s.limits s.moment) s.holds
-        s.good s.stored c.args.dir c.args.name.now c.args.ino)
+    s.good s.stored c.args.dir c.args.name.now c.args.ino)

@@ -15,7 +15,7 @@ pub invariant_of-result : goal.invariant_of-result
 invariant_of-result c =
     let a = c.args in
     let records = c.in-Ok.ensures.ok ∙ ap (λ (rs : Records). map.insert rs TOP c.top.result)
-        c.new-nodes.ensures ∙ ap (λ (r : Record). map.insert map.empty TOP r) c.top.ensures in
+    c.new-nodes.ensures ∙ ap (λ (r : Record). map.insert map.empty TOP r) c.top.ensures in
     record {
       good = subst (λ (rs : Records). IsGoodTree (tree_from rs 2 a.limits a.moment)) (sym records)
           (new_tree_good a.limits a.moment a.born a.mode a.uid a.gid c.requires.limits
@@ -23,6 +23,6 @@ invariant_of-result c =
       stored = subst (λ (h : Holds). IsHeldIn (tree_from c.insert.new.self 2 a.limits a.moment) h)
           (sym c.new.ensures)
           (subst (λ (rs : Records). IsHeldIn (tree_from rs 2 a.limits a.moment) map.empty)
-              (sym records) (new_held a.limits a.moment a.born a.mode a.uid a.gid));
+          (sym records) (new_held a.limits a.moment a.born a.mode a.uid a.gid));
       timed = c.requires.born;
     }

@@ -13,7 +13,7 @@ invariant_of-self c =
     let s = a.self.now in
     let t = tree_from s.nodes s.next s.limits s.moment in
     let made = c.sweep.ensures ∙ ap (λ (rs : Records). swept (is_held s.holds) rs a.ino)
-        c.remove_entry.ensures in
+    c.remove_entry.ensures in
     record {
       good = gone_good t s.holds s.good s.stored a.dir a.name.now a.ino c.requires.found
           c.requires.empty c.sweep.new.nodes made;
@@ -28,6 +28,6 @@ returns-clause-tree c =
     let s = a.self.now in
     let t = tree_from s.nodes s.next s.limits s.moment in
     let made = c.sweep.ensures ∙ ap (λ (rs : Records). swept (is_held s.holds) rs a.ino)
-        c.remove_entry.ensures in
+    c.remove_entry.ensures in
     gone_tree t s.holds s.good s.stored a.dir a.name.now a.ino c.requires.found c.requires.empty
-        c.sweep.new.nodes made
+    c.sweep.new.nodes made

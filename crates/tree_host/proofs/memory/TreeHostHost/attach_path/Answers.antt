@@ -14,7 +14,7 @@ invariant_of-self-2 c =
     let i = c.in_ok-ino.ino in
     let names = path_names c.args.path.now in
     let had = root_is_stored t names (Ok TOP) i
-        (told_ok (root_of t names) i (c.in_ok-ino.ensures.answer s.next s.limits s.moment)) in
+    (told_ok (root_of t names) i (c.in_ok-ino.ensures.answer s.next s.limits s.moment)) in
     record {
       good = s.good;
       stored = either_held t s.holds c.hold.new.holds i s.stored had c.hold.result c.hold.ensures.ok

@@ -13,7 +13,7 @@ invariant_of-self-2 c =
     let t = tree_from s.nodes s.next s.limits s.moment in
     let i = c.in_ok-ino.ino in
     let named = found_is_named false t c.args.dir c.args.name.now i
-        (told_ok (find false t c.args.dir c.args.name.now) i c.in_ok-ino.ensures) in
+    (told_ok (find false t c.args.dir c.args.name.now) i c.in_ok-ino.ensures) in
     record {
       good = s.good;
       stored = either_held t s.holds c.hold.new.holds i s.stored (named_is_stored t s.good i named)

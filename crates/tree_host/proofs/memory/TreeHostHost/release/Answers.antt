@@ -14,7 +14,7 @@ invariant_of-self c =
     let s = c.args.self.now in
     let t = tree_from s.nodes s.next s.limits s.moment in
     let left = less_tree t s.holds c.lower.new.holds c.args.ino s.good s.stored c.requires
-        c.lower.ensures c.sweep.new.nodes c.sweep.ensures in
+    c.lower.ensures c.sweep.new.nodes c.sweep.ensures in
     record {
       good = subst (λ (rs : Records). IsGoodTree (tree_from rs s.next s.limits s.moment)) (sym left)
           (keep_good t s.good (is_held c.lower.new.holds));
@@ -29,5 +29,5 @@ returns-clause-tree c =
     let s = c.args.self.now in
     let t = tree_from s.nodes s.next s.limits s.moment in
     ap (λ (rs : Records). tree_from rs s.next s.limits s.moment)
-        (less_tree t s.holds c.lower.new.holds c.args.ino s.good s.stored c.requires c.lower.ensures
-        c.sweep.new.nodes c.sweep.ensures)
+    (less_tree t s.holds c.lower.new.holds c.args.ino s.good s.stored c.requires c.lower.ensures
+    c.sweep.new.nodes c.sweep.ensures)

@@ -11,6 +11,6 @@ no_holds h is i = ap (λ h. hold_count h i) is ∙ hold_count-empty i
 pub returns : goal.returns
 returns g c i =
     let zero = no_holds c.put_directory-2.new.host.holds
-        (c.put_directory-2.ensures ∙ c.put_directory.ensures ∙ c.fail_at.ensures.holds
-        ∙ c.in_ok-host.ensures.holds) i in
+    (c.put_directory-2.ensures ∙ c.put_directory.ensures ∙ c.fail_at.ensures.holds
+    ∙ c.in_ok-host.ensures.holds) i in
     omega (arith, zero)

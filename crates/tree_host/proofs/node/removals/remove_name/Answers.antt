@@ -9,11 +9,11 @@ returns-in-Some c =
     let n = c.args.name.now in
     let same : c.args.entries.now.items ≡ c.deref.result.now = search rules in
     c.remove.ensures.items ∙ without_place n c.args.entries.now.items c.in-Some.place
-        (ap (place_among n) same ∙ sym c.place_of.ensures.found ∙ c.in-Some.is)
+    (ap (place_among n) same ∙ sym c.place_of.ensures.found ∙ c.in-Some.is)
 
 pub returns-in-None : goal.returns-in-None
 returns-in-None c =
     let n = c.args.name.now in
     let same : c.args.entries.now.items ≡ c.deref.result.now = search rules in
     without_none n c.args.entries.now.items (ap (place_among n) same ∙ sym c.place_of.ensures.found
-        ∙ c.in-None.is)
+    ∙ c.in-None.is)

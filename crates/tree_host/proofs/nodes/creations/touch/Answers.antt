@@ -11,6 +11,6 @@ returns-in-Some c =
     let i = c.args.ino in
     let w = c.touch.new.self in
     subst (λ o. OnSome o (c.get_mut.follows.lender w ≡ map.insert rs i w)) c.in-Some.is
-        (c.get_mut.follows.holds w)
+    (c.get_mut.follows.holds w)
     ∙ ap (λ r. map.insert rs i r) c.touch.ensures
     ∙ ap (λ o. changed (restamped c.args.moment) o rs i) c.in-Some.ensures.value

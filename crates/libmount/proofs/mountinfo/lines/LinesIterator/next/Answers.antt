@@ -19,15 +19,15 @@ returns-clause-steps c =
     record {
       gives =
           ap (λ (r : Option (Bor (List ℕ))). numbered before (place_of r)
-              (parts line_feed (option_copied r))) c.in_ok-text.was
+          (parts line_feed (option_copied r))) c.in_ok-text.was
           ∙ ap (numbered before text.ref_ptr.1) c.first_part.ensures.parts
           ∙ numbered-first before text.ref_ptr.1 line.now rest c.first_part.ensures.rest_place
           ∙ ap (λ (place : ℕ). (number, (place, line.now))
-              ∷ numbered number (place_of rest) (parts line_feed (option_copied rest)))
-              (sym c.first_part.ensures.front_place)
+          ∷ numbered number (place_of rest) (parts line_feed (option_copied rest)))
+          (sym c.first_part.ensures.front_place)
           ∙ ap (λ (n : ℕ). (n, (line.ref_ptr.1, line.now))
-              ∷ numbered n (place_of rest) (parts line_feed (option_copied rest)))
-              (sym c.line_feeds-self.ensures);
+          ∷ numbered n (place_of rest) (parts line_feed (option_copied rest)))
+          (sym c.line_feeds-self.ensures);
       part = subst (λ (r : Option (Bor (List ℕ))). LiesInRest r c.first_part.result.0)
           (sym c.in_ok-text.was) c.first_part.ensures.front;
       rest = subst (λ (r : Option (Bor (List ℕ))). StaysIn r rest) (sym c.in_ok-text.was)

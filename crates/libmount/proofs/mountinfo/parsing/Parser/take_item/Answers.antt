@@ -6,7 +6,7 @@ use Rattle.libmount.proofs.mountinfo.parsing.Parser.take_item.Goals as goal
 pub returns-in-Some-item_of-clause-part : goal.returns-in-Some-item_of-clause-part
 returns-in-Some-item_of-clause-part c =
     Item-trans _ _ c.in-Some.line c.in-Some-item_of.item c.lines.invariant.text
-        c.in-Some.ensures.steps.part c.in-Some-item_of.ensures.parts
+    c.in-Some.ensures.steps.part c.in-Some-item_of.ensures.parts
 
 pub returns-in-Some-item_of-clause-text : goal.returns-in-Some-item_of-clause-text
 returns-in-Some-item_of-clause-text c = StaysIn-trans _ _ _ c.lines.invariant.text

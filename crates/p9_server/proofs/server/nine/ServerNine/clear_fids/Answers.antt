@@ -6,5 +6,7 @@ pub invariant_of-self : goal.invariant_of-self
 invariant_of-self g c =
     let s = c.args.self.now in
     let e = c.release_all.ensures in
-    record { sound = sound_empty (g.H.Host.holds c.release_all.new.host) c.release_all.new.fids
-        s.msize s.share e.holds e.fids s.sound.bounded s.sound.roomy s.sound.below s.sound.plain }
+    record {
+      sound = sound_empty (g.H.Host.holds c.release_all.new.host) c.release_all.new.fids
+          s.msize s.share e.holds e.fids s.sound.bounded s.sound.roomy s.sound.below s.sound.plain;
+    }
