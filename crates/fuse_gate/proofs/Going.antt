@@ -136,7 +136,8 @@ module _ {g : Gate} {s : ServerState} (st : IsInStep g s) where
           in (
             m.0,
             remove_keeps g.nodes id q
-                (λ same. ne (sym m.2 ∙ (let one : Some m.0 ≡ Some n = sym m.1 ∙ ap (get g.nodes) same
+                (λ same. ne (sym m.2 ∙ (let one : Some m.0 ≡ Some n = sym m.1
+                ∙ ap (get g.nodes) same
                 ∙ at in let is : m.0 ≡ n = cc in ap (λ (x : Node). x.ino) is))) ∙ m.1,
             m.2,
           ));

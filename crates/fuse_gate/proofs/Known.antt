@@ -33,7 +33,8 @@ module _ {g : Gate} {s : ServerState} (st : IsInStep g s) (ino : ℕ) where
       → n.ino ≡ ino → node_found (machine_of g s) ino ≡ Some (id, node_of n)
   known_found id n indexed at is = by_found (find names_it (entries (mapped node_of g.nodes)))
       refl where
-        by_found : (o : Option (ℕ × MachineNode)) → find names_it (entries (mapped node_of g.nodes)) ≡ o
+        by_found : (o : Option (ℕ × MachineNode))
+            → find names_it (entries (mapped node_of g.nodes)) ≡ o
             → o ≡ Some (id, node_of n)
         by_found None none =
             let misses = none_passes names_it (mapped node_of g.nodes) id (node_of n) none

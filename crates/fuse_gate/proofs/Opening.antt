@@ -288,7 +288,8 @@ module _ {g : Gate} (n : Moment) {id : ℕ} {k : Node} {flags : ℕ} (h : MayOpe
                     ∙ ap (λ (x : Result Qid ℕ × ServerState). x.0) q in
                     let errno : e ≡ d = cc in
                     let told = ap (λ c. machine_opened (machine_of g s) k.ino flags c) c in
-                    subst (λ count. Serves opens count (Untouched s.tree) (g, n) (g3, n3) (Refused e))
+                    subst (λ count. Serves opens count (Untouched s.tree) (g, n) (g3, n3)
+                    (Refused e))
                     (sym (ap opened_messages c))
                     (unchanged h.stands opens 3 (Untouched s.tree) good g3 n3 (Refused e)
                     (one_more_sent two_sent g3 n3 sent_3 asked_3) (gone_again n3 left)
@@ -367,10 +368,12 @@ module _ {g : Gate} (n : Moment) {id : ℕ} {k : Node} {flags : ℕ} (h : MayOpe
                   let asked = two_sent.messages.asked in
                   let fine = opened_good s.settings (machine_of g s) h.stands.good flags k.ino
                   (to_read flags h.served).access h.room h.file checks refl in
-                  subst (λ (x : Gate). ServesOpening k flags (g, n) (x, n2) (Opened g.next)) (sym gate)
+                  subst (λ (x : Gate). ServesOpening k flags (g, n) (x, n2) (Opened g.next))
+                  (sym gate)
                   (made opens (opened_messages checks) (Untouched s.tree) (g, n)
                   (g_open g2.nine_frames, n2) (Opened g.next) good_2
-                  (subst (ArePaired (g_open g2.nine_frames)) (sym after) (opened_paired g2.nine_frames))
+                  (subst (ArePaired (g_open g2.nine_frames)) (sym after)
+                  (opened_paired g2.nine_frames))
                   (subst (λ (x : ServerState). LEAST_MSIZE ≤ x.msize) (sym after) h.stands.roomy)
                   (ap (λ (x : ServerState). x.settings) after) fine
                   (sym (ap (λ (x : Reply × MachineState). x.0) told))
@@ -379,4 +382,8 @@ module _ {g : Gate} (n : Moment) {id : ℕ} {k : Node} {flags : ℕ} (h : MayOpe
                   record (machine_of g s) { handles = x; next = g.next + 1 } in y)
                   (mapped-insert handle_of g.handles g.next new_handle)
                   ∙ sym (ap (λ (x : Reply × MachineState). x.1) told))
-                  (record { frames = omega (arith, two, frames); asked = omega (arith, two, asked) }))
+                  (record {
+                    frames = omega (arith, two, frames);
+                    asked =
+                        omega (arith, two, asked);
+                  }))

@@ -43,7 +43,8 @@ served_ending (Err r) e is served = absurd (stopped_apart r.handled r.nine_frame
           → e.status ≡ Served → ⊥
       by_status x e is stopped served =
           let same : x ≡ e = cc in
-          let clash : Stopped ≡ Served = sym stopped ∙ ap (λ (y : Ending). y.status) same ∙ served in cc
+          let clash : Stopped ≡ Served = sym stopped ∙ ap (λ (y : Ending). y.status) same
+          ∙ served in cc
 
       stopped_apart : (handled nine : ℕ) (cause : BridgeError) (e : Ending)
           → stopped_by handled nine cause ≡ Ok e → e.status ≡ Served → ⊥

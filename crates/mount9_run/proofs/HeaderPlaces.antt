@@ -149,7 +149,8 @@ joined : (path : List ℕ) → is_record_path path ≡ true
 joined path h = by_first path (and_left (is_slash (slice_index path 0)) _ rooted)
     (or_right (length path == 1) _ (and_right (is_root path) _ h)
     (and_right (is_slash (slice_index path 0)) _ rooted)) where
-      rooted : (is_slash (slice_index path 0) && ((length path == 1) || are_joined_names (drop 1 path)))
+      rooted : (is_slash (slice_index path 0) &&
+          ((length path == 1) || are_joined_names (drop 1 path)))
           ≡ true
       rooted = and_right (nat_le (length path) PATH_LIMIT) _ (and_left (is_root path) _ h)
 

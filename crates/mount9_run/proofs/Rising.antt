@@ -70,7 +70,8 @@ module _ {X : Type 0} (key : X → ℕ) where
             let found = later is in
             let low : key y ≤ k = fails_other k (key y) fails in
             let up : k < key x = found.1 in (
-              found.0 ∙ ap (λ l. x ∷ l) (sym (ap (λ b. cond b (y ∷ above (key x) ys) (above (key x) ys))
+              found.0 ∙ ap (λ l. x ∷ l) (sym (ap
+                  (λ b. cond b (y ∷ above (key x) ys) (above (key x) ys))
                   (other_fails (key x) (key y) (omega arith)))),
               found.1,
             )

@@ -67,8 +67,10 @@ apart p q keeps_q keeps_p either new more d =
       by_old None (Some y) at there (Some v) more =
           ap (take_by q more (p.put v d)) (keeps_q v d ∙ there)
       by_old None None at there None None = refl
-      by_old None None at there None (Some w) = sym (ap (take_by p None (q.put w d)) (keeps_p w d ∙ at))
-      by_old None None at there (Some v) None = ap (take_by q None (p.put v d)) (keeps_q v d ∙ there)
+      by_old None None at there None (Some w) =
+          sym (ap (take_by p None (q.put w d)) (keeps_p w d ∙ at))
+      by_old None None at there (Some v) None =
+          ap (take_by q None (p.put v d)) (keeps_q v d ∙ there)
       by_old None None at there (Some v) (Some w) =
           ap (take_by q (Some w) (p.put v d)) (keeps_q v d ∙ there) ∙ ap Some (either v w d)
           ∙ sym (ap (take_by p (Some v) (q.put w d)) (keeps_p w d ∙ at))

@@ -136,7 +136,8 @@ module _ (s s1 : ServerState) (f0 f1 : ℕ) where
         closed f.ino,
         ap (λ (x : Result (Unit {0}) ℕ × ServerState). x.1.fids)
             (told_by s s1 f0 f1 (copied_told s f.ino 3) u
-            (subst (λ (r : Result (Unit {0}) ℕ). Asks (copied_told s f.ino 3) Untouched r s s1 f0 f1)
+            (subst (λ (r : Result (Unit {0}) ℕ). Asks (copied_told s f.ino 3) Untouched r s s1 f0
+            f1)
             is (a f at))),
       )
 

@@ -245,7 +245,8 @@ clamped_times t ino set0 given0 set1 given1 s0 s1 =
     by_test (is_timely (new_time set0 given0 s0) && is_timely (new_time set1 given1 s1)) refl where
       by_test : (b : Bool) → (is_timely (new_time set0 given0 s0) && is_timely
           (new_time set1 given1 s1)) ≡ b
-          → set_times_of t ino (new_time set0 given0 (clamped s0)) (new_time set1 given1 (clamped s1))
+          → set_times_of t ino (new_time set0 given0 (clamped s0))
+          (new_time set1 given1 (clamped s1))
           ≡ set_times_of t ino (new_time set0 given0 s0) (new_time set1 given1 s1)
       by_test true is = let both = both_true (is_timely (new_time set0 given0 s0))
           (is_timely (new_time set1 given1 s1)) is in

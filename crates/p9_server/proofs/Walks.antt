@@ -222,7 +222,11 @@ module _ {t0 t : Tree} {h0 h : Holds} {names : List (List ℕ)} {start at k : �
     }
     stopped_walks Fault f = record {
       exactly =
-          λ some. (let count = length-map qids qid_plain in let had = w.count in omega arith, front);
+          λ some. (
+            let count = length-map qids qid_plain in let had =
+                w.count in omega arith,
+            front,
+          );
     }
     stopped_walks NoMemory f = record { exactly = tt }
 

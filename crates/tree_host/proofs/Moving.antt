@@ -65,7 +65,8 @@ without-push name (f ∷ es) x e is = by_test (bytes_eq f.name name) is
     (λ is. without-push name es x e is) where
       by_test : (b : Bool) → cond b (Some f) (entry_named name es) ≡ Some e
           → (entry_named name es ≡ Some e → without name (es ++ x ∷ []) ≡ without name es ++ x ∷ [])
-          → cond b (es ++ x ∷ []) (f ∷ without name (es ++ x ∷ [])) ≡ cond b es (f ∷ without name es)
+          → cond b (es ++ x ∷ []) (f ∷ without name (es ++ x ∷ [])) ≡ cond b es
+          (f ∷ without name es)
           ++ x ∷ []
       by_test true is later = refl
       by_test false is later = ap (λ es. f ∷ es) (later is)

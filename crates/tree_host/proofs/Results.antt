@@ -93,7 +93,8 @@ walk_on-parts t at (part ∷ parts) = by_test (length part == 0) refl
       by_test : (b : Bool) → (length part == 0) ≡ b
           → ((at : Result ℕ ℕ) → part_end t.records (walk_parts t.records at parts) ≡ walk_on t at
           (filter (λ part. not (length part == 0)) parts))
-          → part_end t.records (walk_parts t.records (part_step t.records part at) parts) ≡ walk_on t at
+          → part_end t.records (walk_parts t.records (part_step t.records part at) parts) ≡ walk_on
+          t at
           (filter (λ part. not (length part == 0)) (part ∷ parts))
       by_test true is later = ap (λ at. part_end t.records (walk_parts t.records at parts))
           (empty_step t part at is) ∙ later at ∙ ap
@@ -145,6 +146,7 @@ pub found_by_err : (t : Tree) (path : List ℕ) (e : HostError)
 found_by_err t path e is = none_told (walk_parts t.records (Ok TOP)
     (slice_split (λ b. b == 47) path)) e is ∙ ap result_ok
     (walk_to-parts t (Ok TOP) (slice_split (λ b. b == 47) path)) where
-      none_told : (told : Result ℕ ℕ) (e : HostError) → Err e ≡ as_errno told → None ≡ result_ok told
+      none_told : (told : Result ℕ ℕ) (e : HostError) → Err e ≡ as_errno told
+          → None ≡ result_ok told
       none_told (Ok a) e is = absurd (cc)
       none_told (Err n) e is = refl

@@ -68,7 +68,8 @@ named_none name (f ∷ es) none k d low is = by_test (bytes_eq f.name name) refl
 
       by_test : (b : Bool) → bytes_eq f.name name ≡ b → cond b (Some f) (entry_named name es) ≡ None
           → (k : ℕ) → k < length (f ∷ es) → (slice_index_or (f ∷ es) k d).name ≡ name
-          → (entry_named name es ≡ None → (k : ℕ) → k < length es → (slice_index_or es k d).name ≡ name
+          → (entry_named name es ≡ None → (k : ℕ) → k < length es
+          → (slice_index_or es k d).name ≡ name
           → ⊥) → ⊥
       by_test true found none k low is later = cc
       by_test false found none zero low is later = false≢true (sym found ∙ same is)

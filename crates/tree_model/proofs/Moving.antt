@@ -148,7 +148,8 @@ module _ (t : Tree) (g : IsGoodTree t) (olddir : ℕ) (oldname : List ℕ) (newd
         shows = λ n linked. sym (shows_links d.body _ _ n n linked w.old.directory);
         names = λ i ne. let less = fewer i in let none = not_it i ne in omega arith;
         entries = λ e c. inl (without-Contains oldname (listed d.body) w.old.e e w.old.goes
-            (subst (λ es. Contains es e) (with_entries-listed d.body (without oldname (listed d.body))
+            (subst (λ es. Contains es e) (with_entries-listed d.body
+            (without oldname (listed d.body))
             (next_cookie d.body) w.old.directory) c));
         lists = λ no nn. absurd (no refl);
         place = λ ne es n up is. with_entries-above d.body _ es _ n up is;

@@ -59,12 +59,14 @@ in_body rs dir r (File bytes) casefold name ino at is e = absurd (cc)
 in_body rs dir r (Link target) casefold name ino at is e = absurd (cc)
 in_body rs dir r (Directory es n a) casefold name ino at is e =
     by_entry (found_among casefold name es) refl e where
-      by_entry : (o : Option DirEntry) → found_among casefold name es ≡ o → ino_or_missing o ≡ Ok ino
+      by_entry : (o : Option DirEntry) → found_among casefold name es ≡ o
+          → ino_or_missing o ≡ Ok ino
           → 0 < name_count rs ino
       by_entry None is e = absurd (cc)
       by_entry (Some f) found e =
           let same : f.ino ≡ ino = cc in
-          let here : names_in ino r ≡ count_names ino es = ap (λ b. count_names ino (listed b)) is in
+          let here : names_in ino r ≡ count_names ino es =
+          ap (λ b. count_names ino (listed b)) is in
           let many = subst (λ k. 0 < count_names k es) same
           (found_among_counts casefold name es f found) in
           let le = names_in-le rs dir ino r at in

@@ -24,8 +24,10 @@ pub goes_at : (name : List ℕ) (es : List DirEntry) (e : DirEntry) → entry_na
 goes_at name [] e is = absurd (cc)
 goes_at name (f ∷ es) e is = by_test (bytes_eq f.name name) refl is
     (λ is. goes_at name es e is) where
-      by_test : (b : Bool) → bytes_eq f.name name ≡ b → cond b (Some f) (entry_named name es) ≡ Some e
-          → (entry_named name es ≡ Some e → (k : ℕ) × (k < length es) × (without name es ≡ remove es k))
+      by_test : (b : Bool) → bytes_eq f.name name ≡ b
+          → cond b (Some f) (entry_named name es) ≡ Some e
+          → (entry_named name es ≡ Some e → (k : ℕ) × (k < length es)
+          × (without name es ≡ remove es k))
           → (k : ℕ) × (k < length (f ∷ es)) × (without name (f ∷ es) ≡ remove (f ∷ es) k)
       by_test true named is then = (0, omega arith, ap (λ b. cond b es (f ∷ without name es)) named)
       by_test false named is then = let later = then is
@@ -54,8 +56,10 @@ pub count_names-without : (q : ℕ) (name : List ℕ) (es : List DirEntry) (e : 
 count_names-without q name [] e is = absurd (cc)
 count_names-without q name (f ∷ es) e is = by_test (bytes_eq f.name name) refl is
     (λ is. count_names-without q name es e is) where
-      by_test : (b : Bool) → bytes_eq f.name name ≡ b → cond b (Some f) (entry_named name es) ≡ Some e
-          → (entry_named name es ≡ Some e → count_names q (without name es) + cond {A = ℕ} (e.ino == q)
+      by_test : (b : Bool) → bytes_eq f.name name ≡ b
+          → cond b (Some f) (entry_named name es) ≡ Some e
+          → (entry_named name es ≡ Some e → count_names q (without name es) + cond {A = ℕ}
+          (e.ino == q)
           1 0 ≡ count_names q es)
           → count_names q (without name (f ∷ es)) + cond {A = ℕ} (e.ino == q) 1 0 ≡ count_names q
           (f ∷ es)

@@ -40,9 +40,11 @@ without-other name other (e ∷ es) ne = by_tests (bytes_eq e.name name) (bytes_
     refl (without-other name other es ne) where
       by_tests : (b c : Bool) → bytes_eq e.name name ≡ b → bytes_eq e.name other ≡ c
           → entry_named other (without name es) ≡ entry_named other es
-          → entry_named other (cond b es (e ∷ without name es)) ≡ cond c (Some e) (entry_named other es)
+          → entry_named other (cond b es (e ∷ without name es)) ≡ cond c (Some e)
+          (entry_named other es)
       by_tests true true here there later = absurd
-          (ne (sym ((bytes_eq-Decides e.name name).0 here) ∙ (bytes_eq-Decides e.name other).0 there))
+          (ne (sym ((bytes_eq-Decides e.name name).0 here)
+          ∙ (bytes_eq-Decides e.name other).0 there))
       by_tests true false here there later = refl
       by_tests false true here there later = ap (λ c. cond c (Some e)
           (entry_named other (without name es))) there
@@ -73,7 +75,8 @@ without-itself name (e ∷ es) pairs = by_test (bytes_eq e.name name) refl
           → entry_named name (cond b es (e ∷ without name es)) ≡ None
       by_test true is later = none_by name es (λ k low same. pairs 0 (suc k) no_entry (omega arith)
           (omega arith) ((bytes_eq-Decides e.name name).0 is ∙ sym same))
-      by_test false is later = ap (λ c. cond c (Some e) (entry_named name (without name es))) is ∙ later
+      by_test false is later = ap (λ c. cond c (Some e) (entry_named name (without name es))) is
+          ∙ later
 
 pairs_of : (b : Body) → IsGoodBody b → AllPairs (λ (e f : DirEntry). e.name ≢ f.name) (listed b)
 pairs_of (File bytes) good = λ i j d less low. absurd (omega arith)

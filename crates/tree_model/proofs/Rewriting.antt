@@ -125,7 +125,9 @@ module _ (t : Tree) (g : IsGoodTree t) (ino : ℕ) where
         by_test false some = rewritten_good (written offset (fitting t.limits.file offset new)) _
             (λ e bytes low.
             let cut = length-take (t.limits.file - offset) new in
-            let not_none : 1 ≤ length (fitting t.limits.file offset new) = grind (arith, nat_tests) in
+            let not_none : 1 ≤ length (fitting t.limits.file offset new) =
+            grind (arith, nat_tests) in
             let most = g.limits.0 in
-            length_written offset 1073741824 (fitting t.limits.file offset new) bytes (omega arith) low)
+            length_written offset 1073741824 (fitting t.limits.file offset new) bytes (omega arith)
+            low)
             r at free

@@ -14,7 +14,8 @@ push_into-requires c =
     ∙ insert_keeps c.args.nodes.now c.args.ino c.args.node c.args.dir c.requires.apart in
     record {
       room = subst (λ (o : Option Record). unwrap_or
-          (option_map next_cookie (option_map (λ (r : Record). r.body) o)) 0 < 2 ^ 64 - 1) (sym same)
+          (option_map next_cookie (option_map (λ (r : Record). r.body) o)) 0 < 2 ^ 64 - 1)
+          (sym same)
           c.requires.room;
     }
 
