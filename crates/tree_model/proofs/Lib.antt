@@ -25,3 +25,5 @@ pub mod Reading
 pub mod Sampling
 pub mod Telling
 pub mod Chains
+pub mod Pages
+pub mod PageSampling

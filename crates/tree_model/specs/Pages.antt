@@ -1,5 +1,5 @@
 -- A directory's entries by pages.
-use Rattle.std.specs.Prelude.{ℕ, ◌-◌, List, [], ◌∷◌, filter, Option, Some, None}
+use Rattle.std.specs.Prelude.{ℕ, ◌-◌, ◌<◌, List, [], ◌∷◌, filter, Option, Some, None}
 use Rattle.std.specs.Prelude.{if◌then◌else◌, nat_le, nat_lt}
 use Rattle.std.specs.List.{filter_map}
 use Rattle.tree_model.specs.Tree.{Tree, Records, DirEntry}
@@ -24,3 +24,13 @@ front_within size room (a ∷ rest) =
 -- a page of a directory: of its entries above a cookie those that have room
 abbrev pub page_of : (Entry → ℕ) → ℕ → Tree → ℕ → ℕ → List Entry
 page_of size room t dir cookie = front_within size room (entries_past_of t dir cookie)
+
+-- the cookie of the last entry, or the one that the reading began at
+abbrev pub last_cookie : ℕ → List Entry → ℕ
+last_cookie cookie [] = cookie
+last_cookie cookie (e ∷ es) = last_cookie e.cookie es
+
+-- each cookie is above the one before it, and the first above the given one
+abbrev pub CookiesAscend : ℕ → List Entry → Type 0
+CookiesAscend cookie [] = Unit {0}
+CookiesAscend cookie (e ∷ es) = (cookie < e.cookie) × CookiesAscend e.cookie es

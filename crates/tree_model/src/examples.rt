@@ -6,13 +6,14 @@ ghost use Rattle.port_base.specs.declared.errno.TheConstants.{EPERM, ENOENT, EEX
 ghost use Rattle.port_base.specs.declared.errno.TheConstants.{EISDIR, EINVAL, EFBIG, ENOTEMPTY};
 ghost use Rattle.port_base.specs.declared.errno.TheConstants.{ELOOP, EOPNOTSUPP};
 ghost use Rattle.tree_model.specs.declared.attributes.Kind.TheVariants as kind;
-ghost use Rattle.tree_model.specs.Samples.{born, alone, sample, hello};
+ghost use Rattle.tree_model.specs.Samples.{born, alone, sample, hello, world};
 ghost use Rattle.tree_model.specs.Tree.{keep};
 ghost use Rattle.tree_model.specs.Tree.Body.{File, Directory, Link};
-ghost use Rattle.tree_model.specs.Making.{top_record, joined_by};
+ghost use Rattle.tree_model.specs.Making.{top_record, joined_by, file_record};
 ghost use Rattle.tree_model.specs.Finding.{find, lookup_of, root_of};
 ghost use Rattle.tree_model.specs.Reading.{above_of, entry_after_of, next_cookie_of};
 ghost use Rattle.tree_model.specs.Settings.{mapped};
+ghost use Rattle.tree_model.specs.Pages.{front_within, last_cookie, page_of};
 ghost use Rattle.tree_model.specs.Placing.{add_directory_of, add_link_of, add_hard_of};
 ghost use Rattle.tree_model.specs.Placing.{with_record, with_link, directory_record, link_record};
 ghost use Rattle.tree_model.specs.Attributing.{resized, written, fitting, set_len_of, write_of};
@@ -21,7 +22,7 @@ ghost use Rattle.tree_model.specs.Attributing.{retimed, rewritten_at, set_mode_o
 ghost use Rattle.tree_model.specs.Attributing.{set_owner_of, owned_by, touch_ctime_of, restamped};
 ghost use Rattle.tree_model.specs.Opening.{open_check_of, open_refused, read_of, readlink_of};
 ghost use Rattle.tree_model.specs.Opening.{readlink_body, found_at};
-ghost use Rattle.tree_model.specs.Attributes.{statfs_of, stat_of, qid_of};
+ghost use Rattle.tree_model.specs.Attributes.{attr_of, statfs_of, stat_of, qid_of};
 ghost use Rattle.tree_model.specs.Creating.{stamped, with_new, with_name, empty_file};
 ghost use Rattle.tree_model.specs.Creating.{empty_directory, create_of, mkdir_of, link_of};
 ghost use Rattle.tree_model.specs.Unlinking.{without, parted_by, links_left, without_entry};
@@ -72,6 +73,21 @@ pub fn reading()
     ensures none_after { entry_after_of sample 1 1 ≡ Ok None }
     ensures no_entries { entry_after_of sample 2 0 ≡ Err ENOTDIR }
     ensures bounds { statfs_of sample ≡ record { blocks = 1; files = 2 } }
+{}
+
+/// Pages of the directory, where an entry takes ten bytes.
+#[tactic(auto, using(crate::proofs::PageSampling::page_with_room, crate::proofs::PageSampling::page_without_room, crate::proofs::PageSampling::page_past_first, crate::proofs::PageSampling::page_of_file))]
+pub fn paging()
+    ensures with_room { page_of (λ e. 10) 10 sample 1 0 ≡ (record {
+      cookie = 1;
+      name = hello;
+      attr = attr_of 2 (file_record born world);
+    }) ∷ [] }
+    ensures without_room { page_of (λ e. 10) 9 sample 1 0 ≡ [] }
+    ensures past_first { page_of (λ e. 10) 10 sample 1 1 ≡ [] }
+    ensures of_file { page_of (λ e. 10) 10 sample 2 0 ≡ [] }
+    ensures fits { front_within (λ n. n) 10 (3 ∷ 4 ∷ 5 ∷ 1 ∷ []) ≡ 3 ∷ 4 ∷ [] }
+    ensures last { last_cookie 7 [] ≡ 7 }
 {}
 
 /// What stands at the end of a path, whatever its kind.
