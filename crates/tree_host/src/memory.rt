@@ -24,6 +24,7 @@ use crate::node::Node;
 use crate::nodes::{
     entry_after, find_empty, find_file, find_in, open_check, read_link, sweep, walk,
 };
+use additions::NewFile;
 use port_base::errno::ENOENT;
 use port_base::failing::FailingCalls;
 use port_base::sink::NoMemory;
@@ -149,7 +150,15 @@ impl TreeHost {
                 uid,
                 gid,
                 bytes,
-            } => self.add_file(dir, name, mode, uid, gid, bytes),
+            } => {
+                let file = NewFile {
+                    mode,
+                    uid,
+                    gid,
+                    bytes,
+                };
+                self.add_file(dir, name, file)
+            }
             NewItem::Link { uid, gid, target } => self.add_link(dir, name, uid, gid, target),
             NewItem::Hard { ino } => self.add_hard(dir, name, ino),
         }

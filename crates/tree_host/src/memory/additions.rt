@@ -5,6 +5,15 @@ use crate::nodes::{add_name, add_node, link_refusal, refusal};
 use port_base::errno::EFBIG;
 use tree_model::HostError;
 
+// A file that is added.
+#[derive(Clone, Copy)]
+pub(super) struct NewFile<'a> {
+    pub(super) mode: u32,
+    pub(super) uid: u32,
+    pub(super) gid: u32,
+    pub(super) bytes: &'a [u8],
+}
+
 impl TreeHost {
     ghost use Rattle.std.specs.Prelude.{◌≡◌, ◌≢◌, ◌<◌, IfOk, IfErr, None, Err};
     ghost use Rattle.std.specs.FinMap as map;
@@ -84,21 +93,25 @@ impl TreeHost {
         &mut self,
         dir: u64,
         name: &[u8],
-        mode: u32,
-        uid: u32,
-        gid: u32,
-        bytes: &[u8],
+        file: NewFile<'_>,
     ) -> Result<u64, HostError>
         requires named { name_fault name.now ≡ None }
-        requires mode { mode < 4096 }
+        requires mode { file.entry.mode < 4096 }
         ensures leaves { Leaves (add_file_of (birth self.old) (tree self.old) dir name.now
-            (new_file mode uid gid bytes.now)) (tree self.old) (tree self.new) result }
+            (new_file file.entry.mode file.entry.uid file.entry.gid file.entry.bytes.now))
+            (tree self.old) (tree self.new) result }
         ensures fault { result ≢ Err HostError.Fault }
         ensures rest { KeepsRest self.old self.new }
     {
         if let Some(errno) = self.create_refusal(dir, name) {
             return Err(HostError::Errno(errno));
         }
+        let NewFile {
+            mode,
+            uid,
+            gid,
+            bytes,
+        } = file;
         if bytes.len() as u64 > self.limits.file {
             return Err(HostError::Errno(EFBIG));
         }

@@ -1,7 +1,7 @@
 //! Names that a tree in memory gets while it is served.
 use super::TreeHost;
 use crate::node::Node;
-use crate::nodes::{create_node, link_node, make_node};
+use crate::nodes::{NewName, create_node, link_node, make_node};
 use tree_model::{Attr, HostError};
 
 impl TreeHost {
@@ -26,16 +26,13 @@ impl TreeHost {
         }
         let node = Node::empty_file(self.alloc, mode, self.moment);
         let ino = self.next;
-        match create_node(
-            self.alloc,
-            &mut self.nodes,
-            &mut self.holds,
+        let new = NewName {
             dir,
             name,
             ino,
-            node,
-            self.moment,
-        ) {
+            moment: self.moment,
+        };
+        match create_node(self.alloc, &mut self.nodes, &mut self.holds, new, node) {
             Ok(()) => {
                 self.next = ino + 1;
                 Ok(ino)
@@ -62,15 +59,13 @@ impl TreeHost {
         let node = Node::empty_directory(self.alloc, mode, dir, self.moment);
         let ino = self.next;
         let attr = node.attr(ino);
-        match make_node(
-            self.alloc,
-            &mut self.nodes,
+        let new = NewName {
             dir,
             name,
             ino,
-            node,
-            self.moment,
-        ) {
+            moment: self.moment,
+        };
+        match make_node(self.alloc, &mut self.nodes, new, node) {
             Ok(()) => {
                 self.next = ino + 1;
                 Ok(attr)
@@ -89,7 +84,13 @@ impl TreeHost {
         if let Some(errno) = self.name_refusal(dir, name, ino) {
             return Err(HostError::Errno(errno));
         }
-        match link_node(self.alloc, &mut self.nodes, dir, name, ino, self.moment) {
+        let new = NewName {
+            dir,
+            name,
+            ino,
+            moment: self.moment,
+        };
+        match link_node(self.alloc, &mut self.nodes, new) {
             Ok(()) => Ok(()),
             Err(_) => Err(HostError::NoMemory),
         }

@@ -4,7 +4,8 @@ ghost use Rattle.tree_model.specs.Renaming.{same_ino};
 
 use super::TreeHost;
 use crate::nodes::{
-    find_in, found, has_no_links, is_directory, move_entry, move_refusal, sweep_replaced,
+    Move, Place, find_in, found, has_no_links, is_directory, move_entry, move_refusal,
+    sweep_replaced,
 };
 use port_base::errno::{ENOENT, ENOTDIR};
 use tree_model::HostError;
@@ -31,43 +32,31 @@ impl TreeHost {
     ghost use Rattle.tree_host.specs.TreeHosts.{tree, holds, KeepsRest};
 
     // Moves an entry that nothing refuses to move, and what it replaces goes.
-    fn move_free(
-        &mut self,
-        olddir: u64,
-        oldname: &[u8],
-        newdir: u64,
-        newname: &[u8],
-        ino: u64,
-        there: Option<u64>,
-    ) -> Result<(), HostError>
-        requires named { name_fault newname.now ≡ None }
-        requires old { lookup_of (tree self.old) olddir oldname.now ≡ Ok ino }
-        requires new { there ≡ result_ok (lookup_of (tree self.old) newdir newname.now) }
-        requires directory { is_directory_at (body_at (tree self.old).records newdir) ≡ true }
-        requires live { is_linked (tree self.old).records newdir ≡ true }
-        requires other { same_ino ino there ≡ false }
-        requires free { move_refused (tree self.old) olddir newdir ino there ≡ None }
+    fn move_free(&mut self, moved: Move<'_>) -> Result<(), HostError>
+        requires named { name_fault moved.entry.to.name.now ≡ None }
+        requires old { lookup_of (tree self.old) moved.entry.from.dir moved.entry.from.name.now
+            ≡ Ok moved.entry.ino }
+        requires new { moved.entry.there ≡ result_ok (lookup_of (tree self.old) moved.entry.to.dir
+            moved.entry.to.name.now) }
+        requires directory { is_directory_at
+            (body_at (tree self.old).records moved.entry.to.dir) ≡ true }
+        requires live { is_linked (tree self.old).records moved.entry.to.dir ≡ true }
+        requires other { same_ino moved.entry.ino moved.entry.there ≡ false }
+        requires free { move_refused (tree self.old) moved.entry.from.dir moved.entry.to.dir
+            moved.entry.ino moved.entry.there ≡ None }
         ensures ok { OnOk result (tree self.new ≡ keep (is_held (holds self.old))
-            (with_moved (without_replaced (tree self.old) newdir newname.now there) olddir
-            oldname.now newdir newname.now ino)) }
+            (with_moved (without_replaced (tree self.old) moved.entry.to.dir
+            moved.entry.to.name.now moved.entry.there) moved.entry.from.dir
+            moved.entry.from.name.now moved.entry.to.dir moved.entry.to.name.now
+            moved.entry.ino)) }
         ensures err { IfErr result (λ e. (e ≡ HostError.NoMemory) ×
             (tree self.new ≡ tree self.old)) }
         ensures rest { KeepsRest self.old self.new }
     {
-        match move_entry(
-            self.alloc,
-            &mut self.nodes,
-            olddir,
-            oldname,
-            newdir,
-            newname,
-            ino,
-            there,
-            self.moment,
-        ) {
+        match move_entry(self.alloc, &mut self.nodes, moved, self.moment) {
             Ok(()) => {
                 let holds = &self.holds;
-                sweep_replaced(&mut self.nodes, holds, there);
+                sweep_replaced(&mut self.nodes, holds, moved.there);
                 Ok(())
             }
             Err(_) => Err(HostError::NoMemory),
@@ -75,42 +64,33 @@ impl TreeHost {
     }
 
     // Moves an entry, or tells why it can't be moved.
-    fn move_found(
-        &mut self,
-        olddir: u64,
-        oldname: &[u8],
-        newdir: u64,
-        newname: &[u8],
-        ino: u64,
-    ) -> Result<(), HostError>
-        requires named { name_fault newname.now ≡ None }
-        requires old { lookup_of (tree self.old) olddir oldname.now ≡ Ok ino }
-        requires directory { is_directory_at (body_at (tree self.old).records newdir) ≡ true }
-        requires live { is_linked (tree self.old).records newdir ≡ true }
-        ensures leaves { Leaves (move_to (is_held (holds self.old)) (tree self.old) olddir
-            oldname.now newdir newname.now ino
-            (result_ok (lookup_of (tree self.old) newdir newname.now))) (tree self.old)
-            (tree self.new) result }
+    fn move_found(&mut self, from: Place<'_>, to: Place<'_>, ino: u64) -> Result<(), HostError>
+        requires named { name_fault to.entry.name.now ≡ None }
+        requires old { lookup_of (tree self.old) from.entry.dir from.entry.name.now ≡ Ok ino }
+        requires directory { is_directory_at (body_at (tree self.old).records to.entry.dir)
+            ≡ true }
+        requires live { is_linked (tree self.old).records to.entry.dir ≡ true }
+        ensures leaves { Leaves (move_to (is_held (holds self.old)) (tree self.old) from.entry.dir
+            from.entry.name.now to.entry.dir to.entry.name.now ino
+            (result_ok (lookup_of (tree self.old) to.entry.dir to.entry.name.now)))
+            (tree self.old) (tree self.new) result }
         ensures fault { result ≢ Err HostError.Fault }
         ensures rest { KeepsRest self.old self.new }
     {
-        let there = found(&self.nodes, newdir, newname);
+        let there = found(&self.nodes, to.dir, to.name);
         if is_same(there, ino) {
             return Ok(());
         }
-        let refusal = move_refusal(
-            &self.nodes,
-            olddir,
-            newdir,
+        let moved = Move {
+            from,
+            to,
             ino,
             there,
-            self.next,
-            self.limits,
-        );
-        if let Some(errno) = refusal {
+        };
+        if let Some(errno) = move_refusal(&self.nodes, moved, self.next, self.limits) {
             return Err(HostError::Errno(errno));
         }
-        self.move_free(olddir, oldname, newdir, newname, ino, there)
+        self.move_free(moved)
     }
 
     fn is_unlinked(&self, dir: u64) -> bool
@@ -142,6 +122,14 @@ impl TreeHost {
         if self.is_unlinked(newdir) {
             return Err(HostError::Errno(ENOENT));
         }
-        self.move_found(olddir, oldname, newdir, newname, ino)
+        let from = Place {
+            dir: olddir,
+            name: oldname,
+        };
+        let to = Place {
+            dir: newdir,
+            name: newname,
+        };
+        self.move_found(from, to, ino)
     }
 }

@@ -1,8 +1,10 @@
 //! Times that become the moment, and what is new then.
-ghost use Rattle.std.specs.Prelude.{◌≡◌};
+ghost use Rattle.std.specs.Prelude.{◌≡◌, ◌-◌, ◌^◌, length, nat_le};
+ghost use Rattle.tree_model.specs.Tree.{listed};
+ghost use Rattle.tree_model.specs.Making.{next_cookie};
 ghost use Rattle.tree_model.specs.Attributing.{restamped};
 ghost use Rattle.tree_model.specs.Creating.{stamped, empty_file, empty_directory};
-ghost use Rattle.tree_model.specs.Renaming.{placed_below, moved_below, has_no_room};
+ghost use Rattle.tree_model.specs.Renaming.{placed_below, moved_below};
 
 use super::{Node, Stored};
 use std::alloc::Global;
@@ -60,16 +62,25 @@ impl Node {
         self.ctime = moment;
     }
 
-    /// Whether it has no room for an entry, where it lists one more then, or as many.
-    pub fn has_no_room(&self, limit: u64, more: bool) -> bool
-        ensures { result ≡ has_no_room limit more self.now.body }
+    /// Whether it lists as many entries as there may be.
+    pub fn is_full(&self, limit: u64) -> bool
+        ensures { result ≡ nat_le limit (length (listed self.now.body)) }
     {
         match &self.body {
-            Stored::Names { entries, next, .. } => {
-                (more && entries.len() as u64 >= limit) || *next >= u64::MAX
-            }
-            Stored::Bytes(_) => more && limit == 0,
-            Stored::Target(_) => more && limit == 0,
+            Stored::Names { entries, .. } => entries.len() as u64 >= limit,
+            Stored::Bytes(_) => limit == 0,
+            Stored::Target(_) => limit == 0,
+        }
+    }
+
+    /// Whether no cookie is left for an entry.
+    pub fn has_no_cookie(&self) -> bool
+        ensures { result ≡ nat_le (2 ^ 64 - 1) (next_cookie self.now.body) }
+    {
+        match &self.body {
+            Stored::Names { next, .. } => *next >= u64::MAX,
+            Stored::Bytes(_) => false,
+            Stored::Target(_) => false,
         }
     }
 }

@@ -36,26 +36,34 @@ fn touch(nodes: &mut Table<Node>, ino: u64, moment: Stamp)
     }
 }
 
+/// A name that a directory gets at a moment, and the inode that it names.
+#[derive(Clone, Copy)]
+pub struct NewName<'a> {
+    pub dir: u64,
+    pub name: &'a [u8],
+    pub ino: u64,
+    pub moment: Stamp,
+}
+
 /// Adds a record with an entry for it, in a directory that is stamped. Without memory nothing
 /// changes.
 pub fn make_node(
     alloc: Global,
     nodes: &mut Table<Node>,
-    dir: u64,
-    name: &[u8],
-    ino: u64,
+    new: NewName<'_>,
     node: Node,
-    moment: Stamp,
 ) -> Result<(), AllocError>
-    requires room { unwrap_or (option_map next_cookie (body_at nodes.old dir)) 0 < 2 ^ 64 - 1 }
-    requires apart { dir ≢ ino }
-    requires fresh { map.get nodes.old ino ≡ None }
-    ensures ok { OnOk result (nodes.new ≡ change (stamped moment)
-        (change (joined_by name.now ino) (map.insert nodes.old ino node) dir) dir) }
+    requires room { unwrap_or (option_map next_cookie (body_at nodes.old new.entry.dir)) 0
+        < 2 ^ 64 - 1 }
+    requires apart { new.entry.dir ≢ new.entry.ino }
+    requires fresh { map.get nodes.old new.entry.ino ≡ None }
+    ensures ok { OnOk result (nodes.new ≡ change (stamped new.entry.moment)
+        (change (joined_by new.entry.name.now new.entry.ino)
+        (map.insert nodes.old new.entry.ino node) new.entry.dir) new.entry.dir) }
     ensures err { OnErr result (nodes.new ≡ nodes.old) }
 {
-    add_node(alloc, nodes, dir, name, ino, node)?;
-    stamp(nodes, dir, moment);
+    add_node(alloc, nodes, new.dir, new.name, new.ino, node)?;
+    stamp(nodes, new.dir, new.moment);
     Ok(())
 }
 
@@ -64,27 +72,26 @@ pub fn create_node(
     alloc: Global,
     nodes: &mut Table<Node>,
     holds: &mut Table<u64>,
-    dir: u64,
-    name: &[u8],
-    ino: u64,
+    new: NewName<'_>,
     node: Node,
-    moment: Stamp,
 ) -> Result<(), AllocError>
-    requires room { unwrap_or (option_map next_cookie (body_at nodes.old dir)) 0 < 2 ^ 64 - 1 }
-    requires apart { dir ≢ ino }
-    requires fresh { map.get nodes.old ino ≡ None }
-    requires unheld { map.get holds.old ino ≡ None }
-    ensures ok { OnOk result (nodes.new ≡ change (stamped moment)
-        (change (joined_by name.now ino) (map.insert nodes.old ino node) dir) dir) }
+    requires room { unwrap_or (option_map next_cookie (body_at nodes.old new.entry.dir)) 0
+        < 2 ^ 64 - 1 }
+    requires apart { new.entry.dir ≢ new.entry.ino }
+    requires fresh { map.get nodes.old new.entry.ino ≡ None }
+    requires unheld { map.get holds.old new.entry.ino ≡ None }
+    ensures ok { OnOk result (nodes.new ≡ change (stamped new.entry.moment)
+        (change (joined_by new.entry.name.now new.entry.ino)
+        (map.insert nodes.old new.entry.ino node) new.entry.dir) new.entry.dir) }
     ensures err { OnErr result (nodes.new ≡ nodes.old) }
-    ensures held { OnOk result (holds.new ≡ held_more holds.old ino) }
+    ensures held { OnOk result (holds.new ≡ held_more holds.old new.entry.ino) }
     ensures let_go { OnErr result (holds.new ≡ holds.old) }
 {
-    hold(holds, ino)?;
-    match make_node(alloc, nodes, dir, name, ino, node, moment) {
+    hold(holds, new.ino)?;
+    match make_node(alloc, nodes, new, node) {
         Ok(()) => Ok(()),
         Err(error) => {
-            lower(holds, ino);
+            lower(holds, new.ino);
             Err(error)
         }
     }
@@ -92,24 +99,19 @@ pub fn create_node(
 
 /// Adds an entry for a record that is there, which is stamped as its directory is. Without memory
 /// nothing changes.
-pub fn link_node(
-    alloc: Global,
-    nodes: &mut Table<Node>,
-    dir: u64,
-    name: &[u8],
-    ino: u64,
-    moment: Stamp,
-) -> Result<(), AllocError>
-    requires room { unwrap_or (option_map next_cookie (body_at nodes.old dir)) 0 < 2 ^ 64 - 1 }
-    requires apart { dir ≢ ino }
-    requires few { unwrap_or (option_map links (map.get nodes.old ino)) 0 < 2 ^ 64 - 1 }
-    ensures ok { OnOk result (nodes.new ≡ change (stamped moment)
-        (change (restamped moment) (change (joined_by name.now ino)
-        (change one_link_more nodes.old ino) dir) ino) dir) }
+pub fn link_node(alloc: Global, nodes: &mut Table<Node>, new: NewName<'_>) -> Result<(), AllocError>
+    requires room { unwrap_or (option_map next_cookie (body_at nodes.old new.entry.dir)) 0
+        < 2 ^ 64 - 1 }
+    requires apart { new.entry.dir ≢ new.entry.ino }
+    requires few { unwrap_or (option_map links (map.get nodes.old new.entry.ino)) 0 < 2 ^ 64 - 1 }
+    ensures ok { OnOk result (nodes.new ≡ change (stamped new.entry.moment)
+        (change (restamped new.entry.moment) (change (joined_by new.entry.name.now new.entry.ino)
+        (change one_link_more nodes.old new.entry.ino) new.entry.dir) new.entry.ino)
+        new.entry.dir) }
     ensures err { OnErr result (nodes.new ≡ nodes.old) }
 {
-    add_name(alloc, nodes, dir, name, ino)?;
-    touch(nodes, ino, moment);
-    stamp(nodes, dir, moment);
+    add_name(alloc, nodes, new.dir, new.name, new.ino)?;
+    touch(nodes, new.ino, new.moment);
+    stamp(nodes, new.dir, new.moment);
     Ok(())
 }

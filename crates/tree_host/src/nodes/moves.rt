@@ -1,6 +1,6 @@
 //! Entries of a table's directories that move.
 ghost use Rattle.std.specs.Prelude.{◌≡◌, ◌&&◌, not, false, ◌-◌, ◌^◌, ◌<◌, OnOk, OnErr, option_map};
-ghost use Rattle.std.specs.Prelude.{unwrap_or};
+ghost use Rattle.std.specs.Prelude.{unwrap_or, is_some, ◌==◌};
 ghost use Rattle.tree_model.specs.declared.attributes.Stamp.{Stamp};
 ghost use Rattle.tree_model.specs.Tree.{body_at, is_directory_at};
 ghost use Rattle.tree_model.specs.Finding.{entries_at, ino_among};
@@ -22,6 +22,22 @@ use port_base::table::Table;
 use std::alloc::{AllocError, Global};
 use tree_model::attributes::TOP;
 use tree_model::{Limits, Stamp};
+
+/// A name in a directory.
+#[derive(Clone, Copy)]
+pub struct Place<'a> {
+    pub dir: u64,
+    pub name: &'a [u8],
+}
+
+/// An inode's name that moves from one place to another, where an inode may be replaced.
+#[derive(Clone, Copy)]
+pub struct Move<'a> {
+    pub from: Place<'a>,
+    pub to: Place<'a>,
+    pub ino: u64,
+    pub there: Option<u64>,
+}
 
 fn above_at(nodes: &Table<Node>, ino: u64) -> u64
     ensures { result ≡ above_at nodes.now ino }
@@ -84,38 +100,39 @@ fn replace_refusal(nodes: &Table<Node>, ino: u64, there: Option<u64>) -> Option<
     }
 }
 
-fn room_refusal(nodes: &Table<Node>, dir: u64, more: bool, limit: u64) -> Option<u32>
-    ensures { result ≡ room_refused limit more (body_at nodes.now dir) }
+// Why the directory that an entry moves to has no room for it.
+fn room_refusal(nodes: &Table<Node>, moved: Move<'_>, limit: u64) -> Option<u32>
+    ensures { result ≡ room_refused limit
+        (not (is_some moved.entry.there) && not (moved.entry.from.dir == moved.entry.to.dir))
+        (body_at nodes.now moved.entry.to.dir) }
 {
-    match nodes.get(dir) {
-        Some(node) if node.has_no_room(limit, more) => Some(ENOSPC),
-        Some(_) => None,
+    match nodes.get(moved.to.dir) {
+        Some(node) => {
+            let more = moved.there.is_none() && moved.from.dir != moved.to.dir;
+            let full = more && node.is_full(limit);
+            if full || node.has_no_cookie() {
+                Some(ENOSPC)
+            } else {
+                None
+            }
+        }
         None => Some(ENOTDIR),
     }
 }
 
-/// The first refusal of the move of an inode into a directory, where it may replace another.
-pub fn move_refusal(
-    nodes: &Table<Node>,
-    olddir: u64,
-    newdir: u64,
-    ino: u64,
-    there: Option<u64>,
-    steps: u64,
-    limits: Limits,
-) -> Option<u32>
-    ensures { (moment : Stamp) → result ≡ move_refused (tree_from nodes.now steps limits moment)
-        olddir newdir ino there }
+/// The first refusal of a move, of a tree whose next inode and bounds are these.
+pub fn move_refusal(nodes: &Table<Node>, moved: Move<'_>, next: u64, limits: Limits) -> Option<u32>
+    ensures { (moment : Stamp) → result ≡ move_refused (tree_from nodes.now next limits moment)
+        moved.entry.from.dir moved.entry.to.dir moved.entry.ino moved.entry.there }
 {
-    let below = is_at_or_below(nodes, ino, steps, newdir);
+    let below = is_at_or_below(nodes, moved.ino, next, moved.to.dir);
     if below {
         return Some(EINVAL);
     }
-    if let Some(errno) = replace_refusal(nodes, ino, there) {
+    if let Some(errno) = replace_refusal(nodes, moved.ino, moved.there) {
         return Some(errno);
     }
-    let more = there.is_none() && olddir != newdir;
-    room_refusal(nodes, newdir, more, limits.entries)
+    room_refusal(nodes, moved, limits.entries)
 }
 
 /// The inode that a name of a directory names, if there is one.
@@ -157,26 +174,29 @@ fn settle(nodes: &mut Table<Node>, ino: u64, moment: Stamp, dir: u64)
 pub fn move_entry(
     alloc: Global,
     nodes: &mut Table<Node>,
-    olddir: u64,
-    oldname: &[u8],
-    newdir: u64,
-    newname: &[u8],
-    ino: u64,
-    there: Option<u64>,
+    moved: Move<'_>,
     moment: Stamp,
 ) -> Result<(), AllocError>
-    requires room { unwrap_or (option_map next_cookie (body_at nodes.old newdir)) 0 < 2 ^ 64 - 1 }
-    ensures ok { OnOk result (nodes.new ≡ change (moved_below moment newdir)
-        (change (stamped moment) (change (parted_by oldname.now moment)
-        (replaced_in moment newdir newname.now there
-        (change (joined_by newname.now ino) nodes.old newdir)) olddir) newdir) ino) }
+    requires room { unwrap_or (option_map next_cookie (body_at nodes.old moved.entry.to.dir)) 0
+        < 2 ^ 64 - 1 }
+    ensures ok { OnOk result (nodes.new ≡ change (moved_below moment moved.entry.to.dir)
+        (change (stamped moment) (change (parted_by moved.entry.from.name.now moment)
+        (replaced_in moment moved.entry.to.dir moved.entry.to.name.now moved.entry.there
+        (change (joined_by moved.entry.to.name.now moved.entry.ino) nodes.old moved.entry.to.dir))
+        moved.entry.from.dir) moved.entry.to.dir) moved.entry.ino) }
     ensures err { OnErr result (nodes.new ≡ nodes.old) }
 {
-    push_into(alloc, nodes, newdir, newname, ino)?;
-    remove_replaced(nodes, newdir, newname, there, moment);
-    part_from(nodes, olddir, oldname, moment);
-    stamp(nodes, newdir, moment);
-    settle(nodes, ino, moment, newdir);
+    let Move {
+        from,
+        to,
+        ino,
+        there,
+    } = moved;
+    push_into(alloc, nodes, to.dir, to.name, ino)?;
+    remove_replaced(nodes, to.dir, to.name, there, moment);
+    part_from(nodes, from.dir, from.name, moment);
+    stamp(nodes, to.dir, moment);
+    settle(nodes, ino, moment, to.dir);
     Ok(())
 }
 
