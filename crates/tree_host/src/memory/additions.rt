@@ -96,7 +96,7 @@ impl TreeHost {
         file: NewFile<'_>,
     ) -> Result<u64, HostError>
         requires named { name_fault name.now ≡ None }
-        requires mode { file.entry.mode < 4096 }
+        requires mode { file.mode < 4096 }
         ensures leaves { Leaves (add_file_of (birth self.old) (tree self.old) dir name.now
             (new_file file.entry.mode file.entry.uid file.entry.gid file.entry.bytes.now))
             (tree self.old) (tree self.new) result }

@@ -33,17 +33,17 @@ impl TreeHost {
 
     // Moves an entry that nothing refuses to move, and what it replaces goes.
     fn move_free(&mut self, moved: Move<'_>) -> Result<(), HostError>
-        requires named { name_fault moved.entry.to.name.now ≡ None }
-        requires old { lookup_of (tree self.old) moved.entry.from.dir moved.entry.from.name.now
-            ≡ Ok moved.entry.ino }
-        requires new { moved.entry.there ≡ result_ok (lookup_of (tree self.old) moved.entry.to.dir
-            moved.entry.to.name.now) }
+        requires named { name_fault moved.to.name.now ≡ None }
+        requires old { lookup_of (tree self.old) moved.from.dir moved.from.name.now
+            ≡ Ok moved.ino }
+        requires new { moved.there ≡ result_ok (lookup_of (tree self.old) moved.to.dir
+            moved.to.name.now) }
         requires directory { is_directory_at
-            (body_at (tree self.old).records moved.entry.to.dir) ≡ true }
-        requires live { is_linked (tree self.old).records moved.entry.to.dir ≡ true }
-        requires other { same_ino moved.entry.ino moved.entry.there ≡ false }
-        requires free { move_refused (tree self.old) moved.entry.from.dir moved.entry.to.dir
-            moved.entry.ino moved.entry.there ≡ None }
+            (body_at (tree self.old).records moved.to.dir) ≡ true }
+        requires live { is_linked (tree self.old).records moved.to.dir ≡ true }
+        requires other { same_ino moved.ino moved.there ≡ false }
+        requires free { move_refused (tree self.old) moved.from.dir moved.to.dir
+            moved.ino moved.there ≡ None }
         ensures ok { OnOk result (tree self.new ≡ keep (is_held (holds self.old))
             (with_moved (without_replaced (tree self.old) moved.entry.to.dir
             moved.entry.to.name.now moved.entry.there) moved.entry.from.dir
@@ -65,11 +65,11 @@ impl TreeHost {
 
     // Moves an entry, or tells why it can't be moved.
     fn move_found(&mut self, from: Place<'_>, to: Place<'_>, ino: u64) -> Result<(), HostError>
-        requires named { name_fault to.entry.name.now ≡ None }
-        requires old { lookup_of (tree self.old) from.entry.dir from.entry.name.now ≡ Ok ino }
-        requires directory { is_directory_at (body_at (tree self.old).records to.entry.dir)
+        requires named { name_fault to.name.now ≡ None }
+        requires old { lookup_of (tree self.old) from.dir from.name.now ≡ Ok ino }
+        requires directory { is_directory_at (body_at (tree self.old).records to.dir)
             ≡ true }
-        requires live { is_linked (tree self.old).records to.entry.dir ≡ true }
+        requires live { is_linked (tree self.old).records to.dir ≡ true }
         ensures leaves { Leaves (move_to (is_held (holds self.old)) (tree self.old) from.entry.dir
             from.entry.name.now to.entry.dir to.entry.name.now ino
             (result_ok (lookup_of (tree self.old) to.entry.dir to.entry.name.now)))

@@ -53,10 +53,10 @@ pub fn make_node(
     new: NewName<'_>,
     node: Node,
 ) -> Result<(), AllocError>
-    requires room { unwrap_or (option_map next_cookie (body_at nodes.old new.entry.dir)) 0
+    requires room { unwrap_or (option_map next_cookie (body_at nodes.old new.dir)) 0
         < 2 ^ 64 - 1 }
-    requires apart { new.entry.dir ≢ new.entry.ino }
-    requires fresh { map.get nodes.old new.entry.ino ≡ None }
+    requires apart { new.dir ≢ new.ino }
+    requires fresh { map.get nodes.old new.ino ≡ None }
     ensures ok { OnOk result (nodes.new ≡ change (stamped new.entry.moment)
         (change (joined_by new.entry.name.now new.entry.ino)
         (map.insert nodes.old new.entry.ino node) new.entry.dir) new.entry.dir) }
@@ -75,11 +75,11 @@ pub fn create_node(
     new: NewName<'_>,
     node: Node,
 ) -> Result<(), AllocError>
-    requires room { unwrap_or (option_map next_cookie (body_at nodes.old new.entry.dir)) 0
+    requires room { unwrap_or (option_map next_cookie (body_at nodes.old new.dir)) 0
         < 2 ^ 64 - 1 }
-    requires apart { new.entry.dir ≢ new.entry.ino }
-    requires fresh { map.get nodes.old new.entry.ino ≡ None }
-    requires unheld { map.get holds.old new.entry.ino ≡ None }
+    requires apart { new.dir ≢ new.ino }
+    requires fresh { map.get nodes.old new.ino ≡ None }
+    requires unheld { map.get holds.old new.ino ≡ None }
     ensures ok { OnOk result (nodes.new ≡ change (stamped new.entry.moment)
         (change (joined_by new.entry.name.now new.entry.ino)
         (map.insert nodes.old new.entry.ino node) new.entry.dir) new.entry.dir) }
@@ -100,10 +100,10 @@ pub fn create_node(
 /// Adds an entry for a record that is there, which is stamped as its directory is. Without memory
 /// nothing changes.
 pub fn link_node(alloc: Global, nodes: &mut Table<Node>, new: NewName<'_>) -> Result<(), AllocError>
-    requires room { unwrap_or (option_map next_cookie (body_at nodes.old new.entry.dir)) 0
+    requires room { unwrap_or (option_map next_cookie (body_at nodes.old new.dir)) 0
         < 2 ^ 64 - 1 }
-    requires apart { new.entry.dir ≢ new.entry.ino }
-    requires few { unwrap_or (option_map links (map.get nodes.old new.entry.ino)) 0 < 2 ^ 64 - 1 }
+    requires apart { new.dir ≢ new.ino }
+    requires few { unwrap_or (option_map links (map.get nodes.old new.ino)) 0 < 2 ^ 64 - 1 }
     ensures ok { OnOk result (nodes.new ≡ change (stamped new.entry.moment)
         (change (restamped new.entry.moment) (change (joined_by new.entry.name.now new.entry.ino)
         (change one_link_more nodes.old new.entry.ino) new.entry.dir) new.entry.ino)

@@ -177,7 +177,7 @@ pub fn move_entry(
     moved: Move<'_>,
     moment: Stamp,
 ) -> Result<(), AllocError>
-    requires room { unwrap_or (option_map next_cookie (body_at nodes.old moved.entry.to.dir)) 0
+    requires room { unwrap_or (option_map next_cookie (body_at nodes.old moved.to.dir)) 0
         < 2 ^ 64 - 1 }
     ensures ok { OnOk result (nodes.new ≡ change (moved_below moment moved.entry.to.dir)
         (change (stamped moment) (change (parted_by moved.entry.from.name.now moment)

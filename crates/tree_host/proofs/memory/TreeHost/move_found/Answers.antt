@@ -14,16 +14,16 @@ returns-in-Some-clause-leaves c =
     let t = tree_from s.nodes s.next s.limits s.moment in
     record {
       exactly = (
-        told_refused (is_held s.holds) t a.olddir a.oldname.now a.newdir a.newname.now a.ino
-            c.found-there.result (result_ok (lookup_of t a.newdir a.newname.now))
+        told_refused (is_held s.holds) t a.from.dir a.from.name.now a.to.dir a.to.name.now a.ino
+            c.found-there.result (result_ok (lookup_of t a.to.dir a.to.name.now))
             c.found-there.ensures (sym c.is_same.ensures ∙ c.if-is_same.false) c.in-Some.errno
-            (sym (c.move_refusal-refusal.ensures s.moment) ∙ c.in-Some.is),
+            (sym (c.move_refusal.ensures s.moment) ∙ c.in-Some.is),
         refl,
       );
     }
 
 pub move_free-requires-clause-free : goal.move_free-requires-clause-free
-move_free-requires-clause-free c = sym (c.move_refusal-refusal.ensures c.args.self.now.moment)
+move_free-requires-clause-free c = sym (c.move_refusal.ensures c.args.self.now.moment)
     ∙ c.in_default.is
 
 pub returns-clause-leaves : goal.returns-clause-leaves
@@ -31,8 +31,8 @@ returns-clause-leaves c =
     let a = c.args in
     let s = a.self.now in
     let t = tree_from s.nodes s.next s.limits s.moment in
-    told_moved (is_held s.holds) t a.olddir a.oldname.now a.newdir a.newname.now a.ino
-    c.found-there.result (result_ok (lookup_of t a.newdir a.newname.now)) c.found-there.ensures
+    told_moved (is_held s.holds) t a.from.dir a.from.name.now a.to.dir a.to.name.now a.ino
+    c.found-there.result (result_ok (lookup_of t a.to.dir a.to.name.now)) c.found-there.ensures
     (sym c.is_same.ensures ∙ c.if-is_same.false)
-    (sym (c.move_refusal-refusal.ensures s.moment) ∙ c.in_default.is) _ c.move_free.result
+    (sym (c.move_refusal.ensures s.moment) ∙ c.in_default.is) _ c.move_free.result
     c.move_free.ensures.ok c.move_free.ensures.err

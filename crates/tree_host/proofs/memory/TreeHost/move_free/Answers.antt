@@ -11,10 +11,13 @@ invariant_of-self c =
     let a = c.args in
     let s = a.self.now in
     let q = c.requires in
-    let made = c.sweep_replaced.ensures ∙ ap (λ (rs : Records). swept_of (is_held s.holds) a.there
+    let made = c.sweep_replaced.ensures ∙ ap (λ (rs : Records). swept_of (is_held s.holds)
+    a.moved.there
     rs) c.in-Ok.ensures.ok in
-    let is = moves (tree_from s.nodes s.next s.limits s.moment) s.holds s.good s.stored a.olddir
-    a.oldname.now a.newdir a.newname.now a.ino q.named q.old q.directory q.live a.there q.new
+    let is = moves (tree_from s.nodes s.next s.limits s.moment) s.holds s.good s.stored
+    a.moved.from.dir
+    a.moved.from.name.now a.moved.to.dir a.moved.to.name.now a.moved.ino q.named q.old q.directory
+    q.live a.moved.there q.new
     q.other q.free c.sweep_replaced.new.nodes made in
     record { good = is.good; stored = is.held; timed = s.timed }
 
@@ -23,8 +26,10 @@ returns-in-Ok-clause-ok c =
     let a = c.args in
     let s = a.self.now in
     let q = c.requires in
-    let made = c.sweep_replaced.ensures ∙ ap (λ (rs : Records). swept_of (is_held s.holds) a.there
+    let made = c.sweep_replaced.ensures ∙ ap (λ (rs : Records). swept_of (is_held s.holds)
+    a.moved.there
     rs) c.in-Ok.ensures.ok in
-    (moves (tree_from s.nodes s.next s.limits s.moment) s.holds s.good s.stored a.olddir
-    a.oldname.now a.newdir a.newname.now a.ino q.named q.old q.directory q.live a.there q.new
+    (moves (tree_from s.nodes s.next s.limits s.moment) s.holds s.good s.stored a.moved.from.dir
+    a.moved.from.name.now a.moved.to.dir a.moved.to.name.now a.moved.ino q.named q.old q.directory
+    q.live a.moved.there q.new
     q.other q.free c.sweep_replaced.new.nodes made).tree

@@ -6,11 +6,11 @@ use Rattle.tree_host.proofs.nodes.creations.create_node.Goals as goal
 
 pub lower-requires : goal.lower-requires
 lower-requires c =
-    let count = ap (λ (h : Holds). hold_count h c.args.ino) c.in_ok-hold.ensures.ok
-    ∙ hold_count-more c.args.holds.now c.args.ino in
+    let count = ap (λ (h : Holds). hold_count h c.args.new.ino) c.in_ok-hold.ensures.ok
+    ∙ hold_count-more c.args.holds.now c.args.new.ino in
     omega (arith, count)
 
 pub returns-in-Err-clause-let_go : goal.returns-in-Err-clause-let_go
 returns-in-Err-clause-let_go c =
-    c.lower.ensures ∙ ap (λ (h : Holds). held_less h c.args.ino) c.in_ok-hold.ensures.ok
-    ∙ less_more c.args.holds.now c.args.ino c.requires.unheld
+    c.lower.ensures ∙ ap (λ (h : Holds). held_less h c.args.new.ino) c.in_ok-hold.ensures.ok
+    ∙ less_more c.args.holds.now c.args.new.ino c.requires.unheld
