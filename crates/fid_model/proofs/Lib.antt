@@ -7,3 +7,5 @@ pub mod Parts
 pub mod SessionSampling
 pub mod Entries
 pub mod FileSampling
+pub mod Listings
+pub mod ListingSampling

@@ -22,7 +22,8 @@ use Rattle.p9_tmsg.specs.Messages.Message.{flush as t_flush, fsync as t_fsync}
 use Rattle.p9_tmsg.specs.Messages.Message.{getattr as t_getattr, getlock as t_getlock}
 use Rattle.p9_tmsg.specs.Messages.Message.{link as t_link, lock as t_lock, lopen as t_lopen}
 use Rattle.p9_tmsg.specs.Messages.Message.{mkdir as t_mkdir, mknod as t_mknod, read as t_read}
-use Rattle.p9_tmsg.specs.Messages.Message.{readlink as t_readlink, remove as t_remove}
+use Rattle.p9_tmsg.specs.Messages.Message.{readdir as t_readdir, readlink as t_readlink}
+use Rattle.p9_tmsg.specs.Messages.Message.{remove as t_remove}
 use Rattle.p9_tmsg.specs.Messages.Message.{rename as t_rename, renameat as t_renameat}
 use Rattle.p9_tmsg.specs.Messages.Message.{statfs as t_statfs, symlink as t_symlink}
 use Rattle.p9_tmsg.specs.Messages.Message.{unlinkat as t_unlinkat, version as t_version}
@@ -34,7 +35,8 @@ use Rattle.p9_rmsg.specs.Replies.Reply.{attach as r_attach, clunk as r_clunk, fl
 use Rattle.p9_rmsg.specs.Replies.Reply.{fsync as r_fsync, getattr as r_getattr}
 use Rattle.p9_rmsg.specs.Replies.Reply.{getlock as r_getlock, lerror as r_lerror, link as r_link}
 use Rattle.p9_rmsg.specs.Replies.Reply.{lock as r_lock, lopen as r_lopen, mkdir as r_mkdir}
-use Rattle.p9_rmsg.specs.Replies.Reply.{read as r_read, readlink as r_readlink}
+use Rattle.p9_rmsg.specs.Replies.Reply.{read as r_read, readdir as r_readdir}
+use Rattle.p9_rmsg.specs.Replies.Reply.{readlink as r_readlink}
 use Rattle.p9_rmsg.specs.Replies.Reply.{renameat as r_renameat, unlinkat as r_unlinkat}
 use Rattle.p9_rmsg.specs.Replies.Reply.{walk as r_walk, lcreate as r_lcreate, setattr as r_setattr}
 use Rattle.p9_rmsg.specs.Replies.Reply.{write as r_write}
@@ -46,6 +48,7 @@ use Rattle.fid_model.specs.Sessions.{version_core, lock_told, getlock_told}
 use Rattle.fid_model.specs.Files.{statfs_reply, statfs_told, fsync_told, readlink_told}
 use Rattle.fid_model.specs.Files.{new_file_of, write_told}
 use Rattle.fid_model.specs.Directories.{mkdir_told, link_told, renameat_told, unlinkat_told}
+use Rattle.fid_model.specs.Listings.{readdir_told}
 use Rattle.fid_model.specs.Setattr.{Changes, changes, run, steps}
 
 -- ---- attach
@@ -230,7 +233,7 @@ abbrev pub clunk_by : ServerState → ℕ → Option Fid → Reply × ServerStat
 clunk_by s fid None = (r_lerror EBADF, s)
 clunk_by s fid (Some f) = (r_clunk, record s { fids = map.remove s.fids fid })
 
--- ---- all messages; one that isn't served yet is EOPNOTSUPP
+-- ---- all messages
 
 abbrev pub core : ServerState → Message → Reply × ServerState
 core s (t_version msize protocol) = version_core s msize protocol
@@ -267,7 +270,8 @@ core s (t_unlinkat dirfd name flags) =
     tree_answer s (λ _. r_unlinkat) (unlinkat_told s dirfd name flags)
 core s (t_symlink fid name symtgt gid) = (r_lerror EACCES, s)
 core s (t_mknod dfid name mode major minor gid) = (r_lerror EACCES, s)
-core s _ = (r_lerror EOPNOTSUPP, s)
+core s (t_readdir fid offset count) =
+    told_answer s r_readdir (readdir_told s fid offset count)
 
 -- the reply to a message, and the state after it
 abbrev pub answer : ServerState → Message → Reply × ServerState

@@ -4,6 +4,7 @@ pub mod TreeCalls
 pub mod Directories
 pub mod Sessions
 pub mod Files
+pub mod Listings
 pub mod Answers
 pub mod Setattr
 pub mod Parts

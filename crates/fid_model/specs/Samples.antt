@@ -34,6 +34,15 @@ with_writer append =
       fids = insert server.fids 8 (record { ino = 2; open_state = Opened 1 append });
     }
 
+-- and fid 8 the top directory, which is open
+abbrev pub with_listing : ServerState
+with_listing =
+    record server { fids = insert server.fids 8 (record { ino = 1; open_state = Opened 0 false }) }
+
+-- and fid 8 the file, which isn't open
+abbrev pub with_closed : ServerState
+with_closed = record server { fids = insert server.fids 8 (closed 2) }
+
 -- a link to `world`
 abbrev pub link_record : Record
 link_record = record {

@@ -1,6 +1,6 @@
 //! What is done to the entries of directories, computed on a small server: fid 7 names the top
 //! directory, in which `hello` is a file; where that is open, fid 8 names it.
-ghost use Rattle.std.specs.Prelude.{◌≡◌, [], codes};
+ghost use Rattle.std.specs.Prelude.{◌≡◌, [], ◌∷◌, ◌++◌, codes};
 ghost use Rattle.port_base.specs.declared.errno.TheConstants.{EACCES, EBADF, EEXIST, EINVAL};
 ghost use Rattle.port_base.specs.declared.errno.TheConstants.{ENOENT, ENOTDIR, EPERM};
 ghost use Rattle.tree_model.specs.Tree.{keep};
@@ -8,12 +8,14 @@ ghost use Rattle.tree_model.specs.Samples.{born, hello, sample};
 ghost use Rattle.tree_model.specs.Creating.{empty_directory, with_name, with_new};
 ghost use Rattle.tree_model.specs.Unlinking.{without_entry};
 ghost use Rattle.tree_model.specs.Renaming.{with_moved};
-ghost use Rattle.p9_tmsg.specs.Messages.Message.{link, mkdir, mknod, renameat, symlink, unlinkat};
+ghost use Rattle.p9_tmsg.specs.Messages.Message.{link, mkdir, mknod, readdir, renameat, symlink};
+ghost use Rattle.p9_tmsg.specs.Messages.Message.{unlinkat};
 ghost use Rattle.p9_rmsg.specs.Replies.Reply.{lerror, link as linked, mkdir as made};
-ghost use Rattle.p9_rmsg.specs.Replies.Reply.{renameat as moved, unlinkat as unlinked};
+ghost use Rattle.p9_rmsg.specs.Replies.Reply.{readdir as listed, renameat as moved};
+ghost use Rattle.p9_rmsg.specs.Replies.Reply.{unlinkat as unlinked};
 ghost use Rattle.fid_model.specs.Fids.{is_held};
 ghost use Rattle.fid_model.specs.Answers.{core};
-ghost use Rattle.fid_model.specs.Samples.{server, with_open};
+ghost use Rattle.fid_model.specs.Samples.{server, with_closed, with_listing, with_open};
 
 /// A directory that is made, beside a name that is there, a name with a fault, and a fid that
 /// isn't there.
@@ -85,4 +87,22 @@ pub fn unlinking()
 pub fn refusing()
     ensures link { core server (symlink 9 hello hello 0) ≡ (lerror EACCES, server) }
     ensures special { core server (mknod 7 hello 420 1 3 0) ≡ (lerror EACCES, server) }
+{}
+
+/// The entries of a directory that is open: all, those that so few bytes have room for, and those
+/// behind an offset; of one that isn't open, of what is no directory, and of no fid.
+#[tactic(auto, using(crate::proofs::ListingSampling::listed_whole, crate::proofs::ListingSampling::listed_short, crate::proofs::ListingSampling::listed_past, crate::proofs::ListingSampling::listed_closed, crate::proofs::ListingSampling::listed_file, crate::proofs::ListingSampling::listed_nowhere))]
+pub fn listing_directories()
+    ensures whole { core with_listing (readdir 8 0 29)
+        ≡ (
+          listed
+              ((0 ∷ 7 ∷ 0 ∷ 0 ∷ 0 ∷ 2 ∷ 0 ∷ 0 ∷ 0 ∷ 0 ∷ 0 ∷ 0 ∷ 0 ∷ [])
+              ++ ((1 ∷ 0 ∷ 0 ∷ 0 ∷ 0 ∷ 0 ∷ 0 ∷ 0 ∷ []) ++ ((8 ∷ 5 ∷ 0 ∷ []) ++ hello))),
+          with_listing,
+        ) }
+    ensures short { core with_listing (readdir 8 0 28) ≡ (listed [], with_listing) }
+    ensures past { core with_listing (readdir 8 1 256) ≡ (listed [], with_listing) }
+    ensures closed { core server (readdir 7 0 256) ≡ (lerror EBADF, server) }
+    ensures file { core with_closed (readdir 8 0 256) ≡ (lerror ENOTDIR, with_closed) }
+    ensures unknown { core server (readdir 9 0 256) ≡ (lerror EBADF, server) }
 {}

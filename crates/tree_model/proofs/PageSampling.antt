@@ -24,13 +24,13 @@ abbrev shown : Option Record → List Entry
 shown o = cons_option (option_map (λ (r : Record). let e : Entry =
     record { cookie = 1; name = hello; attr = attr_of 2 r } in e) o) []
 
-past_none : entries_past_of sample 1 0 ≡ first ∷ []
+pub past_none : entries_past_of sample 1 0 ≡ first ∷ []
 past_none = ap (past_in 0) top_at ∙ ap shown file_at
 
-past_first : entries_past_of sample 1 1 ≡ []
+pub past_first : entries_past_of sample 1 1 ≡ []
 past_first = ap (past_in 1) top_at
 
-past_in_file : entries_past_of sample 2 0 ≡ []
+pub past_in_file : entries_past_of sample 2 0 ≡ []
 past_in_file = ap (past_in 0) file_at
 
 -- as many of them as fit, of ten bytes each

@@ -5,6 +5,7 @@ use Rattle.std.specs.Fmt.{decimal}
 use Rattle.std.specs.FinMap as map
 use Rattle.port_base.specs.declared.errno.TheConstants.{ENOENT}
 use Rattle.tree_model.specs.declared.attributes.TheConstants.{BLOCK_SIZE, QTDIR, QTFILE, QTSYMLINK}
+use Rattle.tree_model.specs.declared.attributes.TheConstants.{DT_DIR, DT_LNK, DT_REG}
 use Rattle.tree_model.specs.declared.attributes.Kind.{Kind}
 use Rattle.tree_model.specs.declared.attributes.Kind.TheVariants as kind
 use Rattle.tree_model.specs.declared.attributes.Attr.{Attr}
@@ -73,6 +74,12 @@ abbrev pub type_bits : Kind → ℕ
 type_bits kind.File = 32768
 type_bits kind.Directory = 16384
 type_bits kind.Link = 40960
+
+-- the type of an entry of a listing: the type bits of a mode, moved down by twelve
+abbrev pub entry_type : Kind → ℕ
+entry_type kind.File = DT_REG
+entry_type kind.Directory = DT_DIR
+entry_type kind.Link = DT_LNK
 
 -- a qid: type, version and path
 abbrev pub Qid : Type 0

@@ -19,6 +19,15 @@ pub const QTSYMLINK: u8 = 0x02;
 /// The type byte of a regular file's qid (9P2000.L).
 pub const QTFILE: u8 = 0x00;
 
+/// The type of a directory in an entry of a listing (readdir(3), `d_type`).
+pub const DT_DIR: u8 = 4;
+
+/// The type of a regular file in an entry of a listing (readdir(3), `d_type`).
+pub const DT_REG: u8 = 8;
+
+/// The type of a symbolic link in an entry of a listing (readdir(3), `d_type`).
+pub const DT_LNK: u8 = 10;
+
 /// A moment: seconds since 1970 and nanoseconds, which are below 1000000000.
 #[derive(Clone, Copy, Debug, PartialEq, Eq)]
 pub struct Stamp {

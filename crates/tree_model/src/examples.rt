@@ -1,6 +1,7 @@
 //! Definitions computed on a small tree: a top directory with the file `hello`, inode 2, of five
 //! bytes.
-ghost use Rattle.std.specs.Prelude.{◌≡◌, ℕ, Bool, true, false, Ok, Err, Some, None, [], ◌∷◌, codes};
+ghost use Rattle.std.specs.Prelude.{◌≡◌, ◌/◌, ℕ, Bool, true, false, Ok, Err, Some, None, [], ◌∷◌};
+ghost use Rattle.std.specs.Prelude.{codes};
 ghost use Rattle.std.specs.FinMap.{insert, empty};
 ghost use Rattle.port_base.specs.declared.errno.TheConstants.{EPERM, ENOENT, EEXIST, ENOTDIR};
 ghost use Rattle.port_base.specs.declared.errno.TheConstants.{EISDIR, EINVAL, EFBIG, ENOTEMPTY};
@@ -22,7 +23,8 @@ ghost use Rattle.tree_model.specs.Attributing.{retimed, rewritten_at, set_mode_o
 ghost use Rattle.tree_model.specs.Attributing.{set_owner_of, owned_by, touch_ctime_of, restamped};
 ghost use Rattle.tree_model.specs.Opening.{open_check_of, open_refused, read_of, readlink_of};
 ghost use Rattle.tree_model.specs.Opening.{readlink_body, found_at};
-ghost use Rattle.tree_model.specs.Attributes.{attr_of, statfs_of, stat_of, qid_of};
+ghost use Rattle.tree_model.specs.Attributes.{attr_of, entry_type, qid_of, statfs_of, stat_of};
+ghost use Rattle.tree_model.specs.Attributes.{type_bits};
 ghost use Rattle.tree_model.specs.Creating.{stamped, with_new, with_name, empty_file};
 ghost use Rattle.tree_model.specs.Creating.{empty_directory, create_of, mkdir_of, link_of};
 ghost use Rattle.tree_model.specs.Unlinking.{without, parted_by, links_left, without_entry};
@@ -88,6 +90,9 @@ pub fn paging()
     ensures of_file { page_of (λ e. 10) 10 sample 2 0 ≡ [] }
     ensures fits { front_within (λ n. n) 10 (3 ∷ 4 ∷ 5 ∷ 1 ∷ []) ≡ 3 ∷ 4 ∷ [] }
     ensures last { last_cookie 7 [] ≡ 7 }
+    ensures file_type { entry_type kind.File ≡ type_bits kind.File / 4096 }
+    ensures directory_type { entry_type kind.Directory ≡ type_bits kind.Directory / 4096 }
+    ensures link_type { entry_type kind.Link ≡ type_bits kind.Link / 4096 }
 {}
 
 /// What stands at the end of a path, whatever its kind.
