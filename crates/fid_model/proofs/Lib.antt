@@ -9,3 +9,4 @@ pub mod Entries
 pub mod FileSampling
 pub mod Listings
 pub mod ListingSampling
+pub mod Names

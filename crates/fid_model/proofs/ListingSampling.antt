@@ -1,6 +1,6 @@
 -- Directories of the small server that are listed.
 use Rattle.std.proofs.Common.{◌≡◌, ℕ, Bool, true, List, [], ◌∷◌, ◌++◌, refl, ap, ◌∙◌, Option, Some}
-use Rattle.std.proofs.Common.{Result, Ok, Err, cond, not}
+use Rattle.std.proofs.Common.{Result, Ok, Err, cond, not, false}
 use Rattle.std.specs.FinMap.{get}
 use Rattle.port_base.specs.declared.errno.TheConstants.{EBADF, ENOTDIR}
 use Rattle.tree_model.specs.Tree.{Body, is_directory_at}

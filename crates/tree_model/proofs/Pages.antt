@@ -3,14 +3,15 @@
 use Rattle.std.proofs.Common.{◌≡◌, ◌≢◌, ℕ, ◌+◌, ◌-◌, ◌<◌, ◌≤◌, Bool, true, false, cond}
 use Rattle.std.proofs.Common.{List, [], ◌∷◌, ◌++◌, refl, sym, ap, ◌∙◌, subst, Option, Some}
 use Rattle.std.proofs.Common.{None, Result, Ok, ⊎_elim, arith, nat_lt, IsSome}
-use Rattle.std.specs.Prelude.{nat_le, filter, Contains, option_map}
+use Rattle.std.specs.Prelude.{All, nat_le, filter, Contains, option_map}
 use Rattle.std.specs.Prelude.{option_and_then, sum_by}
 use Rattle.std.specs.List.{filter_map, cons_option}
 use Rattle.std.proofs.lemmas.Bool.{false≢true, cases_lt}
 use Rattle.std.proofs.lemmas.Bool.Decides.{nat_tests}
-use Rattle.std.proofs.lemmas.List.Elements.{Contains-append_right}
+use Rattle.std.proofs.lemmas.List.Elements.{Contains-append_right, All-contains}
 use Rattle.std.proofs.lemmas.List.Sums.{sum_by-cons}
 use Rattle.std.specs.FinMap.{get}
+use Rattle.port_base.specs.Names.{name_fault}
 use Rattle.tree_model.specs.Tree.{Tree, Record, Records, Body, DirEntry, listed}
 use Rattle.tree_model.specs.Tree.Body.{File, Directory, Link}
 use Rattle.tree_model.specs.Good.{IsAt, IsGoodTree, IsGoodBody, CookiesRise}
@@ -99,14 +100,16 @@ first_past c from (e ∷ es) end d rise is =
 record BeginsAbove (rs : Records) (es : List DirEntry) (c : ℕ) (e : Entry) : Type 0 where
   splits : entries_past rs c (Some es) ≡ e ∷ entries_past rs e.cookie (Some es)
   above : c < e.cookie
+  named : (d : DirEntry) × Contains es d × (d.name ≡ e.name)
 
 shown : (rs : Records) (d : DirEntry) (o : Option Record) → get rs d.ino ≡ o → IsSome o
-    → (e : Entry) × (shown_entry rs d ≡ Some e) × (e.cookie ≡ d.cookie)
+    → (e : Entry) × (shown_entry rs d ≡ Some e) × (e.cookie ≡ d.cookie) × (d.name ≡ e.name)
 shown rs d None at some = absurd (false≢true some)
 shown rs d (Some r) at some = (
   record { cookie = d.cookie; name = d.name; attr = attr_of d.ino r },
   ap (option_map (λ (r : Record). let e : Entry =
       record { cookie = d.cookie; name = d.name; attr = attr_of d.ino r } in e)) at,
+  refl,
   refl,
 )
 
@@ -124,6 +127,7 @@ begins_above rs es end c d stored rise is =
             ∙ ap (λ o. cons_option o (filter_map (shown_entry rs) (past d.cookie es))) e.1
             ∙ ap (λ k. e.0 ∷ filter_map (shown_entry rs) (past k es)) (sym e.2);
         above = subst (λ k. c < k) (sym e.2) first.above;
+      named = (d, first.among, e.3);
       },
     )
 
@@ -141,6 +145,7 @@ module _ (t : Tree) (g : IsGoodTree t) (dir : ℕ) where
     end : ℕ
     rise : CookiesRise 1 es end
     stored : (f : DirEntry) → Contains es f → IsSome (get rs f.ino)
+    named : (f : DirEntry) → Contains es f → name_fault f.name ≡ None
 
   holds_in : (r : Record) → IsAt rs dir r → (b : Body) → r.body ≡ b → (es : List DirEntry)
       → entries_of b ≡ Some es → Holds es
@@ -154,6 +159,8 @@ module _ (t : Tree) (g : IsGoodTree t) (dir : ℕ) where
         rise = subst (λ es. CookiesRise 1 es next) same good.0;
         stored = λ f has. (g.entries dir r f at (subst (λ b. Contains (listed b) f) (sym is)
             (subst (λ es. Contains es f) (sym same) has))).0;
+        named = λ f has. All-contains (λ e. name_fault e.name ≡ None) es f
+            (subst (λ es. All (λ e. name_fault e.name ≡ None) es) same good.1) has;
       }
 
   holds : (es : List DirEntry) → entries_at rs dir ≡ Some es → Holds es
@@ -168,7 +175,8 @@ module _ (t : Tree) (g : IsGoodTree t) (dir : ℕ) where
     none_there : entries_past_of t dir c ≡ [] → ((e : Entry) → entry_after_of t dir c ≢ Ok (Some e))
         → Comes c
     one_there : (e : Entry) → entry_after_of t dir c ≡ Ok (Some e)
-        → entries_past_of t dir c ≡ e ∷ entries_past_of t dir e.cookie → c < e.cookie → Comes c
+        → entries_past_of t dir c ≡ e ∷ entries_past_of t dir e.cookie → c < e.cookie
+        → name_fault e.name ≡ None → Comes c
 
   comes : (c : ℕ) → Comes c
   comes c = by_entries (entries_at rs dir) refl where
@@ -191,13 +199,15 @@ module _ (t : Tree) (g : IsGoodTree t) (dir : ℕ) where
           (ap (entries_past rs c) is ∙ (first.2).splits
           ∙ ap (λ xs. first.0 ∷ xs) (sym (ap (entries_past rs (first.0).cookie) is)))
           (first.2).above
+          (let named = (first.2).named in subst (λ n. name_fault n ≡ None) named.2
+          (has.named named.0 named.1))
 
   -- where none comes after a cookie, there are none above it
   pub none_after : (c : ℕ) → entry_after_of t dir c ≡ Ok None → entries_past_of t dir c ≡ []
   none_after c is = by_cases (comes c) where
     by_cases : Comes c → entries_past_of t dir c ≡ []
     by_cases (none_there none never) = none
-    by_cases (one_there e there splits above) = absurd (cc)
+    by_cases (one_there e there splits above fine) = absurd (cc)
 
   -- one that comes after a cookie is the first above it, and the rest are above its own
   pub first_after : (c : ℕ) (e : Entry) → entry_after_of t dir c ≡ Ok (Some e)
@@ -206,10 +216,19 @@ module _ (t : Tree) (g : IsGoodTree t) (dir : ℕ) where
     by_cases : Comes c
         → (entries_past_of t dir c ≡ e ∷ entries_past_of t dir e.cookie) × (c < e.cookie)
     by_cases (none_there none never) = absurd (never e is)
-    by_cases (one_there f there splits above) =
+    by_cases (one_there f there splits above fine) =
         let same : f ≡ e = cc in
         subst (λ (e : Entry). (entries_past_of t dir c ≡ e ∷ entries_past_of t dir e.cookie)
         × (c < e.cookie)) same (splits, above)
+
+  -- its name has no fault
+  pub named_after : (c : ℕ) (e : Entry) → entry_after_of t dir c ≡ Ok (Some e)
+      → name_fault e.name ≡ None
+  named_after c e is = by_cases (comes c) where
+    by_cases : Comes c → name_fault e.name ≡ None
+    by_cases (none_there none never) = absurd (never e is)
+    by_cases (one_there f there splits above fine) =
+        let same : f ≡ e = cc in subst (λ (e : Entry). name_fault e.name ≡ None) same fine
 
   abbrev pub Rests : ℕ → List Entry → Entry → Type 0
   Rests c more e = (entry_after_of t dir c ≡ Ok (Some e)) × (entries_past_of t dir e.cookie ≡ more)
@@ -221,7 +240,7 @@ module _ (t : Tree) (g : IsGoodTree t) (dir : ℕ) where
   rest_after c e more is = by_cases (comes c) where
     by_cases : Comes c → Rests c more e
     by_cases (none_there none never) = absurd (cc)
-    by_cases (one_there f there splits above) =
+    by_cases (one_there f there splits above fine) =
         let same : f ≡ e = cc in
         let others : entries_past_of t dir f.cookie ≡ more = cc in
         subst (Rests c more) same (there, others, above)
