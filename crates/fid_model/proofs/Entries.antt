@@ -1,8 +1,7 @@
 -- Entries of the small server's directory that are made, linked, moved and taken away.
-use Rattle.std.proofs.Common.{◌≡◌, ℕ, zero, suc, ◌<◌, lit<, true, cond, not, List, [], ◌∷◌, ap, ◌∙◌}
-use Rattle.std.proofs.Common.{Option, Some, None, Result, Ok, Err}
+use Rattle.std.proofs.Common.{◌≡◌, ℕ, zero, suc, ◌<◌, lit<, cond, not, List, [], ◌∷◌, ap, ◌∙◌}
+use Rattle.std.proofs.Common.{Option, Some, None, Result}
 use Rattle.std.specs.Prelude.{codes, slice_index, Bool}
-use Rattle.std.specs.Str.{is_utf8}
 use Rattle.std.proofs.lemmas.Str.{IsUtf8-from_ascii, is_utf8-from_IsUtf8}
 use Rattle.std.specs.FinMap.{get}
 use Rattle.port_base.specs.Names.{name_fault}

@@ -1,14 +1,14 @@
 -- Files of the small server that are emptied, made, written and given attributes.
-use Rattle.std.proofs.Common.{◌≡◌, ℕ, Bool, true, false, cond, List, refl, sym, ap, ◌∙◌, Option}
-use Rattle.std.proofs.Common.{Some, None, Result, Ok, Err, arith}
+use Rattle.std.proofs.Common.{◌≡◌, ℕ, Bool, true, false, cond, List, ap, ◌∙◌, Option}
+use Rattle.std.proofs.Common.{Some, None, Result, arith}
 use Rattle.std.specs.Prelude.{codes, option_map, ◌==◌, [], ◌∷◌}
 use Rattle.std.specs.FinMap.{get, insert}
 use Rattle.port_base.specs.declared.errno.TheConstants.{EBADF, EEXIST, EINVAL, EISDIR, ENOTDIR}
 use Rattle.port_base.specs.Names.{name_fault}
 use Rattle.port_base.proofs.ByComputing.{name_word, name_three_dots}
-use Rattle.tree_model.specs.Tree.{Tree, Record, Records, Body, body_at, is_directory_at}
+use Rattle.tree_model.specs.Tree.{Tree, Record, Body, is_directory_at}
 use Rattle.tree_model.specs.Making.{changed, change, file_record, joined_by, unless_refused}
-use Rattle.tree_model.specs.Attributes.{Qid, attr_or_missing}
+use Rattle.tree_model.specs.Attributes.{attr_or_missing}
 use Rattle.tree_model.specs.Attributing.{len_refused, overwritten_at, refused_at, refused_for_link}
 use Rattle.tree_model.specs.Attributing.{remoded, resized, rewritten_at, with_changed}
 use Rattle.tree_model.specs.Renaming.{first_of}
@@ -28,7 +28,7 @@ use Rattle.fid_model.specs.FidCalls.{by_fid, by_open_fid}
 use Rattle.fid_model.specs.TreeCalls.{tree_answer, unless_some}
 use Rattle.fid_model.specs.Files.{new_file_of, new_file_refused, size_told, write_place}
 use Rattle.fid_model.specs.Setattr.{Changes, changes, run_on, resize_step, run, size_refused}
-use Rattle.fid_model.specs.Setattr.{step_unless, steps}
+use Rattle.fid_model.specs.Setattr.{step_unless}
 use Rattle.fid_model.specs.Answers.{core, emptied_where, lcreate_answer, lopen_answer, lopen_by}
 use Rattle.fid_model.specs.Answers.{qid_told, setattr_by, setattr_reply}
 use Rattle.fid_model.specs.Samples.{server, with_open, with_writer, file_qid}

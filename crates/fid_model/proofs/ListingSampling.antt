@@ -1,6 +1,6 @@
 -- Directories of the small server that are listed.
-use Rattle.std.proofs.Common.{◌≡◌, ℕ, Bool, true, List, [], ◌∷◌, ◌++◌, refl, ap, ◌∙◌, Option, Some}
-use Rattle.std.proofs.Common.{Result, Ok, Err, cond, not, false}
+use Rattle.std.proofs.Common.{◌≡◌, ℕ, List, [], ◌∷◌, ◌++◌, ap, ◌∙◌, Option, Some}
+use Rattle.std.proofs.Common.{Ok, Err, cond, not, false}
 use Rattle.std.specs.FinMap.{get}
 use Rattle.port_base.specs.declared.errno.TheConstants.{EBADF, ENOTDIR}
 use Rattle.tree_model.specs.Tree.{Body, is_directory_at}
@@ -18,8 +18,8 @@ use Rattle.fid_model.specs.Fids.OpenState.{Opened}
 use Rattle.fid_model.specs.FidCalls.{by_fid, told_answer}
 use Rattle.fid_model.specs.Listings.{entry_size, entries_spelling, page_by}
 use Rattle.fid_model.specs.Answers.{core}
-use Rattle.fid_model.specs.Samples.{server, with_open, with_listing, with_closed}
-use Rattle.fid_model.proofs.Sampling.{seven, nine, eight_open}
+use Rattle.fid_model.specs.Samples.{server, with_listing, with_closed}
+use Rattle.fid_model.proofs.Sampling.{seven, nine}
 
 -- ---- by the fid
 

@@ -1,9 +1,9 @@
 -- Sessions, locks, sizes and links on a small server, by what its maps have.
-use Rattle.std.proofs.Common.{◌≡◌, ℕ, refl, ap, ◌∙◌, Option, Some, None, Result, Ok, Err, arith}
+use Rattle.std.proofs.Common.{◌≡◌, ℕ, ap, ◌∙◌, Option, Some, Result, Ok, Err}
 use Rattle.std.specs.Prelude.{codes, replicate, option_map, List}
-use Rattle.std.specs.FinMap.{get, insert}
+use Rattle.std.specs.FinMap.{get}
 use Rattle.port_base.specs.declared.errno.TheConstants.{EBADF, EINVAL, ENAMETOOLONG}
-use Rattle.tree_model.specs.Tree.{Record, Body}
+use Rattle.tree_model.specs.Tree.{Record}
 use Rattle.tree_model.specs.Opening.{body_answer, readlink_body, readlink_of}
 use Rattle.tree_model.specs.Samples.{sample}
 use Rattle.tree_model.proofs.Maps.{inserted}
