@@ -27,3 +27,4 @@ pub mod Telling
 pub mod Chains
 pub mod Pages
 pub mod PageSampling
+pub mod Folding

@@ -127,7 +127,7 @@ begins_above rs es end c d stored rise is =
             ∙ ap (λ o. cons_option o (filter_map (shown_entry rs) (past d.cookie es))) e.1
             ∙ ap (λ k. e.0 ∷ filter_map (shown_entry rs) (past k es)) (sym e.2);
         above = subst (λ k. c < k) (sym e.2) first.above;
-      named = (d, first.among, e.3);
+        named = (d, first.among, e.3);
       },
     )
 

@@ -1,7 +1,8 @@
 -- Names and paths in a tree.
-use Rattle.std.specs.Prelude.{ℕ, ◌+◌, Bool, false, ◌&&◌, not, List, [], ◌∷◌, length, filter}
-use Rattle.std.specs.Prelude.{find as first_where, Option, Some, None, Result, Ok, Err}
-use Rattle.std.specs.Prelude.{option_and_then, if◌then◌else◌, ◌==◌, nat_le, bytes_eq, map, is_some}
+use Rattle.std.specs.Prelude.{ℕ, Bool, false, not, List, [], ◌∷◌, length, filter, Option, Some}
+use Rattle.std.specs.Prelude.{find as first_where, None, Result, Ok, Err, ok_or, option_map}
+use Rattle.std.specs.Prelude.{option_and_then, if◌then◌else◌, ◌==◌, bytes_eq, map, is_some}
+use Rattle.std.specs.Char.{to_ascii_lowercase}
 use Rattle.std.specs.List.{slice_split}
 use Rattle.port_base.specs.declared.errno.TheConstants.{ENOENT, ENOTDIR}
 use Rattle.tree_model.specs.Tree.{Tree, Records, Body, DirEntry, TOP, body_at, is_directory_at}
@@ -20,13 +21,9 @@ entries_at rs dir = option_and_then entries_of (body_at rs dir)
 abbrev pub entry_named : List ℕ → List DirEntry → Option DirEntry
 entry_named name es = first_where (λ e. bytes_eq e.name name) es
 
--- an ASCII letter in lower case, and every other byte as it is
-abbrev pub folded_byte : ℕ → ℕ
-folded_byte b = if nat_le 65 b && nat_le b 90 then b + 32 else b
-
 -- equal, where the case of ASCII letters is ignored
 abbrev pub same_folded : List ℕ → List ℕ → Bool
-same_folded a b = bytes_eq (map folded_byte a) (map folded_byte b)
+same_folded a b = bytes_eq (map to_ascii_lowercase a) (map to_ascii_lowercase b)
 
 -- the first entry, in cookie order, whose name is the same but for case
 abbrev pub entry_folded : List ℕ → List DirEntry → Option DirEntry
@@ -45,6 +42,15 @@ found_among casefold name es =
 abbrev pub ino_among : Bool → List ℕ → Option (List DirEntry) → Result ℕ ℕ
 ino_among casefold name None = Err ENOTDIR
 ino_among casefold name (Some es) = ino_or_missing (found_among casefold name es)
+
+-- the name, as the directory has it, that is the first to be the same but for case
+abbrev pub folded_name_among : List ℕ → Option (List DirEntry) → Result (List ℕ) ℕ
+folded_name_among name None = Err ENOTDIR
+folded_name_among name (Some es) =
+    ok_or (option_map (λ (e : DirEntry). e.name) (entry_folded name es)) ENOENT
+
+abbrev pub folded_name_of : Tree → ℕ → List ℕ → Result (List ℕ) ℕ
+folded_name_of t dir name = folded_name_among name (entries_at t.records dir)
 
 -- the inode that a name of a directory names, with case folded or not
 abbrev pub find : Bool → Tree → ℕ → List ℕ → Result ℕ ℕ

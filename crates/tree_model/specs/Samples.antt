@@ -1,8 +1,8 @@
 -- A small tree, on which definitions are computed.
-use Rattle.std.specs.Prelude.{ℕ, List, codes}
+use Rattle.std.specs.Prelude.{ℕ, List, [], ◌∷◌, codes}
 use Rattle.tree_model.specs.declared.attributes.Stamp.{Stamp}
 use Rattle.tree_model.specs.declared.attributes.Limits.{Limits}
-use Rattle.tree_model.specs.Tree.{Tree, TOP}
+use Rattle.tree_model.specs.Tree.{Tree, DirEntry, TOP}
 use Rattle.tree_model.specs.Making.{new_tree, NewFile, with_file}
 
 abbrev pub born : Stamp
@@ -24,3 +24,9 @@ world = record { mode = 420; uid = 5; gid = 6; bytes = codes "world" }
 -- the top directory with one file, `hello`, which is inode 2
 abbrev pub sample : Tree
 sample = with_file born alone TOP hello world
+
+-- entries whose names differ in case alone
+abbrev pub alike : List DirEntry
+alike =
+    record { cookie = 1; name = codes "README"; ino = 2 }
+    ∷ record { cookie = 2; name = codes "readme"; ino = 3 } ∷ []

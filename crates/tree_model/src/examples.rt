@@ -7,11 +7,12 @@ ghost use Rattle.port_base.specs.declared.errno.TheConstants.{EPERM, ENOENT, EEX
 ghost use Rattle.port_base.specs.declared.errno.TheConstants.{EISDIR, EINVAL, EFBIG, ENOTEMPTY};
 ghost use Rattle.port_base.specs.declared.errno.TheConstants.{ELOOP, EOPNOTSUPP};
 ghost use Rattle.tree_model.specs.declared.attributes.Kind.TheVariants as kind;
-ghost use Rattle.tree_model.specs.Samples.{born, alone, sample, hello, world};
+ghost use Rattle.tree_model.specs.Samples.{born, alone, sample, hello, alike, world};
 ghost use Rattle.tree_model.specs.Tree.{keep};
 ghost use Rattle.tree_model.specs.Tree.Body.{File, Directory, Link};
 ghost use Rattle.tree_model.specs.Making.{top_record, joined_by, file_record};
-ghost use Rattle.tree_model.specs.Finding.{find, lookup_of, root_of};
+ghost use Rattle.tree_model.specs.Finding.{find, lookup_of, root_of, ino_among};
+ghost use Rattle.tree_model.specs.Finding.{folded_name_among};
 ghost use Rattle.tree_model.specs.Reading.{above_of, entry_after_of, next_cookie_of};
 ghost use Rattle.tree_model.specs.Settings.{mapped};
 ghost use Rattle.tree_model.specs.Pages.{front_within, last_cookie, page_of};
@@ -116,6 +117,16 @@ pub fn looking_up()
     ensures above { above_of sample 1 ≡ 1 }
     ensures next_cookie { next_cookie_of sample 1 ≡ 2 }
     ensures no_cookie { next_cookie_of sample 2 ≡ 0 }
+{}
+
+/// Of names that differ in case alone: the exact one, then the first in the order of cookies.
+pub fn folding()
+    ensures first { ino_among true (codes "README") (Some alike) ≡ Ok 2 }
+    ensures second { ino_among true (codes "readme") (Some alike) ≡ Ok 3 }
+    ensures neither { ino_among true (codes "Readme") (Some alike) ≡ Ok 2 }
+    ensures exactly { ino_among false (codes "Readme") (Some alike) ≡ Err ENOENT }
+    ensures other { ino_among true (codes "Reader") (Some alike) ≡ Err ENOENT }
+    ensures written { folded_name_among (codes "Readme") (Some alike) ≡ Ok (codes "README") }
 {}
 
 /// What is told of the file: by `stat`, as a qid, and with the owner that a map gives.
