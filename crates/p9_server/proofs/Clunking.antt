@@ -74,7 +74,6 @@ module _ (h : Holds) (fids : Fids) (msize : ℕ) (settings : Settings)
             sound.bounded;
         roomy = sound.roomy;
         below = sound.below;
-        plain = sound.plain;
       }
 
       pub gone_step : (t t' : Tree) → t' ≡ keep (is_held h') t → (steady : Bool) (f0 f1 : ℕ)

@@ -82,7 +82,6 @@ module _ (h : Holds) (fids : Fids) (msize : ℕ) (settings : Settings)
           sound.bounded;
       roomy = sound.roomy;
       below = sound.below;
-      plain = sound.plain;
     }
 
     pub moved_tree : (u v : Tree) → v ≡ keep (is_held h2) u
@@ -138,16 +137,14 @@ module _ (t : Tree) (fids : Fids) (msize : ℕ) (settings : Settings) (n : ℕ) 
         → keep (is_named (with_file ino)) u ≡ u
     all_kept good ino is = by_refusal (new_file_refused (is_directory_at (body_at t.records dir))
         name flags) refl where
-          by_refusal : (o : Option ℕ) → new_file_refused (is_directory_at (body_at t.records dir))
-              name
+          by_refusal : (o : Option ℕ) → new_file_refused (is_directory_at (body_at t.records dir)) name
               flags ≡ o → keep (is_named (with_file ino)) u ≡ u
           by_refusal (Some e) other = absurd (let wrong : Err e ≡ Ok (ino, u) =
               sym (ap (λ o. unless_some o (create_of t dir name mode)) other) ∙ is in cc)
           by_refusal None free =
               let made : create_of t dir name mode ≡ Ok (ino, u) =
               sym (ap (λ o. unless_some o (create_of t dir name mode)) free) ∙ is in
-              let fine = fine_name (is_directory_at (body_at t.records dir)) name flags
-              (ap unless free)
+              let fine = fine_name (is_directory_at (body_at t.records dir)) name flags (ap unless free)
               in
               let f = named fids n dir known in
               let linked = created_linked t good dir name mode ino u fine made in

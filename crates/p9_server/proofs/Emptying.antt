@@ -21,8 +21,8 @@ no_fid i = let few = fid_count-few empty i in let none = len-empty nat_cmp Fid i
 
 pub sound_empty : (h : Holds) (fids : Fids) (msize : ℕ) (settings : Settings) → h ≡ empty
     → fids ≡ empty → settings.limit < 2 ^ 32 → 256 ≤ msize → msize < 2 ^ 32
-    → settings.casefold ≡ false → IsSound h fids msize settings
-sound_empty h fids msize settings none no_fids bounded roomy below plain = record {
+    → IsSound h fids msize settings
+sound_empty h fids msize settings none no_fids bounded roomy below = record {
   held = λ i. ap (λ (k : Holds). hold_count k i) none
       ∙ ap (λ o. unwrap_or o 0) (get-empty nat_cmp i)
       ∙ sym (ap (λ (f : Fids). fid_count f i) no_fids ∙ no_fid i);
@@ -30,7 +30,6 @@ sound_empty h fids msize settings none no_fids bounded roomy below plain = recor
   bounded = bounded;
   roomy = roomy;
   below = below;
-  plain = plain;
 }
 
 or_false : (b : Bool) → (b || false) ≡ b

@@ -7,6 +7,7 @@ pub mod Locks
 pub mod Clunking
 pub mod Showing
 pub mod Taking
+pub mod Folded
 pub mod Walks
 pub mod NamedFids
 pub mod Attaching

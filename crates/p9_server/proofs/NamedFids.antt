@@ -120,7 +120,6 @@ module _ (h : Holds) (fids : Fids) (msize : ℕ) (settings : Settings)
         sound.bounded;
     roomy = sound.roomy;
     below = sound.below;
-    plain = sound.plain;
   }
 
   -- one hold more, for the fid that is to come
@@ -138,7 +137,6 @@ module _ (h : Holds) (fids : Fids) (msize : ℕ) (settings : Settings)
     roomy =
         sound.roomy;
     below = sound.below;
-    plain = sound.plain;
   }
 
   few_by : (b : Bool) (n l m : ℕ) → n ≤ l → (b ≡ false → n < l) → m ≡ cond b n (n + 1) → m ≤ l

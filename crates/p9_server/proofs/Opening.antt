@@ -115,7 +115,6 @@ module _ (fids : Fids) (n ino flags : ℕ) (known : Ok ino ≡ ino_told (get fid
     bounded = sound.bounded;
     roomy = sound.roomy;
     below = sound.below;
-    plain = sound.plain;
   }
 
   still_kept : (t : Tree) → IsKept t.records (is_named fids)

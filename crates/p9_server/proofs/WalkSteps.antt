@@ -162,7 +162,7 @@ no_qids : (qids : List QidStruct) → qids ≡ [] → map qid_plain qids ≡ []
 no_qids qids e = ap (map qid_plain) e
 
 module _ {V : Type 0} (items : V → List QidStruct) (t : Tree) (fids : Fids) (msize : ℕ)
-    (settings : Settings) (plain : settings.casefold ≡ false) (fid newfid : ℕ)
+    (settings : Settings) (fid newfid : ℕ)
     (names : List (List ℕ)) (kept : IsKept t.records (is_named fids)) (steady : Bool) where
   abbrev pub state : ServerState
   state = server_state t fids msize settings
@@ -180,9 +180,8 @@ module _ {V : Type 0} (items : V → List QidStruct) (t : Tree) (fids : Fids) (m
   module _ (start : ℕ) (begins : Ok start ≡ walk_start fids settings.limit fid newfid
       (length names)) (t' : Tree) (f0 f1 : ℕ) where
     core_start : walk_core state fid newfid names ≡ walk_answer state newfid
-        (walk_names false t names start)
+        (walk_names settings.casefold t names start)
     core_start = core_is state fid newfid names ∙ ap (core_by state newfid names) (sym begins)
-        ∙ ap (λ (b : Bool). walk_answer state newfid (walk_names b t names start)) plain
 
     module _ (v : V) (same : t' ≡ t) where
       abbrev after : ServerState
@@ -191,15 +190,16 @@ module _ {V : Type 0} (items : V → List QidStruct) (t : Tree) (fids : Fids) (m
       after_same : after ≡ state
       after_same j = server_state (same j) fids msize settings
 
-      stopped_core : (e : ℕ) → (map qid_plain (items v) ≡ (walk_names false t names start).0)
-          × ((walk_names false t names start).1 ≡ Err e)
+      stopped_core : (e : ℕ) → (map qid_plain (items v)
+          ≡ (walk_names settings.casefold t names start).0)
+          × ((walk_names settings.casefold t names start).1 ≡ Err e)
           → walk_core state fid newfid names ≡ walk_answer state newfid
           (map qid_plain (items v), Err e)
       stopped_core e w = core_start ∙ (λ j. walk_answer state newfid (sym w.0 j, w.1 j))
 
       -- a walk that stops after some names tells their qids
       pub walk_some : 1 ≤ length (items v) → (e : HostError) → e ≢ NoMemory
-          → Walks t names start (map qid_plain (items v)) (Err e)
+          → Walks settings.casefold t names start (map qid_plain (items v)) (Err e)
           → Causes {A = ℕ} steady f0 f1 (Err e)
           → IsStep (walk fid newfid names) (walks items) state after steady f0 f1 (Ok v)
       walk_some some (Errno e) no_memory w c =
@@ -217,12 +217,8 @@ module _ {V : Type 0} (items : V → List QidStruct) (t : Tree) (fids : Fids) (m
           length-map (items v) qid_plain in omega arith in
           let front = w.exactly many in
           let s = starts fids settings.limit fid newfid (length names) start begins in
-          let from : IsFrontOfWalk settings.casefold t names s.fid_state.ino
-          (map qid_plain (items v)) =
-          subst (λ (b : Bool). IsFrontOfWalk b t names s.fid_state.ino (map qid_plain (items v)))
-          (sym plain)
-          (subst (λ (i : ℕ). IsFrontOfWalk false t names i (map qid_plain (items v))) (sym s.ino)
-          front.1) in
+          let from = subst (λ (i : ℕ). IsFrontOfWalk settings.casefold t names i
+          (map qid_plain (items v))) (sym s.ino) front.1 in
           record {
             answer = inr (
               c.counted.0.1,
@@ -238,7 +234,7 @@ module _ {V : Type 0} (items : V → List QidStruct) (t : Tree) (fids : Fids) (m
 
       -- one that stops before, why it does
       pub walk_none : (e : HostError) → (items v ≡ []) ⊎ (e ≡ NoMemory)
-          → Walks t names start (map qid_plain (items v)) (Err e)
+          → Walks settings.casefold t names start (map qid_plain (items v)) (Err e)
           → Causes {A = ℕ} steady f0 f1 (Err e)
           → IsStep (walk fid newfid names) (walks items) state after steady f0 f1 (Err e)
       walk_none (Errno e) none w c =
@@ -256,7 +252,7 @@ module _ {V : Type 0} (items : V → List QidStruct) (t : Tree) (fids : Fids) (m
       pub walk_stopped : (e : HostError) (r : Result V HostError)
           → IfOk r (λ q. (q ≡ v) × (1 ≤ length (items v)) × (e ≢ NoMemory))
           → IfErr r (λ d. (d ≡ e) × ((items v ≡ []) ⊎ (e ≡ NoMemory)))
-          → Walks t names start (map qid_plain (items v)) (Err e)
+          → Walks settings.casefold t names start (map qid_plain (items v)) (Err e)
           → Causes {A = ℕ} steady f0 f1 (Err e)
           → IsStep (walk fid newfid names) (walks items) state after steady f0 f1 r
       walk_stopped e (Ok q) told failed w c =
@@ -268,7 +264,8 @@ module _ {V : Type 0} (items : V → List QidStruct) (t : Tree) (fids : Fids) (m
 
     module _ (fids' : Fids) (swept : t' ≡ keep (is_named fids') t) (count : f1 ≡ f0) where
       -- the whole walk gives the new fid its inode
-      pub walk_done : (v : V) (at : ℕ) → Walks t names start (map qid_plain (items v)) (Ok at)
+      pub walk_done : (v : V) (at : ℕ) → Walks settings.casefold t names start
+          (map qid_plain (items v)) (Ok at)
           → fids' ≡ insert fids newfid (closed at)
           → IsStep (walk fid newfid names) (walks items) state
           (server_state t' fids' msize settings) steady f0 f1 (Ok v)
@@ -279,9 +276,9 @@ module _ {V : Type 0} (items : V → List QidStruct) (t : Tree) (fids : Fids) (m
           ∙ (λ j. pair (walk_answer state newfid (w.exactly.0 j, Ok at)).0
           (kept_state (walk_answer state newfid (w.exactly.0 j, Ok at)).1))
           ∙ (λ j. pair (walk_answer state newfid
-          ((walk_names false t names start).0, sym w.exactly.1 j)).0
+          ((walk_names settings.casefold t names start).0, sym w.exactly.1 j)).0
           (kept_state (walk_answer state newfid
-          ((walk_names false t names start).0, sym w.exactly.1 j)).1))
+          ((walk_names settings.casefold t names start).0, sym w.exactly.1 j)).1))
           ∙ sym (ap (λ (x : Reply × ServerState). pair x.0 (kept_state x.1)) core_start)) count
 
       pub walk_no_memory : (e : HostError) → fids' ≡ fids

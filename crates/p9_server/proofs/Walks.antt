@@ -1,5 +1,5 @@
 -- A walk, name by name.
-use Rattle.std.proofs.Common.{◌≡◌, ◌≢◌, ℕ, zero, suc, ◌+◌, ◌<◌, ◌≤◌, false, cond, List, [], ◌∷◌}
+use Rattle.std.proofs.Common.{◌≡◌, ◌≢◌, ℕ, zero, suc, ◌+◌, ◌<◌, ◌≤◌, Bool, cond, List, [], ◌∷◌}
 use Rattle.std.proofs.Common.{◌++◌, length, take, drop, map, refl, sym, ap, ◌∙◌, subst, Result, Ok}
 use Rattle.std.proofs.Common.{Err, arith, add-one, get_or}
 use Rattle.std.proofs.lemmas.Bool.Decides.{nat_tests}
@@ -24,9 +24,9 @@ use Rattle.p9_server.proofs.HoldCounts.{kept_more, less_counts_of}
 
 -- ---- the definition, over names joined end to end
 
-module _ (t : Tree) where
+module _ (casefold : Bool) (t : Tree) where
   abbrev walk : List (List ℕ) → ℕ → Walked
-  walk = walk_names false t
+  walk = walk_names casefold t
 
   abbrev Joins : List (List ℕ) → List (List ℕ) → ℕ → ℕ → Type 0
   Joins front rest start at = (walk front start).1 ≡ Ok at
@@ -37,7 +37,7 @@ module _ (t : Tree) where
       let same : start ≡ at = cc in
       ap (λ (i : ℕ). walk rest i) same
   walk-append (name ∷ names) rest start at is =
-      by_step (λ i. walk-append names rest i at) (step_to false t start name) is where
+      by_step (λ i. walk-append names rest i at) (step_to casefold t start name) is where
         by_step : ((i : ℕ) → Joins names rest i at) → (r : Result ℕ ℕ)
             → (walked_on t (walk names) r).1 ≡ Ok at
             → walked_on t (walk (names ++ rest)) r
@@ -67,17 +67,18 @@ own_released h h' k at some held less i =
     omega arith
 
 -- what a walk has found of the first so many names
-pub record Walking (t0 t : Tree) (h0 h : Holds) (names : List (List ℕ)) (start at k : ℕ)
+pub record Walking (casefold : Bool) (t0 t : Tree) (h0 h : Holds) (names : List (List ℕ))
+    (start at k : ℕ)
     (qids : List QidStruct) : Type 0 where
   pub tree : t ≡ t0
-  pub found : map qid_plain qids ≡ (walk_names false t0 (take k names) start).0
-  pub stands : (walk_names false t0 (take k names) start).1 ≡ Ok at
+  pub found : map qid_plain qids ≡ (walk_names casefold t0 (take k names) start).0
+  pub stands : (walk_names casefold t0 (take k names) start).1 ≡ Ok at
   pub holds : (i : ℕ) → hold_count h i ≡ hold_count h0 i + own_hold k at i
   pub count : length qids ≡ k
 
-pub walking_none : (t : Tree) (h : Holds) (names : List (List ℕ)) (start : ℕ)
-    (qids : List QidStruct) → qids ≡ [] → Walking t t h h names start start 0 qids
-walking_none t h names start qids none = record {
+pub walking_none : (casefold : Bool) (t : Tree) (h : Holds) (names : List (List ℕ)) (start : ℕ)
+    (qids : List QidStruct) → qids ≡ [] → Walking casefold t t h h names start start 0 qids
+walking_none casefold t h names start qids none = record {
   tree = refl;
   found = ap (map qid_plain) none;
   stands = refl;
@@ -85,12 +86,13 @@ walking_none t h names start qids none = record {
   count = ap length none;
 }
 
-module _ {t0 t : Tree} {h0 h : Holds} {names : List (List ℕ)} {start at k : ℕ}
-    {qids : List QidStruct} (w : Walking t0 t h0 h names start at k qids) where
+module _ {casefold : Bool} {t0 t : Tree} {h0 h : Holds} {names : List (List ℕ)} {start at k : ℕ}
+    {qids : List QidStruct} (w : Walking casefold t0 t h0 h names start at k qids) where
   held_by : (n : ℕ) → n ≡ k → 0 < hold_count h0 start → 0 < hold_count h at
   held_by zero is held =
-      let none : (walk_names false t0 (take zero names) start).1 ≡ Ok at =
-      subst (λ (j : ℕ). (walk_names false t0 (take j names) start).1 ≡ Ok at) (sym is) w.stands
+      let none : (walk_names casefold t0 (take zero names) start).1 ≡ Ok at =
+      subst (λ (j : ℕ). (walk_names casefold t0 (take j names) start).1 ≡ Ok at) (sym is)
+      w.stands
       in
       let same : start ≡ at = cc in
       let here = w.holds at in
@@ -121,10 +123,10 @@ module _ {t0 t : Tree} {h0 h : Holds} {names : List (List ℕ)} {start at k : �
         (drop-cons names k name here ∙ ap (λ (n : List ℕ). n ∷ drop (suc k) names) (sym is))
 
     module _ (a : Attr) (t1 t2 : Tree) (h1 h2 : Holds)
-        (finds : Finds t (step_to false t at name) (Ok a)) (more : IsMore h h1 a.ino)
+        (finds : Finds t (step_to casefold t at name) (Ok a)) (more : IsMore h h1 a.ino)
         (gone : (i : ℕ) → hold_count h2 i + own_hold k at i ≡ hold_count h1 i) where
-      step_is : step_to false t0 at name ≡ Ok a.ino
-      step_is = ap (λ (u : Tree). step_to false u at name) (sym w.tree) ∙ finds.exactly.0
+      step_is : step_to casefold t0 at name ≡ Ok a.ino
+      step_is = ap (λ (u : Tree). step_to casefold u at name) (sym w.tree) ∙ finds.exactly.0
 
       qid_is : qid_at t0 a.ino ≡ qid_of a
       qid_is = ap (λ (u : Tree). qid_at u a.ino) (sym w.tree) ∙ ap qid_told finds.exactly.1
@@ -137,15 +139,15 @@ module _ {t0 t : Tree} {h0 h : Holds} {names : List (List ℕ)} {start at k : �
           let own = own_more k a.ino i in
           omega arith
 
-      joined : walk_names false t0 (take (k + 1) names) start
-          ≡ ((walk_names false t0 (take k names) start).0 ++ (qid_at t0 a.ino ∷ []), Ok a.ino)
+      joined : walk_names casefold t0 (take (k + 1) names) start
+          ≡ ((walk_names casefold t0 (take k names) start).0 ++ (qid_at t0 a.ino ∷ []), Ok a.ino)
       joined =
-          ap (λ (l : List (List ℕ)). walk_names false t0 l start) now_taken
-          ∙ walk-append t0 (take k names) (name ∷ []) start at w.stands
+          ap (λ (l : List (List ℕ)). walk_names casefold t0 l start) now_taken
+          ∙ walk-append casefold t0 (take k names) (name ∷ []) start at w.stands
           ∙ ap (λ (r : Result ℕ ℕ). (
-            (walk_names false t0 (take k names) start).0
-                ++ (walked_on t0 (walk_names false t0 []) r).0,
-            (walked_on t0 (walk_names false t0 []) r).1,
+            (walk_names casefold t0 (take k names) start).0
+                ++ (walked_on t0 (walk_names casefold t0 []) r).0,
+            (walked_on t0 (walk_names casefold t0 []) r).1,
           )) step_is
 
       -- the tree stays where the hold before goes
@@ -154,11 +156,12 @@ module _ {t0 t : Tree} {h0 h : Holds} {names : List (List ℕ)} {start at k : �
           (sym (same ∙ w.tree)) (kept_more t0 h0 h2 kept (λ i. let e = next_holds i in omega arith))
 
       pub walking_more : (qids' : List QidStruct) → map qid_plain qids' ≡ map qid_plain qids
-          ++ (qid_of a ∷ []) → t2 ≡ t0 → Walking t0 t2 h0 h2 names start a.ino (k + 1) qids'
+          ++ (qid_of a ∷ []) → t2 ≡ t0 → Walking casefold t0 t2 h0 h2 names start a.ino (k + 1)
+          qids'
       walking_more qids' is_qids tree = record {
         tree = tree;
         found = is_qids ∙ ap (λ (l : List Qid). l ++ (qid_of a ∷ [])) w.found
-            ∙ ap (λ (q : Qid). (walk_names false t0 (take k names) start).0 ++ (q ∷ []))
+            ∙ ap (λ (q : Qid). (walk_names casefold t0 (take k names) start).0 ++ (q ∷ []))
             (sym qid_is) ∙ sym (ap (λ (x : Walked). x.0) joined);
         stands = ap (λ (x : Walked). x.1) joined;
         holds = next_holds;
@@ -188,32 +191,33 @@ module _ {t0 t : Tree} {h0 h : Holds} {names : List (List ℕ)} {start at k : �
           (sym (is_tree ∙ w.tree)) (kept_more t0 h0 h2 kept
           (λ i. let e = stopped_holds.counts i in omega arith))
 
-    refused_names : (e : ℕ) → step_to false t at name ≡ Err e
-        → walk_names false t0 names start ≡ (
-          (walk_names false t0 (take k names) start).0
+    refused_names : (e : ℕ) → step_to casefold t at name ≡ Err e
+        → walk_names casefold t0 names start ≡ (
+          (walk_names casefold t0 (take k names) start).0
               ++ [],
           Err e,
         )
     refused_names e told =
-        ap (λ (l : List (List ℕ)). walk_names false t0 l start) all_names
-        ∙ walk-append t0 (take k names) (name ∷ drop (suc k) names) start at w.stands
+        ap (λ (l : List (List ℕ)). walk_names casefold t0 l start) all_names
+        ∙ walk-append casefold t0 (take k names) (name ∷ drop (suc k) names) start at w.stands
         ∙ ap (λ (r : Result ℕ ℕ). (
-          (walk_names false t0 (take k names) start).0
-              ++ (walked_on t0 (walk_names false t0 (drop (suc k) names)) r).0,
-          (walked_on t0 (walk_names false t0 (drop (suc k) names)) r).1,
+          (walk_names casefold t0 (take k names) start).0
+              ++ (walked_on t0 (walk_names casefold t0 (drop (suc k) names)) r).0,
+          (walked_on t0 (walk_names casefold t0 (drop (suc k) names)) r).1,
         ))
-        (ap (λ (u : Tree). step_to false u at name) (sym w.tree) ∙ told)
+        (ap (λ (u : Tree). step_to casefold u at name) (sym w.tree) ∙ told)
 
     -- the qids so far are those of the names so far
-    front : IsFrontOfWalk false t0 names start (map qid_plain qids)
+    front : IsFrontOfWalk casefold t0 names start (map qid_plain qids)
     front = (
       at,
-      ap (λ (n : ℕ). walk_names false t0 (take n names) start) (length-map qids qid_plain ∙ w.count)
+      ap (λ (n : ℕ). walk_names casefold t0 (take n names) start)
+          (length-map qids qid_plain ∙ w.count)
           ∙ (λ j. (sym w.found j, w.stands j)),
     )
 
-    pub stopped_walks : (e : HostError) → Finds t (step_to false t at name) (Err e)
-        → Walks t0 names start (map qid_plain qids) (Err e)
+    pub stopped_walks : (e : HostError) → Finds t (step_to casefold t at name) (Err e)
+        → Walks casefold t0 names start (map qid_plain qids) (Err e)
     stopped_walks (Errno e) f = record {
       exactly = (
         w.found ∙ sym (append-nil _) ∙ sym (ap (λ (x : Walked). x.0) (refused_names e f.exactly)),
@@ -222,22 +226,18 @@ module _ {t0 t : Tree} {h0 h : Holds} {names : List (List ℕ)} {start at k : �
     }
     stopped_walks Fault f = record {
       exactly =
-          λ some. (
-            let count = length-map qids qid_plain in let had =
-                w.count in omega arith,
-            front,
-          );
+          λ some. (let count = length-map qids qid_plain in let had = w.count in omega arith, front);
     }
     stopped_walks NoMemory f = record { exactly = tt }
 
   -- all names were walked
-  pub walked_all : k ≡ length names → Walks t0 names start (map qid_plain qids) (Ok at)
+  pub walked_all : k ≡ length names → Walks casefold t0 names start (map qid_plain qids) (Ok at)
   walked_all all = record {
     exactly = (
       w.found
-          ∙ ap (λ (l : List (List ℕ)). (walk_names false t0 l start).0) whole,
+          ∙ ap (λ (l : List (List ℕ)). (walk_names casefold t0 l start).0) whole,
       ap
-          (λ (l : List (List ℕ)). (walk_names false t0 l start).1) (sym whole) ∙ w.stands,
+          (λ (l : List (List ℕ)). (walk_names casefold t0 l start).1) (sym whole) ∙ w.stands,
     );
   } where
     whole : take k names ≡ names

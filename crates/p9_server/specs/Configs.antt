@@ -1,5 +1,5 @@
 -- How a server is set up, and when it can't be.
-use Rattle.std.specs.Prelude.{ℕ, List, false, not, nat_lt, if◌then◌else◌, Option, Some, None}
+use Rattle.std.specs.Prelude.{ℕ, List, not, nat_lt, if◌then◌else◌, Option, Some, None}
 use Rattle.std.specs.FinMap as map
 use Rattle.port_base.specs.Paths.{is_rooted_path}
 use Rattle.tree_model.specs.Finding.{path_names}
@@ -21,6 +21,6 @@ settings_of c =
       root = path_names c.root.items;
       uid_map = map.from_entries c.uid_map.entries;
       gid_map = map.from_entries c.gid_map.entries;
-      casefold = false;
+      casefold = c.ascii_casefold;
       limit = c.fid_limit;
     }

@@ -1,5 +1,5 @@
 -- The holds of a host that a server keeps: one of an inode for each fid that names it.
-use Rattle.std.specs.Prelude.{◌≡◌, ℕ, ◌+◌, ◌<◌, ◌≤◌, ◌^◌, cond, ◌==◌, false}
+use Rattle.std.specs.Prelude.{◌≡◌, ℕ, ◌+◌, ◌<◌, ◌≤◌, ◌^◌, cond, ◌==◌}
 use Rattle.std.specs.FinMap as map
 use Rattle.tree_model.specs.Settings.{Settings}
 use Rattle.tree_host.specs.Holds.{Holds, hold_count}
@@ -16,8 +16,6 @@ pub record IsSound (holds : Holds) (fids : Fids) (msize : ℕ) (settings : Setti
   pub bounded : settings.limit < 2 ^ 32
   pub roomy : 256 ≤ msize
   pub below : msize < 2 ^ 32
-  -- names are found by their exact bytes
-  pub plain : settings.casefold ≡ false
 
 -- one hold more of an inode
 pub record IsMore (old new : Holds) (ino : ℕ) : Type 0 where

@@ -1,5 +1,5 @@
 -- What is found in a host's tree, and the holds that finding takes.
-use Rattle.std.specs.Prelude.{◌≡◌, ℕ, zero, suc, ◌<◌, ◌≤◌, false, cond, ◌==◌, List, length, Result}
+use Rattle.std.specs.Prelude.{◌≡◌, ℕ, zero, suc, ◌<◌, ◌≤◌, Bool, cond, ◌==◌, List, length, Result}
 use Rattle.std.specs.Prelude.{Ok, Err, ⊤}
 use Rattle.tree_model.specs.Tree.{Tree}
 use Rattle.tree_model.specs.Attributes.{Qid, stat_of}
@@ -29,16 +29,16 @@ abbrev pub own_hold : ℕ → ℕ → ℕ → ℕ
 own_hold zero at i = 0
 own_hold (suc n) at i = cond (at == i) 1 0
 
-abbrev pub WalksBy : Tree → List (List ℕ) → ℕ → List Qid → Result ℕ HostError → Type 0
-WalksBy t names start qids (Ok at) = (qids ≡ (walk_names false t names start).0)
-    × ((walk_names false t names start).1 ≡ Ok at)
-WalksBy t names start qids (Err (Errno e)) = (qids ≡ (walk_names false t names start).0)
-    × ((walk_names false t names start).1 ≡ Err e)
-WalksBy t names start qids (Err Fault) = 1 ≤ length qids → (length qids < length names)
-    × IsFrontOfWalk false t names start qids
-WalksBy t names start qids (Err NoMemory) = ⊤
+abbrev pub WalksBy : Bool → Tree → List (List ℕ) → ℕ → List Qid → Result ℕ HostError → Type 0
+WalksBy casefold t names start qids (Ok at) = (qids ≡ (walk_names casefold t names start).0)
+    × ((walk_names casefold t names start).1 ≡ Ok at)
+WalksBy casefold t names start qids (Err (Errno e)) = (qids ≡ (walk_names casefold t names start).0)
+    × ((walk_names casefold t names start).1 ≡ Err e)
+WalksBy casefold t names start qids (Err Fault) = 1 ≤ length qids → (length qids < length names)
+    × IsFrontOfWalk casefold t names start qids
+WalksBy casefold t names start qids (Err NoMemory) = ⊤
 
 -- the whole walk, or a front of it up to its first refusal or a fault
-pub record Walks (t : Tree) (names : List (List ℕ)) (start : ℕ) (qids : List Qid)
+pub record Walks (casefold : Bool) (t : Tree) (names : List (List ℕ)) (start : ℕ) (qids : List Qid)
     (result : Result ℕ HostError) : Type 0 where
-  pub exactly : WalksBy t names start qids result
+  pub exactly : WalksBy casefold t names start qids result

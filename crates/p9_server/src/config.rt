@@ -1,5 +1,5 @@
 //! How a server is set up.
-ghost use Rattle.std.specs.Prelude.{◌≡◌, ◌∷◌, [], IfOk};
+ghost use Rattle.std.specs.Prelude.{◌≡◌, ◌∷◌, [], false, IfOk};
 ghost use Rattle.p9_server.specs.Configs.{config_refused};
 
 use crate::share::{ServerGidMap, ServerUidMap, Share};
@@ -25,6 +25,9 @@ pub struct Config {
     pub uid_map: ServerUidMap,
     /// The groups that are shown for the groups of the tree; one without a pair stays.
     pub gid_map: ServerGidMap,
+    /// Whether a walk takes a name that differs in the case of ASCII letters alone, where the exact
+    /// name isn't there: the first such entry in the order of cookies.
+    pub ascii_casefold: bool,
     /// How many fids there may be.
     pub fid_limit: u32,
 }
@@ -61,12 +64,13 @@ pub struct Refused<H> {
 }
 
 impl Config {
-    /// The root `/`, frames of up to 65560 bytes, owners as they are, and as many fids as there
-    /// are numbers.
+    /// The root `/`, frames of up to 65560 bytes, owners as they are, exact names, and as many fids
+    /// as there are numbers.
     pub fn standard(alloc: Global) -> Result<Config, NoMemory>
         ensures root { IfOk result (λ c. c.root.items ≡ 47 ∷ []) }
         ensures msize { IfOk result (λ c. c.msize ≡ 65560) }
         ensures maps { IfOk result (λ c. (c.uid_map.entries ≡ []) × (c.gid_map.entries ≡ [])) }
+        ensures exact { IfOk result (λ c. c.ascii_casefold ≡ false) }
         ensures fids { IfOk result (λ c. c.fid_limit ≡ 4294967295) }
     {
         let root = Vec::from_slice(alloc, b"/").map_err(|_| NoMemory)?;
@@ -75,6 +79,7 @@ impl Config {
             msize: STANDARD_MSIZE,
             uid_map: BTreeMap::new(alloc),
             gid_map: BTreeMap::new(alloc),
+            ascii_casefold: false,
             fid_limit: u32::MAX,
         })
     }

@@ -5,6 +5,7 @@ mod config;
 mod examples;
 mod fid_state;
 mod fids;
+mod lookup;
 mod paths;
 mod qids;
 mod replies;

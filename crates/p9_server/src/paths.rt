@@ -13,7 +13,9 @@ ghost use Rattle.p9_wire.specs.Values.{QidSpells};
 ghost use Rattle.p9_wire.specs.Qids.{qid_of as qid_plain};
 ghost use Rattle.p9_server.specs.Walking.{Counts, Finds, Walks, own_hold};
 
+use crate::lookup::find;
 use crate::qids::qid_of;
+use crate::share::Share;
 use p9_wire::qid::Qid;
 use p9_wire::text::P9String;
 use port_base::names::name_fault;
@@ -62,10 +64,11 @@ pub fn attach_path<H: Host>(host: &mut H, path: &[u8]) -> Result<Attr, HostError
 
 // The inode that a name of a directory names, which gets a hold. A name with a fault isn't looked
 // up.
-fn step_to<H: Host>(host: &mut H, dir: u64, name: &[u8]) -> Result<Attr, HostError>
+fn step_to<H: Host>(host: &mut H, share: &Share, dir: u64, name: &[u8]) -> Result<Attr, HostError>
     requires held { 0 < hold_count (H.holds host.old) dir }
     requires room { (i : ℕ) → hold_count (H.holds host.old) i < 2 ^ 64 - 1 }
-    ensures answer { Finds (H.tree host.old) (step_to false (H.tree host.old) dir name.now) result }
+    ensures answer { Finds (H.tree host.old)
+        (step_to share.now.casefold (H.tree host.old) dir name.now) result }
     ensures tree { H.tree host.new ≡ H.tree host.old }
     ensures held { IfOk result (λ a. IsMore (H.holds host.old) (H.holds host.new) a.ino) }
     ensures refused { OnErr result (IsSame (H.holds host.old) (H.holds host.new)) }
@@ -75,7 +78,7 @@ fn step_to<H: Host>(host: &mut H, dir: u64, name: &[u8]) -> Result<Attr, HostErr
     if let Some(fault) = name_fault(name) {
         return Err(HostError::Errno(fault));
     }
-    match host.lookup(dir, name) {
+    match find(host, share, dir, name) {
         Ok(ino) => told_of(host, ino),
         Err(e) => Err(e),
     }
@@ -114,6 +117,7 @@ fn push_qid(qids: &mut Vec<Qid>, qid: Qid)
 // hold, if there is a name; after an error none is left.
 fn walk<H: Host>(
     host: &mut H,
+    share: &Share,
     start: u64,
     names: &[P9String],
     qids: &mut Vec<Qid>,
@@ -122,7 +126,8 @@ fn walk<H: Host>(
     requires room { (i : ℕ) → hold_count (H.holds host.old) i + 1 < 2 ^ 64 - 1 }
     requires empty { qids.old.items ≡ [] }
     requires capacity { length names.now ≤ vec_capacity qids.old }
-    ensures answer { Walks (H.tree host.old) names.now start (map qid_plain qids.new.items) result }
+    ensures answer { Walks share.now.casefold (H.tree host.old) names.now start
+        (map qid_plain qids.new.items) result }
     ensures count { length qids.new.items ≤ length names.now }
     ensures spells { AllByRecursion QidSpells (map qid_plain qids.new.items) }
     ensures tree { H.tree host.new ≡ H.tree host.old }
@@ -134,7 +139,7 @@ fn walk<H: Host>(
 {
     let mut at = start;
     for (walked, name) in names.iter().enumerate() {
-        match step_to(host, at, name.as_bytes()) {
+        match step_to(host, share, at, name.as_bytes()) {
             Ok(attr) => {
                 let_go(host, walked, at);
                 push_qid(qids, qid_of(&attr));
@@ -153,6 +158,7 @@ fn walk<H: Host>(
 /// after an error none is left.
 pub fn reach<H: Host>(
     host: &mut H,
+    share: &Share,
     start: u64,
     names: &[P9String],
     qids: &mut Vec<Qid>,
@@ -161,7 +167,8 @@ pub fn reach<H: Host>(
     requires room { (i : ℕ) → hold_count (H.holds host.old) i + 1 < 2 ^ 64 - 1 }
     requires empty { qids.old.items ≡ [] }
     requires capacity { length names.now ≤ vec_capacity qids.old }
-    ensures answer { Walks (H.tree host.old) names.now start (map qid_plain qids.new.items) result }
+    ensures answer { Walks share.now.casefold (H.tree host.old) names.now start
+        (map qid_plain qids.new.items) result }
     ensures count { length qids.new.items ≤ length names.now }
     ensures spells { AllByRecursion QidSpells (map qid_plain qids.new.items) }
     ensures tree { H.tree host.new ≡ H.tree host.old }
@@ -171,7 +178,7 @@ pub fn reach<H: Host>(
     ensures steady { (H.calls host.new).steady ≡ (H.calls host.old).steady }
 {
     if !names.is_empty() {
-        return walk(host, start, names, qids);
+        return walk(host, share, start, names, qids);
     }
     match host.hold_again(start) {
         Ok(()) => Ok(start),

@@ -5,7 +5,9 @@ ghost use Rattle.tree_model.specs.Settings.{mapped, shown_of};
 ghost use Rattle.tree_model.specs.Attributes.{type_bits};
 ghost use Rattle.std.specs.FinMap as map;
 ghost use Rattle.port_base.specs.Paths.{is_rooted_path};
+ghost use Rattle.p9_server.specs.Configs.{settings_of};
 
+use crate::config::Config;
 use std::collections::BTreeMap;
 use std::marker::Model;
 use tree_model::{Attr, Kind};
@@ -19,12 +21,14 @@ pub type ServerUidMap = ServerIdMap<u32>;
 /// The groups that are shown for the groups of the tree.
 pub type ServerGidMap = ServerIdMap<u32>;
 
-/// The path of the root, the maps of owners, and how many fids there may be.
+/// The path of the root, the maps of owners, how names are looked up, and how many fids there may
+/// be.
 #[derive(Drop)]
 pub struct Share {
     root: Vec<u8>,
     uid_map: ServerUidMap,
     gid_map: ServerGidMap,
+    ascii_casefold: bool,
     fid_limit: u32,
 }
 
@@ -45,7 +49,7 @@ impl Model for Share {
       root = path_names a.root.items;
       uid_map = map.from_entries a.uid_map.entries;
       gid_map = map.from_entries a.gid_map.entries;
-      casefold = false;
+      casefold = a.ascii_casefold;
       limit = a.fid_limit;
     } };
 
@@ -74,22 +78,24 @@ fn mapped(ids: &ServerIdMap<u32>, id: u32) -> u32
 }
 
 impl Share {
-    pub fn new(root: Vec<u8>, uid_map: ServerUidMap, gid_map: ServerGidMap, fid_limit: u32) -> Self
-        requires { is_rooted_path root.items ≡ true }
-        ensures { result ≡ record {
-          root = path_names root.items;
-          uid_map =
-              map.from_entries uid_map.entries;
-          gid_map =
-              map.from_entries gid_map.entries;
-          casefold = false;
-          limit = fid_limit;
-        } }
+    /// How a configuration shares a tree.
+    pub fn new(config: Config) -> Self
+        requires { is_rooted_path config.root.items ≡ true }
+        ensures { result ≡ settings_of config }
     {
+        let Config {
+            root,
+            msize: _,
+            uid_map,
+            gid_map,
+            ascii_casefold,
+            fid_limit,
+        } = config;
         Share {
             root,
             uid_map,
             gid_map,
+            ascii_casefold,
             fid_limit,
         }
     }
@@ -100,6 +106,13 @@ impl Share {
         ensures rooted { is_rooted_path result.now ≡ true }
     {
         &self.root
+    }
+
+    /// Whether a name is found that differs in the case of ASCII letters alone.
+    pub fn folds_case(&self) -> bool
+        ensures { result ≡ self.now.casefold }
+    {
+        self.ascii_casefold
     }
 
     /// How many fids there may be.

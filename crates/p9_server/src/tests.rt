@@ -5,6 +5,7 @@ ghost use Rattle.tree_host.specs.TreeHosts.{holds};
 
 mod directories;
 mod files;
+mod folding;
 
 use crate::{Config, ConfigError, Nine, Refused, Server};
 use port_base::memory::{MemSink, SliceSource};
@@ -464,6 +465,7 @@ fn a_configuration_is_refused(rt: HostRuntime) -> Result<(), Fail> {
             msize: _,
             uid_map,
             gid_map,
+            ascii_casefold,
             fid_limit,
         } = standard;
         let config = Config {
@@ -471,6 +473,7 @@ fn a_configuration_is_refused(rt: HostRuntime) -> Result<(), Fail> {
             msize,
             uid_map,
             gid_map,
+            ascii_casefold,
             fid_limit,
         };
         let cause = match Server::with_config(alloc, host, config) {

@@ -31,19 +31,12 @@ impl<H: Host> Server<H> {
         if let Some(cause) = config_refused(&config) {
             return Err(Refused { host, cause });
         }
-        let Config {
-            root,
-            msize,
-            uid_map,
-            gid_map,
-            fid_limit,
-        } = config;
         Ok(Server {
             alloc,
             host,
             fids: Table::new(alloc),
-            msize,
-            share: Share::new(root, uid_map, gid_map, fid_limit),
+            msize: config.msize,
+            share: Share::new(config),
             asked: 0,
         })
     }

@@ -77,7 +77,7 @@ impl<H: Host> Server<H> {
             Ok(qids) => qids,
             Err(_) => return Err(HostError::NoMemory),
         };
-        let at = match reach(&mut self.host, start, names, &mut qids) {
+        let at = match reach(&mut self.host, &self.share, start, names, &mut qids) {
             Ok(at) => at,
             Err(e) => return told_so_far(qids, e),
         };

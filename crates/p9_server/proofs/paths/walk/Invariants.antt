@@ -8,7 +8,7 @@ use Rattle.p9_server.proofs.paths.walk.Given as goal
 
 abbrev pub invariant-loop-walked : goal.invariant-loop-walked
 invariant-loop-walked g l = record {
-  walking : Walking (g.H.Host.tree l.initial.host) (g.H.Host.tree l.host)
+  walking : Walking l.share.casefold (g.H.Host.tree l.initial.host) (g.H.Host.tree l.host)
       (g.H.Host.holds l.initial.host) (g.H.Host.holds l.host) l.names l.fn.start l.at l.walked
       l.qids.items;
   spells : AllByRecursion QidSpells (map qid_of l.qids.items);

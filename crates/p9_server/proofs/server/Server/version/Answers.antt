@@ -31,8 +31,7 @@ invariant_of-self g c =
           c.min-self.result s.share e.holds e.fids s.sound.bounded
           (least_roomy s.msize c.args.msize s.sound.roomy c.if-msize-lt-MIN_MESSAGE_SIZE.false
           c.min-self.result c.min-self.ensures)
-          (least_below s.msize c.args.msize s.sound.below c.min-self.result c.min-self.ensures)
-          s.sound.plain;
+          (least_below s.msize c.args.msize s.sound.below c.min-self.result c.min-self.ensures);
     }
 
 pub returns-clause-step : goal.returns-clause-step

@@ -16,7 +16,7 @@ returns-in-Err-clause-step g c =
     let tree = g.H.Host.tree s.host in
     let kept = kept_named (g.H.Host.holds s.host) s.fids s.sound.held tree
     (g.met.H.Host.stored s.host).kept in
-    walk_unstarted (λ (v : Vec _ _). v.items) tree s.fids s.msize s.share s.sound.plain c.args.fid
+    walk_unstarted (λ (v : Vec _ _). v.items) tree s.fids s.msize s.share c.args.fid
     c.args.newfid c.args.names.now kept (g.H.Host.calls s.host).steady c.in-Err.e
     (g.H.Host.calls s.host).faults c.in-Err.ensures
 
@@ -37,7 +37,7 @@ returns-in-Err-reach-clause-step g c =
     let kept = kept_named (g.H.Host.holds s.host) s.fids s.sound.held tree
     (g.met.H.Host.stored s.host).kept in
     let e = c.in-Err-reach.ensures in
-    walk_stopped (λ (v : Vec _ _). v.items) tree s.fids s.msize s.share s.sound.plain c.args.fid
+    walk_stopped (λ (v : Vec _ _). v.items) tree s.fids s.msize s.share c.args.fid
     c.args.newfid c.args.names.now kept (g.H.Host.calls s.host).steady c.in-Ok.start
     c.in-Ok.ensures
     (g.H.Host.tree c.reach.new.host) (g.H.Host.calls s.host).faults
@@ -72,7 +72,7 @@ returns-in-Err-name_by_fid-clause-step g c =
     (g.met.H.Host.stored s.host).kept in
     let w = c.in-Ok-reach.ensures in
     let e = c.in-Err-name_by_fid.ensures in
-    walk_no_memory (λ (v : Vec _ _). v.items) tree s.fids s.msize s.share s.sound.plain c.args.fid
+    walk_no_memory (λ (v : Vec _ _). v.items) tree s.fids s.msize s.share c.args.fid
     c.args.newfid c.args.names.now kept (g.H.Host.calls s.host).steady c.in-Ok.start
     c.in-Ok.ensures
     (g.H.Host.tree c.name_by_fid.new.host) (g.H.Host.calls s.host).faults

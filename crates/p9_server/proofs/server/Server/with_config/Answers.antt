@@ -13,6 +13,5 @@ invariant_of-result g c =
       sound = sound_empty (g.H.Host.holds c.args.host) c.new.result c.args.config.msize
           c.new-2.result c.requires c.new.ensures
           (subst (λ (n : ℕ). n < 2 ^ 32) (sym limit) few)
-          (config_roomy c.args.config.msize c.args.config.root.items c.in_default.ensures) below
-          (ap (λ (s : Settings). s.casefold) c.new-2.ensures);
+          (config_roomy c.args.config.msize c.args.config.root.items c.in_default.ensures) below;
     }

@@ -8,5 +8,5 @@ invariant_of-self g c =
     let e = c.release_all.ensures in
     record {
       sound = sound_empty (g.H.Host.holds c.release_all.new.host) c.release_all.new.fids
-          s.msize s.share e.holds e.fids s.sound.bounded s.sound.roomy s.sound.below s.sound.plain;
+          s.msize s.share e.holds e.fids s.sound.bounded s.sound.roomy s.sound.below;
     }
