@@ -59,7 +59,8 @@ found_above : (cookie : ℕ) (name : List ℕ) (es : List DirEntry) (e : DirEntr
     → entry_folded name es ≡ Some e
 found_above cookie name [] e none is same = absurd (cc)
 found_above cookie name (f ∷ es) e none is same =
-    by_test (λ is. found_above cookie name es e none.1 is same) (nat_lt cookie f.cookie) refl is where
+    by_test (λ is. found_above cookie name es e none.1 is same) (nat_lt cookie f.cookie) refl
+    is where
       by_test : (entry_above cookie es ≡ Some e → entry_folded name es ≡ Some e) → (b : Bool)
           → nat_lt cookie f.cookie ≡ b
           → cond b (Some f) (entry_above cookie es) ≡ Some e → entry_folded name (f ∷ es) ≡ Some e
@@ -154,6 +155,11 @@ module _ (name : List ℕ) where
             ∙ ap Some here
         by_test later alike false other is =
             by_exact other (later is) (alike is) (bytes_eq f.name e.name) refl
+
+exact_none : (o : Option DirEntry) → ino_or_missing (cond (is_some o) o None) ≡ Err ENOENT
+    → o ≡ None
+exact_none None is = refl
+exact_none (Some e) is = absurd (cc)
 
 -- ---- in a tree
 
@@ -317,49 +323,41 @@ module _ (t : Tree) (good : IsGoodTree t) (dir : ℕ) (name : List ℕ) where
     by_entries None at is = absurd (cc)
     by_entries (Some es) at is = by_entry es at (entry_above cookie es) refl is
 
-  -- ---- finding
+  -- a name that is found has no fault
+  fault_in : (o : Option (List DirEntry)) → entries_at t.records dir ≡ o → (n : List ℕ)
+      → folded_name_among name o ≡ Ok n → name_fault n ≡ None
+  fault_in None at n is = absurd (cc)
+  fault_in (Some es) at n is = by_entry (entry_folded name es) refl is where
+    by_entry : (o : Option DirEntry) → entry_folded name es ≡ o
+        → ok_or (option_map (λ (e : DirEntry). e.name) o) ENOENT ≡ Ok n → name_fault n ≡ None
+    by_entry None found is = absurd (cc)
+    by_entry (Some e) found is =
+        let same : e.name ≡ n = cc in
+        subst (λ (n : List ℕ). name_fault n ≡ None) same
+        (All-contains (λ e. name_fault e.name ≡ None) es e (listed_in t good dir es at).named
+        (found_is_in (λ e. same_folded e.name name) es e found))
 
-  exact_none : (o : Option DirEntry) → ino_or_missing (cond (is_some o) o None) ≡ Err ENOENT
-      → o ≡ None
-  exact_none None is = refl
-  exact_none (Some e) is = absurd (cc)
+  pub folded_name_good : (n : List ℕ) → folded_name_of t dir name ≡ Ok n → name_fault n ≡ None
+  folded_name_good n is = fault_in (entries_at t.records dir) refl n is
 
-  -- where the exact name is missing, the name that differs in case alone is looked up
-  record FoundBy (o : Option (List DirEntry)) (n : List ℕ) : Type 0 where
-    fault : name_fault n ≡ None
-    found : ino_among true name o ≡ ino_among false n o
-
-  found_in : (es : List DirEntry) → Listed t es → ino_among false name (Some es) ≡ Err ENOENT
-      → (o : Option DirEntry) → entry_folded name es ≡ o → (n : List ℕ)
-      → ok_or (option_map (λ (e : DirEntry). e.name) o) ENOENT ≡ Ok n → FoundBy (Some es) n
-  found_in es l missing None at n is = absurd (cc)
-  found_in es l missing (Some e) at n is =
+-- where the exact name is missing, the name that differs in case alone is looked up
+found_in : (name : List ℕ) (o : Option (List DirEntry)) → ino_among false name o ≡ Err ENOENT
+    → (n : List ℕ) → folded_name_among name o ≡ Ok n → ino_among true name o ≡ ino_among false n o
+found_in name None missing n is = absurd (cc)
+found_in name (Some es) missing n is = by_entry (entry_folded name es) refl is where
+  by_entry : (o : Option DirEntry) → entry_folded name es ≡ o
+      → ok_or (option_map (λ (e : DirEntry). e.name) o) ENOENT ≡ Ok n
+      → ino_among true name (Some es) ≡ ino_among false n (Some es)
+  by_entry None found is = absurd (cc)
+  by_entry (Some e) found is =
       let none = exact_none (entry_named name es) missing in
       let same : e.name ≡ n = cc in
-      let exact = found_named name es e at in
-      subst (FoundBy (Some es)) same (record {
-        fault = All-contains (λ e. name_fault e.name ≡ None) es e l.named
-            (found_is_in (λ e. same_folded e.name name) es e at);
-        found = ap (λ (o : Option DirEntry). ino_or_missing (cond (is_some o) o
-            (entry_folded name es))) none ∙ ap ino_or_missing at
-            ∙ sym (ap (λ (o : Option DirEntry). ino_or_missing (cond (is_some o) o None)) exact);
-      })
+      let exact = found_named name es e found in
+      subst (λ (n : List ℕ). ino_among true name (Some es) ≡ ino_among false n (Some es)) same
+      (ap (λ (o : Option DirEntry). ino_or_missing (cond (is_some o) o
+      (entry_folded name es))) none ∙ ap ino_or_missing found
+      ∙ sym (ap (λ (o : Option DirEntry). ino_or_missing (cond (is_some o) o None)) exact))
 
-  found_by : (o : Option (List DirEntry)) → entries_at t.records dir ≡ o
-      → ino_among false name o ≡ Err ENOENT → (n : List ℕ) → folded_name_among name o ≡ Ok n
-      → FoundBy o n
-  found_by None at missing n is = absurd (cc)
-  found_by (Some es) at missing n is = found_in es (listed_in t good dir es at) missing
-      (entry_folded name es) refl n is
-
-  module _ (missing : lookup_of t dir name ≡ Err ENOENT) where
-    found_of : (n : List ℕ) → folded_name_of t dir name ≡ Ok n
-        → FoundBy (entries_at t.records dir) n
-    found_of n is = found_by (entries_at t.records dir) refl missing n is
-
-    pub folded_name_good : (n : List ℕ) → folded_name_of t dir name ≡ Ok n → name_fault n ≡ None
-    folded_name_good n is = (found_of n is).fault
-
-    pub find-folded : (n : List ℕ) → folded_name_of t dir name ≡ Ok n
-        → find true t dir name ≡ lookup_of t dir n
-    find-folded n is = (found_of n is).found
+pub find-folded : (t : Tree) (dir : ℕ) (name : List ℕ) → lookup_of t dir name ≡ Err ENOENT
+    → (n : List ℕ) → folded_name_of t dir name ≡ Ok n → find true t dir name ≡ lookup_of t dir n
+find-folded t dir name missing n is = found_in name (entries_at t.records dir) missing n is
