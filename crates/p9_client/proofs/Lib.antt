@@ -7,3 +7,4 @@ pub mod Telling
 mod Answering
 mod Only
 pub mod Sampling
+mod Changing

@@ -1,6 +1,6 @@
 -- A name without a fault is a text of a message.
 use Rattle.std.proofs.Common.{◌≡◌, ℕ, ◌≤◌, ◌<◌, ◌^◌, Bool, true, false, cond, not, List, [], ◌∷◌}
-use Rattle.std.proofs.Common.{length, Some, None, Option, refl, arith}
+use Rattle.std.proofs.Common.{◌+◌, length, Some, None, Option, refl, arith}
 use Rattle.std.specs.Prelude.{◌==◌, ◌||◌}
 use Rattle.std.specs.List.{list_any}
 use Rattle.std.specs.Str.{is_utf8}
@@ -8,7 +8,8 @@ use Rattle.std.proofs.lemmas.Bool.{ltb-false}
 use Rattle.std.proofs.lemmas.List.{length-append}
 use Rattle.port_base.specs.Names.{name_fault, is_separator}
 use Rattle.p9_wire.specs.Texts.{is_text}
-use Rattle.p9_tmsg.specs.Messages.Message.{walk}
+use Rattle.p9_wire.specs.declared.protocol.TheConstants.{TWRITE_HEADER_SIZE}
+use Rattle.p9_tmsg.specs.Messages.Message.{link, mkdir, renameat, unlinkat, walk, write}
 use Rattle.fid_model.specs.Fids.{ServerState}
 use Rattle.p9_client.specs.Asking.{IsAskable}
 use Rattle.p9_client.specs.Views.{IsRoomy}
@@ -55,4 +56,59 @@ walk_askable s fid newfid name roomy a b named =
           tt;
       bounded = tt;
       short = omega (arith, text.0, roomy.enough, length-append name []);
+    }
+
+module _ (s : ServerState) (roomy : IsRoomy s) (fid : ℕ) (a : fid < 2 ^ 32) (name : List ℕ)
+    (named : name_fault name ≡ None) where
+  pub link_askable : (dfid : ℕ) → dfid < 2 ^ 32 → IsAskable s (link dfid fid name)
+  link_askable dfid b =
+      let text = name_is_text name named in
+      record {
+        spells = (b, (a, (omega (arith, text.0), text.1)));
+        readable = tt;
+        bounded = tt;
+        short = omega (arith, text.0, roomy.enough);
+      }
+
+  pub mkdir_askable : (mode : ℕ) → mode < 2 ^ 32 → IsAskable s (mkdir fid name mode 0)
+  mkdir_askable mode b =
+      let text = name_is_text name named in
+      record {
+        spells = (a, ((omega (arith, text.0), text.1), (b, omega arith)));
+        readable = tt;
+        bounded = tt;
+        short = omega (arith, text.0, roomy.enough, length-append name []);
+      }
+
+  pub unlinkat_askable : (flags : ℕ) → flags < 2 ^ 32 → IsAskable s (unlinkat fid name flags)
+  unlinkat_askable flags b =
+      let text = name_is_text name named in
+      record {
+        spells = (a, ((omega (arith, text.0), text.1), b));
+        readable = tt;
+        bounded = tt;
+        short = omega (arith, text.0, roomy.enough, length-append name []);
+      }
+
+  pub renameat_askable : (newfid : ℕ) → newfid < 2 ^ 32 → (new : List ℕ) → name_fault new ≡ None
+      → IsAskable s (renameat fid name newfid new)
+  renameat_askable newfid b new new_named =
+      let text = name_is_text name named in
+      let other = name_is_text new new_named in
+      record {
+        spells = (a, ((omega (arith, text.0), text.1), (b, (omega (arith, other.0), other.1))));
+        readable = tt;
+        bounded = tt;
+        short = omega (arith, text.0, other.0, roomy.enough);
+      }
+
+pub write_askable : (s : ServerState) (fid offset : ℕ) (bytes : List ℕ) → fid < 2 ^ 32
+    → offset < 2 ^ 64 → length bytes ≤ 33554432 → TWRITE_HEADER_SIZE + length bytes ≤ s.msize
+    → IsAskable s (write fid offset bytes)
+write_askable s fid offset bytes a b few fits =
+    record {
+      spells = (a, (b, omega (arith, few)));
+      readable = few;
+      bounded = tt;
+      short = omega (arith, fits);
     }

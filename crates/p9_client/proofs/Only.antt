@@ -7,10 +7,14 @@ use Rattle.p9_rmsg.specs.declared.message.Rgetattr.{Rgetattr}
 use Rattle.p9_rmsg.specs.declared.message.Rlerror.{Rlerror}
 use Rattle.p9_rmsg.specs.declared.message.Rlopen.{Rlopen}
 use Rattle.p9_rmsg.specs.declared.message.Rread.{Rread}
+use Rattle.p9_rmsg.specs.declared.message.Rmkdir.{Rmkdir}
+use Rattle.p9_rmsg.specs.declared.message.Rreadlink.{Rreadlink}
+use Rattle.p9_rmsg.specs.declared.message.Rstatfs.{Rstatfs}
 use Rattle.p9_rmsg.specs.declared.message.Rwalk.{Rwalk}
+use Rattle.p9_rmsg.specs.declared.message.Rwrite.{Rwrite}
 use Rattle.p9_rmsg.specs.Replies.{reply_of}
 use Rattle.p9_client.specs.Views.{attach_view, walk_one_view, copy_view, open_view, attributes_view}
-use Rattle.p9_client.specs.Views.{read_view}
+use Rattle.p9_client.specs.Views.{read_view, mkdir_view, write_view, sizes_view, readlink_view}
 
 pub only_attach : (x : Rmessage) → ((y : Rattach) → x ≢ variant.Attach y)
     → ((y : Rlerror) → x ≢ variant.Lerror y) → attach_view (reply_of x) ≡ None
@@ -47,3 +51,27 @@ pub only_read : (x : Rmessage) → ((y : Rread) → x ≢ variant.Read y)
 only_read (variant.Read y) own error = absurd (own y refl)
 only_read (variant.Lerror y) own error = absurd (error y refl)
 only_read _ own error = refl
+
+pub only_mkdir : (x : Rmessage) → ((y : Rmkdir) → x ≢ variant.Mkdir y)
+    → ((y : Rlerror) → x ≢ variant.Lerror y) → mkdir_view (reply_of x) ≡ None
+only_mkdir (variant.Mkdir y) own error = absurd (own y refl)
+only_mkdir (variant.Lerror y) own error = absurd (error y refl)
+only_mkdir _ own error = refl
+
+pub only_write : (x : Rmessage) → ((y : Rwrite) → x ≢ variant.Write y)
+    → ((y : Rlerror) → x ≢ variant.Lerror y) → write_view (reply_of x) ≡ None
+only_write (variant.Write y) own error = absurd (own y refl)
+only_write (variant.Lerror y) own error = absurd (error y refl)
+only_write _ own error = refl
+
+pub only_sizes : (x : Rmessage) → ((y : Rstatfs) → x ≢ variant.Statfs y)
+    → ((y : Rlerror) → x ≢ variant.Lerror y) → sizes_view (reply_of x) ≡ None
+only_sizes (variant.Statfs y) own error = absurd (own y refl)
+only_sizes (variant.Lerror y) own error = absurd (error y refl)
+only_sizes _ own error = refl
+
+pub only_readlink : (x : Rmessage) → ((y : Rreadlink) → x ≢ variant.Readlink y)
+    → ((y : Rlerror) → x ≢ variant.Lerror y) → readlink_view (reply_of x) ≡ None
+only_readlink (variant.Readlink y) own error = absurd (own y refl)
+only_readlink (variant.Lerror y) own error = absurd (error y refl)
+only_readlink _ own error = refl

@@ -9,7 +9,11 @@ use Rattle.p9_rmsg.specs.declared.message.Rgetattr.{Rgetattr}
 use Rattle.p9_rmsg.specs.Replies.{Attributes, attributes_of, Reply}
 use Rattle.p9_rmsg.specs.Replies.Reply.{attach as r_attach, getattr as r_getattr}
 use Rattle.p9_rmsg.specs.Replies.Reply.{lerror as r_lerror, lopen as r_lopen, read as r_read}
-use Rattle.p9_rmsg.specs.Replies.Reply.{walk as r_walk}
+use Rattle.p9_rmsg.specs.Replies.Reply.{mkdir as r_mkdir, readlink as r_readlink}
+use Rattle.p9_rmsg.specs.Replies.Reply.{statfs as r_statfs, walk as r_walk, write as r_write}
+use Rattle.p9_rmsg.specs.declared.message.Rstatfs.{Rstatfs}
+use Rattle.tree_model.specs.declared.attributes.Statfs.{Statfs}
+use Rattle.fid_model.specs.Files.{statfs_reply}
 use Rattle.fid_model.specs.Answers.{attributes_of as attributes_shown}
 use Rattle.fid_model.specs.Fids.{ServerState}
 use Rattle.fid_model.specs.Calls.{getattr_told, clunked}
@@ -26,6 +30,16 @@ bytes_answer (Err e) = Err e
 abbrev pub attributes_answer : Result Rgetattr ℕ → Result Attributes ℕ
 attributes_answer (Ok m) = Ok (attributes_of m)
 attributes_answer (Err e) = Err e
+
+-- the sizes of a tree, as 9P lays them out
+abbrev pub sizes_answer : Result Rstatfs ℕ → Result Reply ℕ
+sizes_answer (Ok m) = Ok (r_statfs m.ty m.bsize m.blocks m.bfree m.bavail m.files m.ffree m.fsid
+    m.namelen)
+sizes_answer (Err e) = Err e
+
+abbrev pub sizes_told : Result Statfs ℕ → Result Reply ℕ
+sizes_told (Ok sizes) = Ok (statfs_reply sizes)
+sizes_told (Err e) = Err e
 
 -- what is shown of an inode, as 9P lays it out
 abbrev pub laid_out : Result Attr ℕ → Result Attributes ℕ
@@ -83,3 +97,24 @@ abbrev pub read_view : Reply → Option (Result (List ℕ) ℕ)
 read_view (r_read bytes) = Some (Ok bytes)
 read_view (r_lerror e) = Some (Err e)
 read_view _ = None
+
+abbrev pub mkdir_view : Reply → Option (Result Qid ℕ)
+mkdir_view (r_mkdir qid) = Some (Ok qid)
+mkdir_view (r_lerror e) = Some (Err e)
+mkdir_view _ = None
+
+abbrev pub write_view : Reply → Option (Result ℕ ℕ)
+write_view (r_write count) = Some (Ok count)
+write_view (r_lerror e) = Some (Err e)
+write_view _ = None
+
+abbrev pub sizes_view : Reply → Option (Result Reply ℕ)
+sizes_view (r_statfs ty bsize blocks bfree bavail files ffree fsid namelen) =
+    Some (Ok (r_statfs ty bsize blocks bfree bavail files ffree fsid namelen))
+sizes_view (r_lerror e) = Some (Err e)
+sizes_view _ = None
+
+abbrev pub readlink_view : Reply → Option (Result (List ℕ) ℕ)
+readlink_view (r_readlink target) = Some (Ok target)
+readlink_view (r_lerror e) = Some (Err e)
+readlink_view _ = None

@@ -13,21 +13,14 @@ ghost use Rattle.p9_client.specs.Views.{IsRoomy, FidGone, FidGoneOrNot, qid_answ
 ghost use Rattle.p9_client.specs.Opening.{copied_told, opened_told};
 
 use crate::exchange::exchange;
+use crate::texts::{no_text, text_of};
 use fid_model::Nine;
 use p9_rmsg::Rmessage;
 use p9_tmsg::{Tattach, Tclunk, Tlopen, Tmessage, Twalk};
 use p9_wire::protocol::P9_NOFID;
 use p9_wire::qid::Qid;
-use p9_wire::text::P9String;
 use port_base::sink::NoMemory;
 use std::alloc::Global;
-
-// The empty text.
-fn no_text(alloc: Global) -> Result<P9String, NoMemory>
-    ensures { IfOk result (λ s. s ≡ []) }
-{
-    P9String::new(alloc, b"").map_err(|_| NoMemory)
-}
 
 // An attach without authentication, to no particular tree, for no particular user.
 fn attach_to(alloc: Global, fid: u32) -> Result<Tmessage, NoMemory>
@@ -60,14 +53,6 @@ pub fn attach<N: Nine>(alloc: Global, nine: &mut N, fid: u32) -> Result<Result<Q
         Rmessage::Lerror(reply) => Ok(Err(reply.ecode)),
         _ => unreachable!(),
     }
-}
-
-// A name without a fault as a text.
-fn text_of(alloc: Global, name: &[u8]) -> Result<P9String, NoMemory>
-    requires { name_fault name.now ≡ None }
-    ensures { IfOk result (λ s. s ≡ name.now) }
-{
-    P9String::new(alloc, name).map_err(|_| NoMemory)
 }
 
 // A walk by one name.

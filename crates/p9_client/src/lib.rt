@@ -1,10 +1,14 @@
 //! Asking a 9P server: one typed call a message, over any `Nine`.
 #![tactic(auto)]
 
+mod directories;
 mod examples;
 mod exchange;
 mod fids;
 mod inodes;
+mod replies;
+mod texts;
 
+pub use directories::{link, mkdir, rename_at, unlink_at};
 pub use fids::{attach, clunk, copy_fid, open, walk_one};
-pub use inodes::{get_attr, read};
+pub use inodes::{fsync, get_attr, read, read_link, stat_fs, write};
