@@ -1,22 +1,36 @@
 -- What calls are told that may change the tree.
-use Rattle.std.proofs.Common.{◌≡◌, ◌⊎◌, inl, inr, ⊎_elim, ℕ, Result, Ok, Err, Some, None, Option}
+use Rattle.std.proofs.Common.{◌≡◌, ◌⊎◌, inl, inr, ⊎_elim, ℕ, List, Result, Ok, Err, Some, None, Option}
 use Rattle.std.proofs.Common.{refl, sym, ap, ◌∙◌, subst, OnErr, IfOk}
+use Rattle.std.specs.FinMap as map
 use Rattle.port_base.specs.declared.errno.TheConstants.{EIO}
 use Rattle.tree_model.specs.Tree.{Tree}
-use Rattle.p9_tmsg.specs.Messages.{Message}
+use Rattle.p9_tmsg.specs.Messages.{Message, message_of}
+use Rattle.p9_tmsg.specs.Messages.Message.{lcreate as t_lcreate}
+use Rattle.p9_tmsg.specs.declared.message.Tmessage.TheVariants as variant
+use Rattle.p9_tmsg.specs.declared.message.Tsetattr.{Tsetattr}
 use Rattle.p9_rmsg.specs.Replies.{Reply}
 use Rattle.p9_rmsg.specs.Replies.Reply.{lerror as r_lerror}
-use Rattle.fid_model.specs.Fids.{ServerState, IsGoodServer, kept_state}
-use Rattle.fid_model.specs.Answers.{answer, core}
-use Rattle.fid_model.specs.FidCalls.{told_answer}
+use Rattle.fid_model.specs.Fids.{Fid, ServerState, IsGoodServer, kept_state}
+use Rattle.fid_model.specs.Answers.{answer, core, lcreate_answer, setattr_by, setattr_reply}
+use Rattle.fid_model.specs.Files.{new_file_of}
+use Rattle.fid_model.specs.FidCalls.{by_fid, told_answer}
+use Rattle.fid_model.specs.Setattr.{run, steps}
 use Rattle.fid_model.specs.TreeCalls.{tree_answer}
 use Rattle.fid_model.specs.Handling.{IsHurtReply}
 use Rattle.fid_model.specs.Parts.{IsPartDone, IsBeforeOrAfter}
 use Rattle.fid_model.specs.Moments.{Moment, Keeps, Untouched}
 use Rattle.fid_model.proofs.Keeping.{kept_state_good}
+use Rattle.fid_model.proofs.Moments.{keeps_refl}
 use Rattle.p9_client.specs.Asking.{IsExchanged, IsUnfinishedAt}
-use Rattle.p9_client.specs.Changing.{Gives, OldOrTold, changed, done}
+use Rattle.p9_client.specs.Changing.{FrontOrTold, Gives, OldOrTold, changed, changes_of, done}
+use Rattle.p9_client.specs.Changing.{set_by, set_told}
+use Rattle.p9_client.specs.Opening.{created, created_told}
+use Rattle.p9_client.specs.Views.{create_view}
 use Rattle.p9_client.proofs.Telling.{Tells, answered, unfinished}
+
+-- all was done, or it was refused
+abbrev pub done_view : Reply → Option (Result (Unit {0}) ℕ)
+done_view r = Some (done r)
 
 -- ---- a message about the tree
 
@@ -80,22 +94,85 @@ module _ {A B : Type 0} (s : ServerState) (g : IsGoodServer s) (m : Message) (re
 -- ---- what a call gives
 
 module _ {R A E : Type 0} {view : R → Result A ℕ} {told : Result A ℕ × ServerState}
-    {part : Tree → Tree → Type 0} {m : Message} {seen_by : Reply → Option (Result A ℕ)}
-    {old new : Moment} where
-  pub gives_answer : (tells : Tells seen_by old.state m told part) (r : Reply) (given : R)
-      → IsExchanged m r old new → seen_by r ≡ Some (view given) → Keeps old new
+    {part : Tree → Tree → Type 0} {m sent : Message} {seen_by : Reply → Option (Result A ℕ)}
+    {old new : Moment} (tells : Tells seen_by old.state m told part) (is : sent ≡ m) where
+  pub gives_answer : {r : Reply} (given : R) → IsExchanged sent r old new
+      → seen_by r ≡ Some (view given) → Keeps old new
       → Gives {E = E} view told part (Ok given) old new
-  gives_answer tells r given e seen kept =
-      record { answer = answered tells e seen; unfinished = tt; kept = kept }
-
-  pub gives_unfinished : (tells : Tells seen_by old.state m told part) (e : E)
-      → IsUnfinishedAt m old new → Keeps old new → Gives {R = R} view told part (Err e) old new
-  gives_unfinished tells e left kept = record {
-    answer = tt;
-    unfinished = unfinished tells new.state old.faults new.faults left;
+  gives_answer {r} given e seen kept = record {
+    answer = answered tells (subst (λ (m : Message). IsExchanged m r old new) is e) seen;
+    unfinished = tt;
     kept = kept;
   }
 
--- all was done, or it was refused
-abbrev pub done_view : Reply → Option (Result (Unit {0}) ℕ)
-done_view r = Some (done r)
+  pub gives_unfinished : (result : Result R E) (e : E) → result ≡ Err e
+      → IsUnfinishedAt sent old new → Keeps old new → Gives view told part result old new
+  gives_unfinished result e failed left kept =
+      let whole : IsUnfinishedAt m old new =
+      subst (λ (m : Message). IsUnfinishedAt m old new) is left in
+      subst (λ (r : Result R E). Gives view told part r old new) (sym failed) (record {
+        answer = tt;
+        unfinished = unfinished tells new.state old.faults new.faults whole;
+        kept = kept;
+      })
+
+-- without memory for the message nothing was asked
+pub gives_nothing : {R A E : Type 0} {view : R → Result A ℕ} {told : Result A ℕ × ServerState}
+    {part : Tree → Tree → Type 0} {now : Moment} (result : Result R E) (e : E) → result ≡ Err e
+    → part now.state.tree now.state.tree → Gives view told part result now now
+gives_nothing {view = view} {told = told} {part = part} {now = now} result e failed same =
+    subst (λ r. Gives view told part r now now) (sym failed)
+    (record { answer = tt; unfinished = same; kept = keeps_refl now })
+
+-- ---- files that are made, and attributes that are set
+
+module _ (s : ServerState) (g : IsGoodServer s) (fid flags : ℕ) where
+  created_seen : (r : Result (ℕ × Tree) ℕ)
+      → create_view (lcreate_answer s fid flags r).0 ≡ Some (created s fid flags r).0
+  created_seen (Ok (ino, t)) = refl
+  created_seen (Err e) = refl
+
+  created_left : (r : Result (ℕ × Tree) ℕ)
+      → kept_state (lcreate_answer s fid flags r).1 ≡ (created s fid flags r).1
+  created_left (Ok (ino, t)) = refl
+  created_left (Err e) = kept_state_good s g
+
+  pub create_tells : (name : List ℕ) (mode gid : ℕ)
+      → Tells create_view s (t_lcreate fid name flags mode gid) (created_told s fid name flags mode)
+      (OldOrTold (created_told s fid name flags mode))
+  create_tells name mode gid =
+      let r : Result (ℕ × Tree) ℕ = by_fid (λ f. new_file_of s.tree f.ino name flags mode)
+      (map.get s.fids fid) in
+      record {
+        seen = created_seen r;
+        state = created_left r;
+        whole = inr refl;
+        hurt = λ r h. ap create_view h;
+        leaves = λ t h. ⊎_elim (λ same. inl same)
+            (λ e. inr (e ∙ ap (λ (x : ServerState). x.tree) (created_left r))) h;
+      }
+
+set_seen : (r : Result (Unit {0}) ℕ) → done (setattr_reply r) ≡ r
+set_seen (Ok u) = refl
+set_seen (Err e) = refl
+
+module _ (s : ServerState) (g : IsGoodServer s) (m : Tsetattr) where
+  all_seen : (o : Option Fid)
+      → done_view (setattr_by s (changes_of m) o).0 ≡ Some (set_by s (changes_of m) o).0
+  all_seen None = refl
+  all_seen (Some f) = ap Some (set_seen (run (steps (changes_of m) f) s.tree).0)
+
+  set_left : (o : Option Fid)
+      → kept_state (setattr_by s (changes_of m) o).1 ≡ (set_by s (changes_of m) o).1
+  set_left None = kept_state_good s g
+  set_left (Some f) = refl
+
+  pub set_tells : Tells done_view s (message_of (variant.SetAttr m))
+      (set_told s (changes_of m) m.fid) (FrontOrTold s (changes_of m) m.fid)
+  set_tells = record {
+    seen = all_seen (map.get s.fids m.fid);
+    state = set_left (map.get s.fids m.fid);
+    whole = inl refl;
+    hurt = λ r h. ap done_view h;
+    leaves = λ t h. inr h;
+  }

@@ -8,3 +8,4 @@ mod Answering
 mod Only
 pub mod Sampling
 mod Changing
+mod Told

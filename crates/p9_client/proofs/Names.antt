@@ -9,7 +9,10 @@ use Rattle.std.proofs.lemmas.List.{length-append}
 use Rattle.port_base.specs.Names.{name_fault, is_separator}
 use Rattle.p9_wire.specs.Texts.{is_text}
 use Rattle.p9_wire.specs.declared.protocol.TheConstants.{TWRITE_HEADER_SIZE}
-use Rattle.p9_tmsg.specs.Messages.Message.{link, mkdir, renameat, unlinkat, walk, write}
+use Rattle.p9_wire.specs.Values.{TextSpells}
+use Rattle.p9_tmsg.specs.Messages.{message_spelling}
+use Rattle.p9_tmsg.specs.Messages.Message.{lcreate, link, mkdir, mknod, renameat, symlink}
+use Rattle.p9_tmsg.specs.Messages.Message.{unlinkat, walk, write}
 use Rattle.fid_model.specs.Fids.{ServerState}
 use Rattle.p9_client.specs.Asking.{IsAskable}
 use Rattle.p9_client.specs.Views.{IsRoomy}
@@ -111,4 +114,40 @@ write_askable s fid offset bytes a b few fits =
       readable = few;
       bounded = tt;
       short = omega (arith, fits);
+    }
+
+module _ (s : ServerState) (roomy : IsRoomy s) (fid mode : ℕ) (a : fid < 2 ^ 32) (b : mode < 2 ^ 32)
+    (name : List ℕ) (named : name_fault name ≡ None) where
+  pub lcreate_askable : (flags : ℕ) → flags < 2 ^ 32 → IsAskable s (lcreate fid name flags mode 0)
+  lcreate_askable flags c =
+      let text = name_is_text name named in
+      record {
+        spells = (a, ((omega (arith, text.0), text.1), (c, (b, omega arith))));
+        readable = tt;
+        bounded = tt;
+        short = omega (arith, text.0, roomy.enough, length-append name []);
+      }
+
+  pub mknod_askable : (major minor : ℕ) → major < 2 ^ 32 → minor < 2 ^ 32
+      → IsAskable s (mknod fid name mode major minor 0)
+  mknod_askable major minor c d =
+      let text = name_is_text name named in
+      record {
+        spells = (a, ((omega (arith, text.0), text.1), (b, (c, (d, omega arith)))));
+        readable = tt;
+        bounded = tt;
+        short = omega (arith, text.0, roomy.enough, length-append name []);
+      }
+
+pub symlink_askable : (s : ServerState) (fid : ℕ) → fid < 2 ^ 32 → (name target : List ℕ)
+    → name_fault name ≡ None → TextSpells target
+    → 7 + length (message_spelling (symlink fid name target 0)) ≤ s.msize
+    → IsAskable s (symlink fid name target 0)
+symlink_askable s fid a name target named text fits =
+    let named_text = name_is_text name named in
+    record {
+      spells = (a, ((omega (arith, named_text.0), named_text.1), (text, omega arith)));
+      readable = tt;
+      bounded = tt;
+      short = fits;
     }

@@ -7,7 +7,10 @@ use Rattle.p9_rmsg.specs.declared.message.Rgetattr.{Rgetattr}
 use Rattle.p9_rmsg.specs.declared.message.Rlerror.{Rlerror}
 use Rattle.p9_rmsg.specs.declared.message.Rlopen.{Rlopen}
 use Rattle.p9_rmsg.specs.declared.message.Rread.{Rread}
+use Rattle.p9_rmsg.specs.declared.message.Rlcreate.{Rlcreate}
 use Rattle.p9_rmsg.specs.declared.message.Rmkdir.{Rmkdir}
+use Rattle.p9_rmsg.specs.declared.message.Rmknod.{Rmknod}
+use Rattle.p9_rmsg.specs.declared.message.Rsymlink.{Rsymlink}
 use Rattle.p9_rmsg.specs.declared.message.Rreadlink.{Rreadlink}
 use Rattle.p9_rmsg.specs.declared.message.Rstatfs.{Rstatfs}
 use Rattle.p9_rmsg.specs.declared.message.Rwalk.{Rwalk}
@@ -15,6 +18,7 @@ use Rattle.p9_rmsg.specs.declared.message.Rwrite.{Rwrite}
 use Rattle.p9_rmsg.specs.Replies.{reply_of}
 use Rattle.p9_client.specs.Views.{attach_view, walk_one_view, copy_view, open_view, attributes_view}
 use Rattle.p9_client.specs.Views.{read_view, mkdir_view, write_view, sizes_view, readlink_view}
+use Rattle.p9_client.specs.Views.{create_view, symlink_view, mknod_view}
 
 pub only_attach : (x : Rmessage) → ((y : Rattach) → x ≢ variant.Attach y)
     → ((y : Rlerror) → x ≢ variant.Lerror y) → attach_view (reply_of x) ≡ None
@@ -75,3 +79,21 @@ pub only_readlink : (x : Rmessage) → ((y : Rreadlink) → x ≢ variant.Readli
 only_readlink (variant.Readlink y) own error = absurd (own y refl)
 only_readlink (variant.Lerror y) own error = absurd (error y refl)
 only_readlink _ own error = refl
+
+pub only_create : (x : Rmessage) → ((y : Rlcreate) → x ≢ variant.Lcreate y)
+    → ((y : Rlerror) → x ≢ variant.Lerror y) → create_view (reply_of x) ≡ None
+only_create (variant.Lcreate y) own error = absurd (own y refl)
+only_create (variant.Lerror y) own error = absurd (error y refl)
+only_create _ own error = refl
+
+pub only_symlink : (x : Rmessage) → ((y : Rsymlink) → x ≢ variant.Symlink y)
+    → ((y : Rlerror) → x ≢ variant.Lerror y) → symlink_view (reply_of x) ≡ None
+only_symlink (variant.Symlink y) own error = absurd (own y refl)
+only_symlink (variant.Lerror y) own error = absurd (error y refl)
+only_symlink _ own error = refl
+
+pub only_mknod : (x : Rmessage) → ((y : Rmknod) → x ≢ variant.Mknod y)
+    → ((y : Rlerror) → x ≢ variant.Lerror y) → mknod_view (reply_of x) ≡ None
+only_mknod (variant.Mknod y) own error = absurd (own y refl)
+only_mknod (variant.Lerror y) own error = absurd (error y refl)
+only_mknod _ own error = refl

@@ -3,7 +3,10 @@ use Rattle.std.specs.Prelude.{ℕ, ◌-◌, min, Bool, false, List, Option, Some
 use Rattle.std.specs.FinMap as map
 use Rattle.tree_model.specs.Attributes.{Qid}
 use Rattle.tree_model.specs.Opening.{open_check_of, read_of}
-use Rattle.fid_model.specs.Fids.{ServerState, Fid, closed, is_readable}
+use Rattle.tree_model.specs.Tree.{Tree}
+use Rattle.fid_model.specs.FidCalls.{by_fid}
+use Rattle.fid_model.specs.Files.{new_file_of}
+use Rattle.fid_model.specs.Fids.{ServerState, Fid, closed, is_readable, kept_state}
 use Rattle.p9_wire.specs.declared.protocol.TheConstants.{RREAD_HEADER_SIZE}
 use Rattle.fid_model.specs.Answers.{opened, qid_at}
 
@@ -29,3 +32,18 @@ is_readable_at (Some f) = is_readable f.open_state
 abbrev pub read_told : ServerState → ℕ → ℕ → ℕ → Result (List ℕ) ℕ × ServerState
 read_told s ino offset count =
     (read_of s.tree ino offset (min count (s.msize - RREAD_HEADER_SIZE)), s)
+
+-- a fid names the file that was made, and is open so
+abbrev pub created : ServerState → ℕ → ℕ → Result (ℕ × Tree) ℕ → Result Qid ℕ × ServerState
+created s fid flags (Ok (ino, t)) = (
+  Ok (qid_at t ino),
+  kept_state (record s {
+    tree = t;
+    fids = map.insert s.fids fid (opened (closed ino) flags);
+  }),
+)
+created s fid flags (Err e) = (Err e, s)
+
+abbrev pub created_told : ServerState → ℕ → List ℕ → ℕ → ℕ → Result Qid ℕ × ServerState
+created_told s fid name flags mode = created s fid flags
+    (by_fid (λ f. new_file_of s.tree f.ino name flags mode) (map.get s.fids fid))

@@ -9,7 +9,8 @@ use Rattle.p9_rmsg.specs.declared.message.Rgetattr.{Rgetattr}
 use Rattle.p9_rmsg.specs.Replies.{Attributes, attributes_of, Reply}
 use Rattle.p9_rmsg.specs.Replies.Reply.{attach as r_attach, getattr as r_getattr}
 use Rattle.p9_rmsg.specs.Replies.Reply.{lerror as r_lerror, lopen as r_lopen, read as r_read}
-use Rattle.p9_rmsg.specs.Replies.Reply.{mkdir as r_mkdir, readlink as r_readlink}
+use Rattle.p9_rmsg.specs.Replies.Reply.{lcreate as r_lcreate, mkdir as r_mkdir, mknod as r_mknod}
+use Rattle.p9_rmsg.specs.Replies.Reply.{readlink as r_readlink, symlink as r_symlink}
 use Rattle.p9_rmsg.specs.Replies.Reply.{statfs as r_statfs, walk as r_walk, write as r_write}
 use Rattle.p9_rmsg.specs.declared.message.Rstatfs.{Rstatfs}
 use Rattle.tree_model.specs.declared.attributes.Statfs.{Statfs}
@@ -118,3 +119,18 @@ abbrev pub readlink_view : Reply → Option (Result (List ℕ) ℕ)
 readlink_view (r_readlink target) = Some (Ok target)
 readlink_view (r_lerror e) = Some (Err e)
 readlink_view _ = None
+
+abbrev pub create_view : Reply → Option (Result Qid ℕ)
+create_view (r_lcreate qid iounit) = Some (Ok qid)
+create_view (r_lerror e) = Some (Err e)
+create_view _ = None
+
+abbrev pub symlink_view : Reply → Option (Result Qid ℕ)
+symlink_view (r_symlink qid) = Some (Ok qid)
+symlink_view (r_lerror e) = Some (Err e)
+symlink_view _ = None
+
+abbrev pub mknod_view : Reply → Option (Result Qid ℕ)
+mknod_view (r_mknod qid) = Some (Ok qid)
+mknod_view (r_lerror e) = Some (Err e)
+mknod_view _ = None

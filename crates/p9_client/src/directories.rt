@@ -11,8 +11,7 @@ ghost use Rattle.fid_model.specs.Directories.{unlinkat_told};
 ghost use Rattle.p9_client.specs.Views.{IsRoomy, qid_answer};
 ghost use Rattle.p9_client.specs.Changing.{Changes, changed};
 
-use crate::exchange::exchange;
-use crate::replies::done;
+use crate::exchange::{done, exchange};
 use crate::texts::text_of;
 use fid_model::Nine;
 use p9_rmsg::Rmessage;

@@ -9,6 +9,7 @@ ghost use Rattle.fid_model.specs.Handling.{IsLeft};
 ghost use Rattle.p9_client.specs.Asking.{IsAskable, IsRequest, IsRepliedBy, IsExchanged};
 ghost use Rattle.p9_client.specs.Asking.{IsUnfinishedAt};
 ghost use Rattle.p9_client.specs.Asking.{IsReplyFrame};
+ghost use Rattle.p9_client.specs.Changing.{done};
 
 use fid_model::Nine;
 use p9_rmsg::Rmessage;
@@ -86,4 +87,14 @@ pub fn exchange<N: Nine>(
     let request = frame_of(alloc, message)?;
     let reply = reply_to(alloc, nine, request.as_bytes())?;
     reply_in(alloc, reply.as_bytes())
+}
+
+/// That all was done, of a message whose reply has no fields, or its refusal.
+pub fn done(reply: Rmessage) -> Result<(), u32>
+    ensures { result ≡ done (reply_of reply) }
+{
+    match reply {
+        Rmessage::Lerror(error) => Err(error.ecode),
+        _ => Ok(()),
+    }
 }

@@ -6,17 +6,19 @@ ghost use Rattle.port_base.specs.Names.{name_fault};
 ghost use Rattle.port_base.specs.OpenFlags.{has_flag};
 ghost use Rattle.port_base.specs.declared.oflag.TheConstants.{O_TRUNC};
 ghost use Rattle.p9_tmsg.specs.Messages.{message_of};
-ghost use Rattle.p9_tmsg.specs.Messages.Message.{attach as attach_message, walk};
+ghost use Rattle.p9_tmsg.specs.Messages.Message.{attach as attach_message, lcreate as t_lcreate};
+ghost use Rattle.p9_tmsg.specs.Messages.Message.{walk};
 ghost use Rattle.fid_model.specs.Calls.{attach_told, walk_one_told};
 ghost use Rattle.fid_model.specs.Moments.{Answered, FidAnswered, Keeps, SameTree, Untouched};
 ghost use Rattle.p9_client.specs.Views.{IsRoomy, FidGone, FidGoneOrNot, qid_answer};
-ghost use Rattle.p9_client.specs.Opening.{copied_told, opened_told};
+ghost use Rattle.p9_client.specs.Opening.{copied_told, created_told, opened_told};
+ghost use Rattle.p9_client.specs.Changing.{Changes};
 
 use crate::exchange::exchange;
 use crate::texts::{no_text, text_of};
 use fid_model::Nine;
 use p9_rmsg::Rmessage;
-use p9_tmsg::{Tattach, Tclunk, Tlopen, Tmessage, Twalk};
+use p9_tmsg::{Tattach, Tclunk, Tlcreate, Tlopen, Tmessage, Twalk};
 use p9_wire::protocol::P9_NOFID;
 use p9_wire::qid::Qid;
 use port_base::sink::NoMemory;
@@ -148,6 +150,50 @@ pub fn open<N: Nine>(
     let message = Tmessage::Lopen(Tlopen { fid, flags });
     match exchange(alloc, nine, &message)? {
         Rmessage::Lopen(reply) => Ok(Ok(reply.qid)),
+        Rmessage::Lerror(reply) => Ok(Err(reply.ecode)),
+        _ => unreachable!(),
+    }
+}
+
+// A message for a new file.
+fn create_message(
+    alloc: Global,
+    fid: u32,
+    name: &[u8],
+    flags: u32,
+    mode: u32,
+) -> Result<Tmessage, NoMemory>
+    requires { name_fault name.now ≡ None }
+    ensures { IfOk result (λ m. message_of m ≡ t_lcreate fid name.now flags mode 0) }
+{
+    let name = text_of(alloc, name)?;
+    Ok(Tmessage::Lcreate(Tlcreate {
+        fid,
+        name,
+        flags,
+        mode,
+        gid: 0,
+    }))
+}
+
+/// Makes a file of this mode in the directory of a fid, which then names the file and is open by
+/// the flags of `open(2)`.
+pub fn create<N: Nine>(
+    alloc: Global,
+    nine: &mut N,
+    fid: u32,
+    name: &[u8],
+    flags: u32,
+    mode: u32,
+) -> Result<Result<Qid, u32>, NoMemory>
+    requires roomy { IsRoomy (N.at nine.old).state }
+    requires named { name_fault name.now ≡ None }
+    ensures { Changes qid_answer (λ s. created_told s fid name.now flags mode) result
+        (N.at nine.old) (N.at nine.new) }
+{
+    let message = create_message(alloc, fid, name, flags, mode)?;
+    match exchange(alloc, nine, &message)? {
+        Rmessage::Lcreate(reply) => Ok(Ok(reply.qid)),
         Rmessage::Lerror(reply) => Ok(Err(reply.ecode)),
         _ => unreachable!(),
     }

@@ -10,13 +10,13 @@ ghost use Rattle.fid_model.specs.Moments.{FidAnswered, Keeps, SameTree, Untouche
 ghost use Rattle.p9_client.specs.Views.{IsRoomy, attributes_answer, attributes_told, bytes_answer};
 ghost use Rattle.p9_client.specs.Views.{sizes_answer, sizes_told};
 ghost use Rattle.p9_client.specs.Opening.{read_told, is_readable_at};
-ghost use Rattle.p9_client.specs.Changing.{Changes, Shows, changed};
+ghost use Rattle.p9_client.specs.Changing.{Changes, FrontOrTold, Gives, Shows, changed};
+ghost use Rattle.p9_client.specs.Changing.{changes_of, set_told};
 
-use crate::exchange::exchange;
-use crate::replies::done;
+use crate::exchange::{done, exchange};
 use fid_model::Nine;
 use p9_rmsg::{Rgetattr, Rmessage, Rstatfs};
-use p9_tmsg::{Tfsync, Tgetattr, Tmessage, Tread, Treadlink, Tstatfs, Twrite};
+use p9_tmsg::{Tfsync, Tgetattr, Tmessage, Tread, Treadlink, Tsetattr, Tstatfs, Twrite};
 use p9_wire::data::Data;
 use p9_wire::protocol::P9_GETATTR_BASIC;
 use p9_wire::text::P9String;
@@ -107,6 +107,22 @@ pub fn write<N: Nine>(
         Rmessage::Lerror(reply) => Ok(Err(reply.ecode)),
         _ => unreachable!(),
     }
+}
+
+/// Sets those attributes of a fid's inode that the bits of `valid` name, in order: mode, owners,
+/// size, times. A step that was done stays where a later one is refused.
+pub fn set_attr<N: Nine>(
+    alloc: Global,
+    nine: &mut N,
+    change: Tsetattr,
+) -> Result<Result<(), u32>, NoMemory>
+    requires roomy { IsRoomy (N.at nine.old).state }
+    ensures { Gives (λ r. r) (set_told (N.at nine.old).state (changes_of change) change.fid)
+        (FrontOrTold (N.at nine.old).state (changes_of change) change.fid)
+        result (N.at nine.old) (N.at nine.new) }
+{
+    let reply = exchange(alloc, nine, &Tmessage::SetAttr(change))?;
+    Ok(done(reply))
 }
 
 /// How much the tree of a fid may have.

@@ -6,9 +6,10 @@ mod examples;
 mod exchange;
 mod fids;
 mod inodes;
-mod replies;
+mod specials;
 mod texts;
 
 pub use directories::{link, mkdir, rename_at, unlink_at};
-pub use fids::{attach, clunk, copy_fid, open, walk_one};
-pub use inodes::{fsync, get_attr, read, read_link, stat_fs, write};
+pub use fids::{attach, clunk, copy_fid, create, open, walk_one};
+pub use inodes::{fsync, get_attr, read, read_link, set_attr, stat_fs, write};
+pub use specials::{Device, mknod, symlink};

@@ -46,23 +46,30 @@ pub fn make_directory_line(
     end_line(line)
 }
 
+/// An entry of a directory: its cookie, the inode that it names, and its name.
+#[derive(Clone, Copy)]
+pub struct ShownEntry<'a> {
+    pub cookie: u64,
+    pub child: u64,
+    pub name: &'a [u8],
+}
+
 /// Makes the line of a directory's entry.
 #[tactic(auto, unfolding(crate::specs::ReportLines::entry_line))]
 pub fn make_entry_line(
     alloc: Global,
     line: &mut Vec<u8>,
     dir: u64,
-    cookie: u64,
-    child: u64,
-    name: &[u8],
+    shown: ShownEntry<'_>,
 ) -> Result<(), NoMemory>
-    ensures { OnOk result (line.new.items ≡ entry_line dir cookie child name.now) }
+    ensures { OnOk result (line.new.items ≡ entry_line dir shown.entry.cookie shown.entry.child
+        shown.entry.name.now) }
 {
     start_line(line, b"in")?;
     push_number(alloc, line, dir)?;
-    push_number(alloc, line, cookie)?;
-    push_number(alloc, line, child)?;
-    push_name(line, name)?;
+    push_number(alloc, line, shown.cookie)?;
+    push_number(alloc, line, shown.child)?;
+    push_name(line, shown.name)?;
     end_line(line)
 }
 

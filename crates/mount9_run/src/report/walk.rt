@@ -12,6 +12,7 @@ ghost use Rattle.mount9_run.specs.Report.{entries_text, records_text, tree_text}
 ghost use Rattle.mount9_run.specs.Walking.{entries_in, directory_text, stored_text, linked_text};
 ghost use Rattle.mount9_run.specs.Walking.{IsStored};
 
+use crate::report::lines::ShownEntry;
 use crate::report::writing::{
     write_directory_line, write_entry_line, write_file_head, write_hex, write_link_line,
     write_number_line, write_text,
@@ -39,7 +40,12 @@ fn write_entries<K: Sink>(
 {
     let mut at = 0;
     'entries: while let Some((cookie, child, name)) = host.peek_entry(dir, at) {
-        write_entry_line(alloc, out, buffer, dir, cookie, child, name)?;
+        let shown = ShownEntry {
+            cookie,
+            child,
+            name,
+        };
+        write_entry_line(alloc, out, buffer, dir, shown)?;
         at = cookie;
     }
     Ok(())

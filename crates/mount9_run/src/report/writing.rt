@@ -8,8 +8,8 @@ ghost use Rattle.mount9_run.specs.ReportLines.{number_line, hex_lines, verdict_l
 ghost use Rattle.mount9_run.specs.Report.{replies_text, closing};
 
 use crate::report::lines::{
-    make_directory_line, make_entry_line, make_file_head, make_hex_line, make_link_line,
-    make_number_line, make_verdict_line,
+    ShownEntry, make_directory_line, make_entry_line, make_file_head, make_hex_line,
+    make_link_line, make_number_line, make_verdict_line,
 };
 use crate::report::verdict::Verdict;
 use port_base::sink::{Sink, SinkFault, write_all};
@@ -86,15 +86,13 @@ pub fn write_entry_line<K: Sink>(
     out: &mut K,
     buffer: &mut Vec<u8>,
     dir: u64,
-    cookie: u64,
-    child: u64,
-    name: &[u8],
+    shown: ShownEntry<'_>,
 ) -> Result<(), SinkFault>
     ensures { Wrote (at_sink (K.sent out.old) (K.faults out.old) (K.kept out.old))
         (at_sink (K.sent out.new) (K.faults out.new) (K.kept out.new))
-        (entry_line dir cookie child name.now) result }
+        (entry_line dir shown.entry.cookie shown.entry.child shown.entry.name.now) result }
 {
-    if make_entry_line(alloc, buffer, dir, cookie, child, name).is_err() {
+    if make_entry_line(alloc, buffer, dir, shown).is_err() {
         return Err(SinkFault::NoMemory);
     }
     write_text(out, buffer)

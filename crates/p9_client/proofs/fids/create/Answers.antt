@@ -1,0 +1,51 @@
+-- A new file, by the machine.
+use Rattle.std.proofs.Common.{inl, refl, ap, subst, sym}
+use Rattle.std.proofs.lemmas.Result.{err_from_is_err_and}
+use Rattle.p9_tmsg.specs.Messages.{Message}
+use Rattle.p9_rmsg.specs.Replies.{reply_of}
+use Rattle.p9_client.specs.Asking.{IsAskable, IsExchanged}
+use Rattle.p9_client.specs.Views.{create_view}
+use Rattle.p9_client.proofs.Changing.{create_tells, gives_answer, gives_nothing, gives_unfinished}
+use Rattle.p9_client.proofs.Names.{lcreate_askable}
+use Rattle.p9_client.proofs.Only.{only_create}
+use Rattle.p9_client.proofs.Telling.{no_other}
+use Rattle.p9_client.proofs.fids.create.Goals as goal
+
+pub exchange-requires : goal.exchange-requires
+exchange-requires g c = subst (IsAskable (g.N.Nine.at c.args.nine.now).state)
+    (sym c.in_ok-message.ensures) (lcreate_askable (g.N.Nine.at c.args.nine.now).state
+    c.requires.roomy c.args.fid c.args.mode c.ranges.fid.fits c.ranges.mode.fits c.args.name.now
+    c.requires.named c.args.flags c.ranges.flags.fits)
+
+pub returns-in_err-message : goal.returns-in_err-message
+returns-in_err-message g c =
+    let p = err_from_is_err_and c.from_residual.result c.from_residual.ensures.1 in
+    gives_nothing c.from_residual.result p.0 p.1 (inl refl)
+
+pub returns-in_err-reply : goal.returns-in_err-reply
+returns-in_err-reply g c =
+    let p = err_from_is_err_and c.from_residual.result c.from_residual.ensures.1 in
+    gives_unfinished (create_tells (g.N.Nine.at c.args.nine.now).state
+    (g.met.N.Nine.good c.args.nine.now) c.args.fid c.args.flags c.args.name.now c.args.mode 0)
+    c.in_ok-message.ensures c.from_residual.result p.0 p.1 c.in_err-reply.ensures.err
+    c.in_err-reply.ensures.kept
+
+pub returns-in-Lcreate : goal.returns-in-Lcreate
+returns-in-Lcreate g c = gives_answer (create_tells (g.N.Nine.at c.args.nine.now).state
+    (g.met.N.Nine.good c.args.nine.now) c.args.fid c.args.flags c.args.name.now c.args.mode 0)
+    c.in_ok-message.ensures _ c.in_ok-reply.ensures.outcome
+    (ap (λ x. create_view (reply_of x)) c.in-Lcreate.is) c.in_ok-reply.ensures.kept
+
+pub returns-in-Lerror : goal.returns-in-Lerror
+returns-in-Lerror g c = gives_answer (create_tells (g.N.Nine.at c.args.nine.now).state
+    (g.met.N.Nine.good c.args.nine.now) c.args.fid c.args.flags c.args.name.now c.args.mode 0)
+    c.in_ok-message.ensures _ c.in_ok-reply.ensures.outcome
+    (ap (λ x. create_view (reply_of x)) c.in-Lerror.is) c.in_ok-reply.ensures.kept
+
+pub unreachable-requires : goal.unreachable-requires
+unreachable-requires g c = no_other (create_tells (g.N.Nine.at c.args.nine.now).state
+    (g.met.N.Nine.good c.args.nine.now) c.args.fid c.args.flags c.args.name.now c.args.mode 0) _ _ _
+    _ (subst (λ (m : Message). IsExchanged m (reply_of c.in_ok-reply.field-0)
+    (g.N.Nine.at c.args.nine.now) (g.N.Nine.at c.exchange.new.nine)) c.in_ok-message.ensures
+    c.in_ok-reply.ensures.outcome).outcome (only_create c.in_ok-reply.field-0
+    c.in_default.not-Lcreate c.in_default.not-Lerror)

@@ -1,0 +1,52 @@
+-- What was written, by the machine.
+use Rattle.std.proofs.Common.{inl, refl, ap, subst, sym}
+use Rattle.std.proofs.lemmas.Result.{err_from_is_err_and}
+use Rattle.p9_tmsg.specs.Messages.{Message}
+use Rattle.p9_rmsg.specs.Replies.{reply_of}
+use Rattle.p9_client.specs.Asking.{IsAskable, IsExchanged}
+use Rattle.p9_client.specs.Views.{write_view}
+use Rattle.p9_client.proofs.Changing.{gives_answer, gives_nothing, gives_unfinished}
+use Rattle.p9_client.proofs.Names.{write_askable}
+use Rattle.p9_client.proofs.Only.{only_write}
+use Rattle.p9_client.proofs.Telling.{no_other}
+use Rattle.p9_client.proofs.Told.{write_tells}
+use Rattle.p9_client.proofs.inodes.write.Goals as goal
+
+pub exchange-requires : goal.exchange-requires
+exchange-requires g c = subst (IsAskable (g.N.Nine.at c.args.nine.now).state)
+    (sym c.in_ok-message.ensures) (write_askable (g.N.Nine.at c.args.nine.now).state c.args.fid
+    c.args.offset c.args.bytes.now c.ranges.fid.fits c.ranges.offset.fits c.requires.few
+    c.requires.fits)
+
+pub returns-in_err-message : goal.returns-in_err-message
+returns-in_err-message g c =
+    let p = err_from_is_err_and c.from_residual.result c.from_residual.ensures.1 in
+    gives_nothing c.from_residual.result p.0 p.1 (inl refl)
+
+pub returns-in_err-reply : goal.returns-in_err-reply
+returns-in_err-reply g c =
+    let p = err_from_is_err_and c.from_residual.result c.from_residual.ensures.1 in
+    gives_unfinished (write_tells (g.N.Nine.at c.args.nine.now).state
+    (g.met.N.Nine.good c.args.nine.now) c.args.fid c.args.offset c.args.bytes.now)
+    c.in_ok-message.ensures c.from_residual.result p.0 p.1 c.in_err-reply.ensures.err
+    c.in_err-reply.ensures.kept
+
+pub returns-in-Write : goal.returns-in-Write
+returns-in-Write g c = gives_answer (write_tells (g.N.Nine.at c.args.nine.now).state
+    (g.met.N.Nine.good c.args.nine.now) c.args.fid c.args.offset c.args.bytes.now)
+    c.in_ok-message.ensures _ c.in_ok-reply.ensures.outcome
+    (ap (λ x. write_view (reply_of x)) c.in-Write.is) c.in_ok-reply.ensures.kept
+
+pub returns-in-Lerror : goal.returns-in-Lerror
+returns-in-Lerror g c = gives_answer (write_tells (g.N.Nine.at c.args.nine.now).state
+    (g.met.N.Nine.good c.args.nine.now) c.args.fid c.args.offset c.args.bytes.now)
+    c.in_ok-message.ensures _ c.in_ok-reply.ensures.outcome
+    (ap (λ x. write_view (reply_of x)) c.in-Lerror.is) c.in_ok-reply.ensures.kept
+
+pub unreachable-requires : goal.unreachable-requires
+unreachable-requires g c = no_other (write_tells (g.N.Nine.at c.args.nine.now).state
+    (g.met.N.Nine.good c.args.nine.now) c.args.fid c.args.offset c.args.bytes.now) _ _ _ _
+    (subst (λ (m : Message). IsExchanged m (reply_of c.in_ok-reply.field-0)
+    (g.N.Nine.at c.args.nine.now) (g.N.Nine.at c.exchange.new.nine)) c.in_ok-message.ensures
+    c.in_ok-reply.ensures.outcome).outcome (only_write c.in_ok-reply.field-0 c.in_default.not-Write
+    c.in_default.not-Lerror)
