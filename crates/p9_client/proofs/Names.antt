@@ -1,6 +1,6 @@
 -- A name without a fault is a text of a message.
 use Rattle.std.proofs.Common.{◌≡◌, ℕ, ◌≤◌, ◌<◌, ◌^◌, Bool, true, false, cond, not, List, [], ◌∷◌}
-use Rattle.std.proofs.Common.{◌+◌, length, Some, None, Option, refl, arith}
+use Rattle.std.proofs.Common.{◌+◌, ◌++◌, length, Some, None, Option, refl, arith}
 use Rattle.std.specs.Prelude.{◌==◌, ◌||◌}
 use Rattle.std.specs.List.{list_any}
 use Rattle.std.specs.Str.{is_utf8}
@@ -9,7 +9,7 @@ use Rattle.std.proofs.lemmas.List.{length-append}
 use Rattle.port_base.specs.Names.{name_fault, is_separator}
 use Rattle.p9_wire.specs.Texts.{is_text}
 use Rattle.p9_wire.specs.declared.protocol.TheConstants.{TWRITE_HEADER_SIZE}
-use Rattle.p9_wire.specs.Values.{TextSpells}
+use Rattle.p9_wire.specs.Values.{TextSpells, le32, text_spelling}
 use Rattle.p9_tmsg.specs.Messages.{message_spelling}
 use Rattle.p9_tmsg.specs.Messages.Message.{lcreate, link, mkdir, mknod, renameat, symlink}
 use Rattle.p9_tmsg.specs.Messages.Message.{unlinkat, walk, write}
@@ -80,7 +80,7 @@ module _ (s : ServerState) (roomy : IsRoomy s) (fid : ℕ) (a : fid < 2 ^ 32) (n
         spells = (a, ((omega (arith, text.0), text.1), (b, omega arith)));
         readable = tt;
         bounded = tt;
-        short = omega (arith, text.0, roomy.enough, length-append name []);
+        short = omega (arith, text.0, roomy.enough, length-append name (le32 mode ++ le32 0));
       }
 
   pub unlinkat_askable : (flags : ℕ) → flags < 2 ^ 32 → IsAskable s (unlinkat fid name flags)
@@ -90,7 +90,7 @@ module _ (s : ServerState) (roomy : IsRoomy s) (fid : ℕ) (a : fid < 2 ^ 32) (n
         spells = (a, ((omega (arith, text.0), text.1), b));
         readable = tt;
         bounded = tt;
-        short = omega (arith, text.0, roomy.enough, length-append name []);
+        short = omega (arith, text.0, roomy.enough, length-append name (le32 flags));
       }
 
   pub renameat_askable : (newfid : ℕ) → newfid < 2 ^ 32 → (new : List ℕ) → name_fault new ≡ None
@@ -102,7 +102,13 @@ module _ (s : ServerState) (roomy : IsRoomy s) (fid : ℕ) (a : fid < 2 ^ 32) (n
         spells = (a, ((omega (arith, text.0), text.1), (b, (omega (arith, other.0), other.1))));
         readable = tt;
         bounded = tt;
-        short = omega (arith, text.0, other.0, roomy.enough);
+        short = omega (
+          arith,
+          text.0,
+          other.0,
+          roomy.enough,
+          length-append name (le32 newfid ++ text_spelling new),
+        );
       }
 
 pub write_askable : (s : ServerState) (fid offset : ℕ) (bytes : List ℕ) → fid < 2 ^ 32
@@ -125,7 +131,13 @@ module _ (s : ServerState) (roomy : IsRoomy s) (fid mode : ℕ) (a : fid < 2 ^ 3
         spells = (a, ((omega (arith, text.0), text.1), (c, (b, omega arith))));
         readable = tt;
         bounded = tt;
-        short = omega (arith, text.0, roomy.enough, length-append name []);
+        short = omega (
+          arith,
+          text.0,
+          roomy.enough,
+          length-append name
+              (le32 flags ++ (le32 mode ++ le32 0)),
+        );
       }
 
   pub mknod_askable : (major minor : ℕ) → major < 2 ^ 32 → minor < 2 ^ 32
@@ -136,7 +148,13 @@ module _ (s : ServerState) (roomy : IsRoomy s) (fid mode : ℕ) (a : fid < 2 ^ 3
         spells = (a, ((omega (arith, text.0), text.1), (b, (c, (d, omega arith)))));
         readable = tt;
         bounded = tt;
-        short = omega (arith, text.0, roomy.enough, length-append name []);
+        short = omega (
+          arith,
+          text.0,
+          roomy.enough,
+          length-append name
+              (le32 mode ++ (le32 major ++ (le32 minor ++ le32 0))),
+        );
       }
 
 pub symlink_askable : (s : ServerState) (fid : ℕ) → fid < 2 ^ 32 → (name target : List ℕ)

@@ -25,10 +25,11 @@ returns-in_err-message g c =
 
 pub returns-in_err-reply : goal.returns-in_err-reply
 returns-in_err-reply g c =
-    let p = err_from_is_err_and c.from_residual.result c.from_residual.ensures.1 in
+    let p = err_from_is_err_and c.from_residual-in_err-reply.result
+    c.from_residual-in_err-reply.ensures.1 in
     gives_unfinished (symlink_tells (g.N.Nine.at c.args.nine.now).state
     (g.met.N.Nine.good c.args.nine.now) c.args.dfid c.args.name.now c.args.target.now)
-    c.in_ok-message.ensures c.from_residual.result p.0 p.1 c.in_err-reply.ensures.err
+    c.in_ok-message.ensures c.from_residual-in_err-reply.result p.0 p.1 c.in_err-reply.ensures.err
     c.in_err-reply.ensures.kept
 
 pub returns-in-Symlink : goal.returns-in-Symlink
