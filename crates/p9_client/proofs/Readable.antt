@@ -3,9 +3,9 @@ use Rattle.std.proofs.Common.{◌≡◌, ⊎_elim, ℕ, ◌≤◌, ◌-◌, drop
 use Rattle.std.proofs.Common.{[], ◌∷◌, Result, Ok, Err, Some, None, Option, sym, ap, subst, length}
 use Rattle.std.specs.Prelude.{◌==◌, min, nat_lt, nat_le, not, ◌&&◌}
 use Rattle.std.specs.FinMap as map
-use Rattle.port_base.specs.declared.errno.TheConstants.{EIO, EBADF, EINVAL, ENFILE}
+use Rattle.port_base.specs.declared.errno.TheConstants.{EIO, EBADF, EINVAL, ENFILE, ENOTDIR}
 use Rattle.std.proofs.lemmas.List.{length-take}
-use Rattle.tree_model.specs.Tree.{Body, Tree, body_at}
+use Rattle.tree_model.specs.Tree.{Body, Tree, body_at, is_directory_at}
 use Rattle.tree_model.specs.Tree.Body.{File, Directory, Link}
 use Rattle.tree_model.specs.Opening.{body_answer, read_body, read_of}
 use Rattle.tree_model.specs.Finding.{root_of}
@@ -24,10 +24,13 @@ use Rattle.p9_tmsg.specs.Messages.Message.{version as t_version, walk as t_walk,
 use Rattle.p9_rmsg.specs.Replies.{Reply, IsReadableReply}
 use Rattle.p9_rmsg.specs.Replies.Reply.{fsync as r_fsync, getlock as r_getlock, lerror as r_lerror}
 use Rattle.p9_rmsg.specs.Replies.Reply.{link as r_link, lock as r_lock, mkdir as r_mkdir}
-use Rattle.p9_rmsg.specs.Replies.Reply.{readlink as r_readlink, renameat as r_renameat}
+use Rattle.p9_rmsg.specs.Replies.Reply.{readdir as r_readdir, readlink as r_readlink}
+use Rattle.p9_rmsg.specs.Replies.Reply.{renameat as r_renameat}
 use Rattle.p9_rmsg.specs.Replies.Reply.{unlinkat as r_unlinkat, walk as r_walk, write as r_write}
 use Rattle.p9_wire.specs.declared.protocol.TheConstants.{P9_MAXWELEM}
-use Rattle.fid_model.specs.Fids.{ServerState, Fid, is_readable}
+use Rattle.fid_model.specs.Fids.{ServerState, Fid, is_open, is_readable}
+use Rattle.fid_model.specs.Listings.{listed_page, page_by, page_room}
+use Rattle.fid_model.proofs.Listings.{length-page}
 use Rattle.p9_client.specs.Asking.{IsBounded}
 use Rattle.p9_wire.specs.declared.protocol.TheConstants.{RREAD_HEADER_SIZE}
 use Rattle.fid_model.specs.Answers.{lopen_answer, lopen_by, read_reply, read_by, core, attached}
@@ -118,6 +121,21 @@ read_readable s offset count few (Some f) =
     (r_lerror EBADF) (piece_readable most (omega (arith, few)) offset
     (body_at s.tree.records f.ino)) tt
 
+-- a page of a directory has no more bytes than were asked for
+page_readable : (s : ServerState) (offset count : ℕ) → count ≤ 33554432 → (f : Option Fid)
+    → IsReadableReply (told_answer s r_readdir (by_fid (page_by s offset count) f)).0
+page_readable s offset count few None = tt
+page_readable s offset count few (Some f) = by_tests
+    (not (is_directory_at (body_at s.tree.records f.ino))) (is_open f.open_state) where
+      room : ℕ
+      room = page_room count s.msize
+
+      by_tests : (b c : Bool) → IsReadableReply (told_answer s r_readdir
+          (cond b (Err ENOTDIR) (cond c (Ok (listed_page s.tree f.ino offset room)) (Err EBADF)))).0
+      by_tests true c = tt
+      by_tests false true = omega (arith, few, length-page s.tree f.ino offset room)
+      by_tests false false = tt
+
 told_readable : {A : Type 0} (s : ServerState) (reply : A → Reply)
     → ((a : A) → IsReadableReply (reply a)) → (r : Result A ℕ)
     → IsReadableReply (told_answer s reply r).0
@@ -184,6 +202,8 @@ core_readable s (t_renameat olddirfid oldname newdirfid newname) b =
     (renameat_told s olddirfid oldname newdirfid newname)
 core_readable s (t_unlinkat dirfd name flags) b =
     tree_readable {A = Unit {0}} s (λ _. r_unlinkat) (λ a. tt) (unlinkat_told s dirfd name flags)
+core_readable s (t_readdir fid offset count) b =
+    page_readable s offset count b (map.get s.fids fid)
 core_readable s _ b = tt
 
 part_readable : (s : ServerState) (fid : ℕ) (names : List (List ℕ)) (r : Reply)

@@ -11,7 +11,8 @@ use Rattle.p9_tmsg.specs.Messages.{Message}
 use Rattle.p9_tmsg.specs.Messages.Message.{attach as t_attach, clunk as t_clunk, fsync as t_fsync}
 use Rattle.p9_tmsg.specs.Messages.Message.{getlock as t_getlock, link as t_link, lock as t_lock}
 use Rattle.p9_tmsg.specs.Messages.Message.{lopen as t_lopen, mkdir as t_mkdir}
-use Rattle.p9_tmsg.specs.Messages.Message.{readlink as t_readlink, renameat as t_renameat}
+use Rattle.p9_tmsg.specs.Messages.Message.{readdir as t_readdir, readlink as t_readlink}
+use Rattle.p9_tmsg.specs.Messages.Message.{renameat as t_renameat}
 use Rattle.p9_tmsg.specs.Messages.Message.{statfs as t_statfs, unlinkat as t_unlinkat}
 use Rattle.p9_tmsg.specs.Messages.Message.{version as t_version, walk as t_walk}
 use Rattle.p9_tmsg.specs.Messages.Message.{lcreate as t_lcreate, setattr as t_setattr}
@@ -19,7 +20,8 @@ use Rattle.p9_tmsg.specs.Messages.Message.{write as t_write}
 use Rattle.p9_rmsg.specs.Replies.{Reply}
 use Rattle.p9_rmsg.specs.Replies.Reply.{fsync as r_fsync, getlock as r_getlock, lerror as r_lerror}
 use Rattle.p9_rmsg.specs.Replies.Reply.{link as r_link, lock as r_lock, mkdir as r_mkdir}
-use Rattle.p9_rmsg.specs.Replies.Reply.{readlink as r_readlink, renameat as r_renameat}
+use Rattle.p9_rmsg.specs.Replies.Reply.{readdir as r_readdir, readlink as r_readlink}
+use Rattle.p9_rmsg.specs.Replies.Reply.{renameat as r_renameat}
 use Rattle.p9_rmsg.specs.Replies.Reply.{unlinkat as r_unlinkat, write as r_write}
 use Rattle.fid_model.specs.Fids.{ServerState, Fid, IsTreeAlone}
 use Rattle.fid_model.specs.Answers.{Walked, answer, attached, walk_names, walk_answer, walk_from}
@@ -32,6 +34,7 @@ use Rattle.fid_model.specs.Setattr.{Changes, changes}
 use Rattle.fid_model.specs.Sessions.{lock_told, getlock_told}
 use Rattle.fid_model.specs.Files.{statfs_reply, statfs_told, fsync_told, readlink_told, new_file_of}
 use Rattle.fid_model.specs.Files.{write_told}
+use Rattle.fid_model.specs.Listings.{readdir_told}
 use Rattle.fid_model.specs.Handling.{Outcome}
 use Rattle.fid_model.specs.Moments.{Moment, Keeps, Stays}
 use Rattle.p9_client.specs.Asking.{IsBounded}
@@ -127,6 +130,8 @@ answer_sized s (t_renameat olddirfid oldname newdirfid newname) b =
     (renameat_told s olddirfid oldname newdirfid newname)
 answer_sized s (t_unlinkat dirfd name flags) b =
     tree_sized {A = Unit {0}} s (λ _. r_unlinkat) (unlinkat_told s dirfd name flags)
+answer_sized s (t_readdir fid offset count) b =
+    told_sized s r_readdir (readdir_told s fid offset count)
 answer_sized s _ b = refl
 
 pub alone_sized : (s s1 : ServerState) → IsTreeAlone s s1 → s1.msize ≡ s.msize

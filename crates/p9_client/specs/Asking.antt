@@ -1,7 +1,8 @@
 -- What asking a server promises.
 use Rattle.std.specs.Prelude.{◌≡◌, ◌⊎◌, ℕ, ◌+◌, ◌≤◌, List, length}
 use Rattle.p9_tmsg.specs.Messages.{Message, MessageSpells, message_spelling, IsReadableMessage}
-use Rattle.p9_tmsg.specs.Messages.Message.{read as t_read, version as t_version}
+use Rattle.p9_tmsg.specs.Messages.Message.{read as t_read, readdir as t_readdir}
+use Rattle.p9_tmsg.specs.Messages.Message.{version as t_version}
 use Rattle.p9_tmsg.specs.Frames.{message_frame}
 use Rattle.p9_rmsg.specs.Replies.{Reply, ReplySpells, IsReadableReply}
 use Rattle.p9_rmsg.specs.Frames.{reply_frame}
@@ -13,6 +14,7 @@ use Rattle.fid_model.specs.Moments.{Moment, AskedOne}
 abbrev pub IsBounded : Message → Type 0
 IsBounded (t_version msize protocol) = ⊥
 IsBounded (t_read fid offset count) = count ≤ 33554432
+IsBounded (t_readdir fid offset count) = count ≤ 33554432
 IsBounded _ = Unit {0}
 
 -- the message has a frame that the server takes

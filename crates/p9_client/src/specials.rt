@@ -1,5 +1,5 @@
 //! Links and special files that are asked for. Each call sends one message.
-ghost use Rattle.std.specs.Prelude.{◌≡◌, ◌≤◌, ◌+◌, length, None, Err, IfOk};
+ghost use Rattle.std.specs.Prelude.{◌≡◌, ◌≤◌, ◌<◌, ◌+◌, ◌^◌, length, None, Err, IfOk};
 ghost use Rattle.port_base.specs.Names.{name_fault};
 ghost use Rattle.port_base.specs.declared.errno.TheConstants.{EACCES};
 ghost use Rattle.p9_wire.specs.Values.{TextSpells};
@@ -75,19 +75,20 @@ fn mknod_message(
     dfid: u32,
     name: &[u8],
     mode: u32,
-    device: Device,
+    major: u32,
+    minor: u32,
 ) -> Result<Tmessage, NoMemory>
     requires { name_fault name.now ≡ None }
-    ensures { IfOk result (λ m. message_of m
-        ≡ t_mknod dfid name.now mode device.major device.minor 0) }
+    ensures exact { IfOk result (λ m. message_of m ≡ t_mknod dfid name.now mode major minor 0) }
+    ensures bounded { (major < 2 ^ 32) × (minor < 2 ^ 32) }
 {
     let name = text_of(alloc, name)?;
     Ok(Tmessage::Mknod(Tmknod {
         dfid,
         name,
         mode,
-        major: device.major,
-        minor: device.minor,
+        major,
+        minor,
         gid: 0,
     }))
 }
@@ -105,7 +106,8 @@ pub fn mknod<N: Nine>(
     requires named { name_fault name.now ≡ None }
     ensures { Shows qid_answer (λ s. Err EACCES) result (N.at nine.old) (N.at nine.new) }
 {
-    let message = mknod_message(alloc, dfid, name, mode, device)?;
+    let Device { major, minor } = device;
+    let message = mknod_message(alloc, dfid, name, mode, major, minor)?;
     match exchange(alloc, nine, &message)? {
         Rmessage::Mknod(reply) => Ok(Ok(reply.qid)),
         Rmessage::Lerror(reply) => Ok(Err(reply.ecode)),
