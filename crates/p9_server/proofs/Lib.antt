@@ -27,3 +27,4 @@ pub mod Creations
 pub mod Settings
 pub mod Reading
 pub mod Sampling
+pub mod PageSteps

@@ -9,3 +9,4 @@ pub mod Configs
 pub mod Opening
 pub mod Creating
 pub mod Setting
+pub mod Paging

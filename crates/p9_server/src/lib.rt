@@ -6,6 +6,7 @@ mod examples;
 mod fid_state;
 mod fids;
 mod lookup;
+mod pages;
 mod paths;
 mod qids;
 mod replies;

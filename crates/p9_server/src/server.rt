@@ -9,6 +9,7 @@ mod attributes;
 mod create;
 mod directories;
 mod files;
+mod listing;
 mod nine;
 mod open;
 mod session;

@@ -1,13 +1,15 @@
 //! The replies to messages on directories, from what the server's steps give.
-ghost use Rattle.std.specs.Prelude.{◌≡◌, IfOk};
+ghost use Rattle.std.specs.Prelude.{◌≡◌, ◌+◌, ◌≤◌, length, IfOk};
 ghost use Rattle.p9_wire.specs.Qids.{qid_of};
 ghost use Rattle.p9_wire.specs.Frames.{result_view};
 ghost use Rattle.p9_rmsg.specs.Replies.{reply_of};
-ghost use Rattle.p9_rmsg.specs.Replies.Reply.{link, mkdir, renameat, unlinkat};
-ghost use Rattle.p9_server.specs.Answering.{reply_told, IsShort};
+ghost use Rattle.p9_rmsg.specs.Replies.Reply.{link, mkdir, readdir, renameat, unlinkat};
+ghost use Rattle.p9_wire.specs.declared.protocol.TheConstants.{RREAD_HEADER_SIZE};
+ghost use Rattle.p9_server.specs.Answering.{reply_told, Fits, IsShort};
 
 use super::refusal;
-use p9_rmsg::{Rmessage, Rmkdir};
+use p9_rmsg::{Rmessage, Rmkdir, Rreaddir};
+use p9_wire::data::Data;
 use p9_wire::error::WireError;
 use p9_wire::qid::Qid;
 use tree_model::HostError;
@@ -60,6 +62,21 @@ pub fn unlink_reply(step: Result<(), HostError>) -> Result<Rmessage, WireError>
 {
     match step {
         Ok(()) => Ok(Rmessage::UnlinkAt),
+        Err(e) => refusal(e),
+    }
+}
+
+/// The reply to Treaddir, in a frame of at most `msize` bytes.
+pub fn readdir_reply(step: Result<Vec<u8>, HostError>, msize: u32) -> Result<Rmessage, WireError>
+    requires roomy { 256 ≤ msize }
+    requires fits { IfOk step (λ bytes. length bytes.items + RREAD_HEADER_SIZE ≤ msize) }
+    ensures reply { result_view reply_of result ≡ reply_told (λ bytes. readdir bytes.items) step }
+    ensures fits { IfOk result (λ m. Fits msize (reply_of m)) }
+{
+    match step {
+        Ok(bytes) => Ok(Rmessage::Readdir(Rreaddir {
+            payload: Data(bytes),
+        })),
         Err(e) => refusal(e),
     }
 }

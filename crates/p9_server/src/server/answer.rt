@@ -6,7 +6,9 @@ ghost use Rattle.p9_server.specs.Steps.{moment_of};
 ghost use Rattle.p9_server.specs.Answering.{Answered};
 
 use super::Server;
-use crate::replies::directories::{link_reply, mkdir_reply, rename_reply, unlink_reply};
+use crate::replies::directories::{
+    link_reply, mkdir_reply, readdir_reply, rename_reply, unlink_reply,
+};
 use crate::replies::{
     attach_reply, clunk_reply, create_reply, flush_reply, fsync_reply, getattr_reply,
     getlock_reply, lock_reply, open_reply, read_reply, readlink_reply, refused, setattr_reply,
@@ -19,7 +21,7 @@ use port_base::errno::{EACCES, EINVAL, EOPNOTSUPP};
 use tree_host::Host;
 
 impl<H: Host> Server<H> {
-    // Answers a message; each that isn't served yet is EOPNOTSUPP.
+    // Answers a message; those that no server of a tree serves are refused.
     fn answer_message(&mut self, message: Tmessage) -> Result<Rmessage, WireError>
         ensures answered { Answered (Ok (message_of message))
             (moment_of (H.tree self.old.host) (H.calls self.old.host)
@@ -47,7 +49,9 @@ impl<H: Host> Server<H> {
             Tmessage::SetAttr(m) => setattr_reply(self.set_attr(&m)),
             Tmessage::XattrWalk(_) => Ok(refused(EOPNOTSUPP)),
             Tmessage::XattrCreate(_) => Ok(refused(EOPNOTSUPP)),
-            Tmessage::Readdir(_) => Ok(refused(EOPNOTSUPP)),
+            Tmessage::Readdir(m) => {
+                readdir_reply(self.read_directory(m.fid, m.offset, m.count), self.msize)
+            }
             Tmessage::Fsync(m) => fsync_reply(self.fsync(m)),
             Tmessage::Lock(m) => lock_reply(self.lock(m)),
             Tmessage::GetLock(m) => getlock_reply(self.get_lock(m), self.msize),

@@ -4,13 +4,14 @@ use Rattle.p9_wire.specs.Qids.{qid_of}
 use Rattle.port_base.specs.declared.errno.TheConstants.{EACCES}
 use Rattle.p9_tmsg.specs.Messages.Message.{walk, getattr, attach, clunk, lopen, read, statfs, fsync}
 use Rattle.p9_tmsg.specs.Messages.Message.{readlink, lock, getlock, version, link, mkdir, renameat}
-use Rattle.p9_tmsg.specs.Messages.Message.{unlinkat, lcreate, setattr, write}
+use Rattle.p9_tmsg.specs.Messages.Message.{unlinkat, lcreate, readdir, setattr, write}
 use Rattle.p9_rmsg.specs.Replies.Reply.{walk as walked, getattr as shown, attach as attached}
 use Rattle.p9_rmsg.specs.Replies.Reply.{clunk as clunked, lopen as was_opened, read as was_read}
 use Rattle.p9_rmsg.specs.Replies.Reply.{fsync as synced, readlink as target, lock as locked}
 use Rattle.p9_rmsg.specs.Replies.Reply.{getlock as free, version as agreed, flush as flushed}
 use Rattle.p9_rmsg.specs.Replies.Reply.{lerror, link as linked, mkdir as made, renameat as moved}
 use Rattle.p9_rmsg.specs.Replies.Reply.{unlinkat as unlinked, lcreate as created}
+use Rattle.p9_rmsg.specs.Replies.Reply.{readdir as was_listed}
 use Rattle.p9_rmsg.specs.Replies.Reply.{setattr as were_set, write as written}
 use Rattle.fid_model.specs.Files.{statfs_reply}
 use Rattle.fid_model.specs.Answers.{attributes_of}
@@ -267,12 +268,21 @@ returns-in-XattrCreate-clause-answered g c =
 pub returns-in-Readdir-clause-answered : goal.returns-in-Readdir-clause-answered
 returns-in-Readdir-clause-answered g c =
     let s = c.args.self.now in
+    let n = c.read_directory.new.self in
+    let m = c.in-Readdir.m in
+    let e = c.read_directory.ensures in
+    let before : Moment = moment_of (g.H.Host.tree s.host) (g.H.Host.calls s.host) s.fids s.msize
+        s.share s.asked in
+    let after : Moment = moment_of (g.H.Host.tree n.host) (g.H.Host.calls n.host) n.fids n.msize
+        n.share n.asked in
+    let same_msize = ap (λ (s : ServerState). s.msize) e.same in
     rw c.in-Readdir.is
-    (unserved _ (moment_of (g.H.Host.tree s.host) (g.H.Host.calls s.host) s.fids s.msize s.share
-    s.asked) (server_good (g.H.Host.tree s.host) (g.H.Host.holds s.host) s.fids s.msize s.share
-    s.sound (g.met.H.Host.good s.host) (g.met.H.Host.stored s.host)) refl
-    c.refused-in-Readdir.result c.refused-in-Readdir.ensures.reply
-    c.refused-in-Readdir.ensures.short)
+    (answered_long (readdir m.fid m.offset m.count) (λ (v : Vec _ _). was_listed v.items) before after
+        (record { msize = same_msize; settings =
+        ap (λ (s : ServerState). s.settings) e.same; steady = e.steady }) c.read_directory.result
+        c.readdir_reply.result e.same
+    e.step c.readdir_reply.ensures.reply (subst (λ (size : ℕ). IfOk c.readdir_reply.result
+        (λ r. Fits size (reply_of r))) same_msize c.readdir_reply.ensures.fits))
 
 pub returns-in-Fsync-clause-answered : goal.returns-in-Fsync-clause-answered
 returns-in-Fsync-clause-answered g c =
