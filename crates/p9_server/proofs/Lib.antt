@@ -28,3 +28,4 @@ pub mod Settings
 pub mod Reading
 pub mod Sampling
 pub mod PageSteps
+pub mod ListingSteps

@@ -2,6 +2,7 @@
 #![tactic(auto)]
 
 mod config;
+mod directory_reader;
 mod examples;
 mod fid_state;
 mod fids;
@@ -14,6 +15,7 @@ mod server;
 mod share;
 
 pub use config::{Config, ConfigError, Refused};
+pub use directory_reader::{DirEntry, FileType, ReadDir, read_dir};
 pub use fid_model::Nine;
 pub use qids::qid_of;
 pub use server::Server;
