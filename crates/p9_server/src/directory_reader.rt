@@ -1,6 +1,5 @@
 //! The entries of a directory of a host, one by one.
-ghost use Rattle.std.specs.Prelude.{◌≡◌, ◌<◌, Err, IfErr, IfOk, None};
-ghost use Rattle.port_base.specs.Names.{name_fault};
+ghost use Rattle.std.specs.Prelude.{◌≡◌, ◌<◌, IfErr, IfOk};
 ghost use Rattle.tree_model.specs.Reading.{entry_after_of};
 ghost use Rattle.tree_host.specs.Holds.{hold_count};
 ghost use Rattle.tree_host.specs.Calls.{Caused};
@@ -55,7 +54,6 @@ pub struct DirEntry {
 
 // What is told of an entry, whose name is copied.
 fn shown(alloc: Global, entry: &Entry) -> Result<DirEntry, HostError>
-    requires { name_fault entry.now.name ≡ None }
     ensures shows { IfOk result (λ d. Shows d entry.now) }
     ensures memory { IfErr result (λ e. e ≡ HostError.NoMemory) }
 {
@@ -66,6 +64,7 @@ fn shown(alloc: Global, entry: &Entry) -> Result<DirEntry, HostError>
             kind_: entry_type(entry.attr.kind),
             name,
         }),
+        // The name of an entry is a text.
         Err(_) => Err(HostError::NoMemory),
     }
 }

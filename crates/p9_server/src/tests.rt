@@ -6,6 +6,7 @@ ghost use Rattle.tree_host.specs.TreeHosts.{holds};
 mod directories;
 mod files;
 mod folding;
+mod listings;
 
 use crate::{Config, ConfigError, Nine, Refused, Server};
 use port_base::memory::{MemSink, SliceSource};
