@@ -110,11 +110,11 @@ module _ (t : Tree) (fids : Fids) (msize : ℕ) (settings : Settings) (n offset 
         → IsStep (readdir n offset count) reply before after steady f0 f1 r
     closed_listing_step r e passed closed =
         let both = closed_page directory is_opened page bytes (found.0).ino e is
-            (closed ∙ ap (open_told is_open) found.1) in
+        (closed ∙ ap (open_told is_open) found.1) in
         passed_on (λ (r : Result A HostError). IsStep (readdir n offset count) reply before after
-            steady f0 f1 r) r e passed
+        steady f0 f1 r) r e passed
         (refused_so (readdir n offset count) reply was_listed before kept steady told refl after
-            after_listing f0 f1 EBADF e (told_is ∙ both.0, both.1) calm)
+        after_listing f0 f1 EBADF e (told_is ∙ both.0, both.1) calm)
 
     -- it is
     pub listing_step : (i : ℕ) → Ok i ≡ open_told is_open (get fids n) → (a : A)

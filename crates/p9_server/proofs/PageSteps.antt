@@ -86,13 +86,17 @@ module _ (t : Tree) (dir : ℕ) where
 
   module _ (g : IsGoodTree t) (c room : ℕ) where
     pub takes_none : entry_after_of t dir c ≡ Ok None → Takes t dir c room (Ok None)
-    takes_none is = record { exactly = page_is c room None is
-        ∙ ap (λ es. Ok (entries_spelling es)) (page_ends entry_size t g dir room c is) }
+    takes_none is = record {
+      exactly = page_is c room None is
+          ∙ ap (λ es. Ok (entries_spelling es)) (page_ends entry_size t g dir room c is);
+    }
 
     pub takes_no_room : (e : Entry) → entry_after_of t dir c ≡ Ok (Some e) → room < entry_size e
         → Takes t dir c room (Ok None)
-    takes_no_room e is high = record { exactly = page_is c room (Some e) is
-        ∙ ap (λ es. Ok (entries_spelling es)) (page_stops entry_size t g dir room c e is high) }
+    takes_no_room e is high = record {
+      exactly = page_is c room (Some e) is
+          ∙ ap (λ es. Ok (entries_spelling es)) (page_stops entry_size t g dir room c e is high);
+    }
 
     pub takes_one : (e : Entry) → entry_after_of t dir c ≡ Ok (Some e) → entry_size e ≤ room
         → Takes t dir c room (Ok (Some e))
@@ -142,19 +146,21 @@ module _ (t : Tree) (dir offset room : ℕ) where
         let size = length-entry e in
         let added = ap length is in
         let both = length-append bytes (dirent_spelling (entry_told e)) in
-        let behind : left - entry_size e ≡ room - length more = omega arith in
-        (record {
-          low = omega arith;
-          rest = l.rest
-              ∙ ap (λ es. bytes ++ entries_spelling es)
-              (page_takes entry_size t g dir left c e takes.exactly.0 fits)
-              ∙ ap (λ xs. bytes ++ xs) (flat_map-cons (λ e. dirent_spelling (entry_told e)) e
-              (page_of entry_size (left - entry_size e) t dir e.cookie))
-              ∙ sym (append_assoc bytes (dirent_spelling (entry_told e))
-              (listed_page t dir e.cookie (left - entry_size e)))
-              ∙ ap (λ xs. xs ++ listed_page t dir e.cookie (left - entry_size e)) (sym is)
-              ∙ ap (λ n. more ++ listed_page t dir e.cookie n) behind;
-        }, omega arith)
+        let behind : left - entry_size e ≡ room - length more = omega arith in (
+          record {
+            low = omega arith;
+            rest = l.rest
+                ∙ ap (λ es. bytes ++ entries_spelling es)
+                (page_takes entry_size t g dir left c e takes.exactly.0 fits)
+                ∙ ap (λ xs. bytes ++ xs) (flat_map-cons (λ e. dirent_spelling (entry_told e)) e
+                (page_of entry_size (left - entry_size e) t dir e.cookie))
+                ∙ sym (append_assoc bytes (dirent_spelling (entry_told e))
+                (listed_page t dir e.cookie (left - entry_size e)))
+                ∙ ap (λ xs. xs ++ listed_page t dir e.cookie (left - entry_size e)) (sym is)
+                ∙ ap (λ n. more ++ listed_page t dir e.cookie n) behind;
+          },
+          omega arith,
+        )
 
     told_same : (b : Bool) (p q : List ℕ) → cond {A = Result (List ℕ) ℕ} b (Ok p) (Err ENOTDIR)
         ≡ Ok [] → q ≡ bytes ++ p → cond {A = Result (List ℕ) ℕ} b (Ok q) (Err ENOTDIR) ≡ Ok bytes
@@ -176,8 +182,10 @@ module _ (t : Tree) (dir offset room : ℕ) where
 
     pub listing_fails : (e : HostError) → Takes t dir c left (Err e)
         → Answers {A = List ℕ} (page_told t dir offset room) (Err e)
-    listing_fails (Errno k) takes = record { exactly =
-        refused_same (is_directory_at (body_at t.records dir)) k (listed_page t dir c left)
-        (listed_page t dir offset room) takes.exactly }
+    listing_fails (Errno k) takes = record {
+      exactly =
+          refused_same (is_directory_at (body_at t.records dir)) k (listed_page t dir c left)
+          (listed_page t dir offset room) takes.exactly;
+    }
     listing_fails Fault takes = record { exactly = tt }
     listing_fails NoMemory takes = record { exactly = tt }

@@ -13,11 +13,11 @@ entries-preserved g c =
     let e = c.in-Ok-Some in
     let size : c.len.result ≡ length l.bytes.items = omega (arith, c.len.ensures) in
     let more = listing_more t c.args.dir c.args.offset c.args.room l.cookie l.bytes.items
-        l.invariant.listing (g.met.H.Host.good h) e.entry
-        (takes_here (g.H.Host.tree l.host) t c.args.dir l.cookie (c.args.room - c.len.result)
-        (c.args.room - length l.bytes.items) _ _ l.invariant.tree
-        (ap (λ (n : ℕ). c.args.room - n) size) (ap (λ o. Ok o) e.field-0-is) e.ensures.takes)
-        c.push_entry.new.bytes.items c.in-Ok-push_entry.ensures in
+    l.invariant.listing (g.met.H.Host.good h) e.entry
+    (takes_here (g.H.Host.tree l.host) t c.args.dir l.cookie (c.args.room - c.len.result)
+    (c.args.room - length l.bytes.items) _ _ l.invariant.tree
+    (ap (λ (n : ℕ). c.args.room - n) size) (ap (λ o. Ok o) e.field-0-is) e.ensures.takes)
+    c.push_entry.new.bytes.items c.in-Ok-push_entry.ensures in
     record {
       listing = subst (λ (k : ℕ). Listing t c.args.dir c.args.offset c.args.room k
           c.push_entry.new.bytes.items) (sym (ap (λ (x : Entry). x.cookie) c.entry.view_is)) more.0;

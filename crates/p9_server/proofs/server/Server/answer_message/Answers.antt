@@ -272,17 +272,21 @@ returns-in-Readdir-clause-answered g c =
     let m = c.in-Readdir.m in
     let e = c.read_directory.ensures in
     let before : Moment = moment_of (g.H.Host.tree s.host) (g.H.Host.calls s.host) s.fids s.msize
-        s.share s.asked in
+    s.share s.asked in
     let after : Moment = moment_of (g.H.Host.tree n.host) (g.H.Host.calls n.host) n.fids n.msize
-        n.share n.asked in
+    n.share n.asked in
     let same_msize = ap (λ (s : ServerState). s.msize) e.same in
     rw c.in-Readdir.is
     (answered_long (readdir m.fid m.offset m.count) (λ (v : Vec _ _). was_listed v.items) before after
-        (record { msize = same_msize; settings =
-        ap (λ (s : ServerState). s.settings) e.same; steady = e.steady }) c.read_directory.result
-        c.readdir_reply.result e.same
+    (record {
+      msize = same_msize;
+      settings =
+          ap (λ (s : ServerState). s.settings) e.same;
+      steady = e.steady;
+    }) c.read_directory.result
+    c.readdir_reply.result e.same
     e.step c.readdir_reply.ensures.reply (subst (λ (size : ℕ). IfOk c.readdir_reply.result
-        (λ r. Fits size (reply_of r))) same_msize c.readdir_reply.ensures.fits))
+    (λ r. Fits size (reply_of r))) same_msize c.readdir_reply.ensures.fits))
 
 pub returns-in-Fsync-clause-answered : goal.returns-in-Fsync-clause-answered
 returns-in-Fsync-clause-answered g c =
