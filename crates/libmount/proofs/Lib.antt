@@ -7,6 +7,7 @@ mod CutLemmas
 mod DecimalLaw
 mod EscapeLemmas
 mod FactLemmas
+mod OverlayLemmas
 pub mod FlagLaws
 mod ItemLemmas
 mod LineLemmas

@@ -1,10 +1,14 @@
 -- What a builder's call answers, from what the mounter answered.
 use Rattle.std.proofs.Common.{◌≡◌, ℕ, Result, Ok, Err, inl, inr, refl}
+use Rattle.std.specs.Prelude.{bit_or, true}
+use Rattle.std.proofs.lemmas.Nat.{and_or_self}
+use Rattle.port_base.specs.Flags.{bits_of}
+use Rattle.port_base.specs.declared.flags.TheConstants.MsFlags.{MS_REMOUNT}
 use Rattle.libmount.specs.declared.errors.OSError.{OSError}
 use Rattle.libmount.specs.declared.mounter.MountFault.{MountFault}
 use Rattle.libmount.specs.declared.mounter.MountFault.TheVariants.{Errno, Fault, NoMemory}
 use Rattle.libmount.specs.declared.operation.Operation.{Operation}
-use Rattle.libmount.specs.Mounters.{Calls, Caused, CausedBy, Leaves, LeavesBy}
+use Rattle.libmount.specs.Mounters.{Calls, Caused, CausedBy, Leaves, LeavesBy, is_remount}
 use Rattle.libmount.specs.Mountings.{IsCause, MountsBare, MountsBy, Reports, ReportsBy, error_of}
 use Rattle.libmount.specs.MountTables.{MountTable}
 
@@ -39,3 +43,7 @@ bare_of told operation old new before now mounted result leaves caused reports =
       mounted = mounts_by told operation old new before now mounted result leaves.exactly
           caused.cause reports.reported;
     }
+
+-- a mount with the flag of a change is one
+pub asks_a_change : (flags : ℕ) → is_remount (bit_or flags (bits_of MS_REMOUNT)) ≡ true
+asks_a_change flags = rw (and_or_self (bits_of MS_REMOUNT) flags) refl

@@ -4,6 +4,7 @@ use Rattle.std.specs.Fmt.{decimal}
 use Rattle.libmount.specs.declared.mountinfo.errors.ParseError.{ParseError}
 use Rattle.libmount.specs.declared.mountinfo.errors.ParseError.TheVariants.{Row, NoMemory}
 use Rattle.port_base.specs.Quoting.{quoted}
+use Rattle.libmount.specs.declared.errors.IoCause.{IoCause}
 use Rattle.libmount.specs.declared.errors.IoCause.TheVariants.{CurrentDir, MountInfo}
 use Rattle.libmount.specs.declared.errors.RemountError.{RemountError}
 use Rattle.libmount.specs.declared.errors.RemountError.TheVariants.{Io, ParseMountInfo}
@@ -21,10 +22,14 @@ parse_error_text (Row e) = codes "Parse error at line "
     ++ (codes ": " ++ (shown e.message.items ++ (10 ∷ [] ++ shown e.row.items))))
 parse_error_text NoMemory = codes "out of memory"
 
+-- what was not read
+abbrev pub cause_text : IoCause → List ℕ
+cause_text CurrentDir = []
+cause_text MountInfo = codes "Cannot read file: \"/proc/self/mountinfo\""
+
 abbrev pub remount_error_text : RemountError → List ℕ
 remount_error_text (ParseMountInfo message) = shown message.items
-remount_error_text (Io CurrentDir) = codes ": errno 5"
-remount_error_text (Io MountInfo) = codes "Cannot read file: \"/proc/self/mountinfo\": errno 5"
+remount_error_text (Io cause) = cause_text cause ++ codes ": errno 5"
 remount_error_text (UnknownMountPoint path) = codes "Cannot find mount point: " ++ quoted path.items
 remount_error_text NoRemountMemory = codes "no memory"
 

@@ -67,6 +67,10 @@ overlay_parts overlay facts =
     ++ (upper_parts overlay.upper overlay.target facts
     ++ (count_parts (length overlay.lowerdirs) overlay.upper ++ user_text facts.user ∷ []))
 
+-- a part with the comma and the space behind it
+abbrev pub ended : List ℕ → List ℕ
+ended part = part ++ codes ", "
+
 -- ---- operations
 
 unfoldable pub bind_explanation : Bind → Facts → List ℕ
@@ -80,3 +84,6 @@ tmpfs_explanation tmpfs facts = listed (tmpfs_parts tmpfs facts)
 
 unfoldable pub remount_explanation : FlagChange → Facts → List ℕ
 remount_explanation change facts = listed (remount_parts change facts)
+
+unfoldable pub overlay_explanation : Layers → Facts → List ℕ
+overlay_explanation overlay facts = listed (overlay_parts overlay facts)

@@ -1,6 +1,6 @@
 -- The system around a mount, and how it is told.
 use Rattle.std.specs.Prelude.{◌≡◌, ℕ, List, Bool, true, false, Option, Some, None, Result, Ok, Err}
-use Rattle.std.specs.Prelude.{◌⊎◌, codes, Vec}
+use Rattle.std.specs.Prelude.{◌⊎◌, ◌++◌, codes, Vec}
 use Rattle.std.specs.Global.{Global}
 use Rattle.libmount.specs.declared.probe.ProbeFault.{ProbeFault}
 use Rattle.libmount.specs.declared.probe.ProbeFault.TheVariants.{Fault, NoMemory}
@@ -30,6 +30,10 @@ pub record ToldBy {A : Type 0} (facts : Option Facts) (view : Facts → A) (faul
 pub record Explains {A : Type 0} (facts : Option Facts) (view : Facts → A) (answer : A)
     (old new : Calls) : Type 0 where
   pub answered : (IsFact facts view answer × (new ≡ old)) ⊎ FaultedIn old new
+
+-- a text grows by the fact that a view gives, or a fault was counted
+abbrev pub Tells : Option Facts → (Facts → List ℕ) → List ℕ → List ℕ → Calls → Calls → Type 0
+Tells facts text before after old new = Explains facts (λ w. before ++ text w) after old new
 
 abbrev pub TextBy : Option Facts → (Facts → List ℕ) → Result (Vec ℕ Global) ProbeFault → Calls
     → Calls → Type 0

@@ -93,6 +93,20 @@ impl BindMount {
         &self.target
     }
 
+    // Whether the mounts below the source come along.
+    pub(crate) fn is_recursive(&self) -> bool
+        ensures { result ≡ self.now.recursive }
+    {
+        self.recursive
+    }
+
+    // Whether the mount is made read-only.
+    pub(crate) fn is_readonly(&self) -> bool
+        ensures { result ≡ self.now.readonly }
+    {
+        self.readonly
+    }
+
     /// A copy of the builder.
     pub fn try_clone(&self, alloc: Global) -> Result<BindMount, NoMemory>
         ensures { IfOk result (λ copy. copy ≡ self.now) }

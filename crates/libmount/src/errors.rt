@@ -1,6 +1,6 @@
 //! Why an operation on mounts failed.
 ghost use Rattle.std.specs.Prelude.{Some};
-ghost use Rattle.libmount.specs.ErrorTexts.{remount_error_text};
+ghost use Rattle.libmount.specs.ErrorTexts.{cause_text, remount_error_text};
 ghost use Rattle.libmount.specs.OperationTexts.{explained_text, failure_text, mount_error_text};
 ghost use Rattle.libmount.specs.OperationTexts.{os_error_text};
 
@@ -15,6 +15,17 @@ pub enum IoCause {
     CurrentDir,
     /// The table of mounts, which the mounter did not print.
     MountInfo,
+}
+
+impl fmt::Display for IoCause {
+    ghost output = { λ cause. Some (cause_text cause) };
+
+    fn fmt<W: fmt::Write>(&self, f: &mut fmt::Formatter<W>) -> fmt::Result {
+        match self {
+            IoCause::CurrentDir => Ok(()),
+            IoCause::MountInfo => f.write_str("Cannot read file: \"/proc/self/mountinfo\""),
+        }
+    }
 }
 
 /// Why the flags of a mount can't be told.
@@ -35,10 +46,7 @@ impl fmt::Display for RemountError {
     #[tactic(auto, unfolding(crate::specs::Texts::shown))]
     fn fmt<W: fmt::Write>(&self, f: &mut fmt::Formatter<W>) -> fmt::Result {
         match self {
-            RemountError::Io(IoCause::CurrentDir) => f.write_str(": errno 5"),
-            RemountError::Io(IoCause::MountInfo) => {
-                f.write_str("Cannot read file: \"/proc/self/mountinfo\": errno 5")
-            }
+            RemountError::Io(cause) => write!(f, "{cause}: errno 5"),
             RemountError::ParseMountInfo(message) => write!(f, "{}", Shown(message)),
             RemountError::UnknownMountPoint(path) => {
                 write!(f, "Cannot find mount point: {}", Quoted(path))

@@ -1,5 +1,5 @@
 //! Why a mount failed, in words.
-ghost use Rattle.std.specs.Prelude.{◌≡◌, ◌∷◌, ◌++◌, [], IfOk, OnErr, codes, false};
+ghost use Rattle.std.specs.Prelude.{◌≡◌, ◌∷◌, ◌++◌, [], ℕ, List, IfOk, OnErr, codes, false};
 ghost use Rattle.libmount.specs.Explanations.{bind_explanation, listed, relocation_explanation};
 ghost use Rattle.libmount.specs.Explanations.{remount_explanation, tmpfs_explanation};
 ghost use Rattle.libmount.specs.Probes.{Explains, Facts, ToldBy, exists_text, user_text};
@@ -13,6 +13,21 @@ use crate::tmpfs::Tmpfs;
 use port_base::buffer::push;
 use port_base::sink::NoMemory;
 use std::alloc::Global;
+use std::fmt;
+
+/// What a user is told beside the error where an operation on mounts fails.
+pub trait Explainable: fmt::Display + fmt::Debug {
+    /// The text, from the facts.
+    ghost explanation: { Self → Facts → List ℕ };
+
+    /// What the probe tells of the operation's paths and of the user, in parts with commas between
+    /// them. It is the text of the facts, or a fault of the probe was counted.
+    fn explain<P: Probe>(&self, alloc: Global, probe: &mut P) -> Result<Vec<u8>, NoMemory>
+        ensures told { IfOk result
+            (λ text. Explains (P.facts probe.old) (explanation self.now) text.items
+            (P.calls probe.old) (P.calls probe.new)) }
+        ensures facts { P.facts probe.new ≡ P.facts probe.old };
+}
 
 /// `exists` where there is something at the path, `missing` where there is nothing or the probe
 /// failed.
@@ -93,14 +108,11 @@ pub(crate) fn tell_bind(
     Ok(out)
 }
 
-impl BindMount {
+impl Explainable for BindMount {
+    ghost explanation = { bind_explanation };
+
     /// `source: E`, `target: E` and the user, E being the answer of `exists`.
-    pub fn explain<P: Probe>(&self, alloc: Global, probe: &mut P) -> Result<Vec<u8>, NoMemory>
-        ensures told { IfOk result
-            (λ text. Explains (P.facts probe.old) (bind_explanation self.now) text.items
-            (P.calls probe.old) (P.calls probe.new)) }
-        ensures facts { P.facts probe.new ≡ P.facts probe.old }
-    {
+    fn explain<P: Probe>(&self, alloc: Global, probe: &mut P) -> Result<Vec<u8>, NoMemory> {
         let source = exists(probe, self.source());
         let target = exists(probe, self.target());
         let user = user(probe);
@@ -108,42 +120,33 @@ impl BindMount {
     }
 }
 
-impl Move {
+impl Explainable for Move {
+    ghost explanation = { relocation_explanation };
+
     /// `source: E` and `target: E`, E being the answer of `exists`.
-    pub fn explain<P: Probe>(&self, alloc: Global, probe: &mut P) -> Result<Vec<u8>, NoMemory>
-        ensures told { IfOk result
-            (λ text. Explains (P.facts probe.old) (relocation_explanation self.now) text.items
-            (P.calls probe.old) (P.calls probe.new)) }
-        ensures facts { P.facts probe.new ≡ P.facts probe.old }
-    {
+    fn explain<P: Probe>(&self, alloc: Global, probe: &mut P) -> Result<Vec<u8>, NoMemory> {
         let source = exists(probe, self.source());
         let target = exists(probe, self.target());
         tell_paths(alloc, source, target)
     }
 }
 
-impl Tmpfs {
+impl Explainable for Tmpfs {
+    ghost explanation = { tmpfs_explanation };
+
     /// `target: E` and the user, E being the answer of `exists`.
-    pub fn explain<P: Probe>(&self, alloc: Global, probe: &mut P) -> Result<Vec<u8>, NoMemory>
-        ensures told { IfOk result
-            (λ text. Explains (P.facts probe.old) (tmpfs_explanation self.now) text.items
-            (P.calls probe.old) (P.calls probe.new)) }
-        ensures facts { P.facts probe.new ≡ P.facts probe.old }
-    {
+    fn explain<P: Probe>(&self, alloc: Global, probe: &mut P) -> Result<Vec<u8>, NoMemory> {
         let target = exists(probe, self.target());
         let user = user(probe);
         tell_path(alloc, b"target", target, user)
     }
 }
 
-impl Remount {
+impl Explainable for Remount {
+    ghost explanation = { remount_explanation };
+
     /// `path: E` and the user, E being the answer of `exists`.
-    pub fn explain<P: Probe>(&self, alloc: Global, probe: &mut P) -> Result<Vec<u8>, NoMemory>
-        ensures told { IfOk result
-            (λ text. Explains (P.facts probe.old) (remount_explanation self.now) text.items
-            (P.calls probe.old) (P.calls probe.new)) }
-        ensures facts { P.facts probe.new ≡ P.facts probe.old }
-    {
+    fn explain<P: Probe>(&self, alloc: Global, probe: &mut P) -> Result<Vec<u8>, NoMemory> {
         let path = exists(probe, self.path());
         let user = user(probe);
         tell_path(alloc, b"path", path, user)

@@ -3,6 +3,7 @@
 #![tactic(auto)]
 
 pub mod bind;
+mod binding;
 mod builder_examples;
 pub mod builder_laws;
 #[cfg(test)]
@@ -12,6 +13,7 @@ mod examples;
 pub mod explanation;
 #[cfg(test)]
 mod explanation_tests;
+mod failure;
 pub mod flag_change;
 pub mod laws;
 pub mod mounter;
@@ -22,7 +24,10 @@ pub mod operation;
 pub mod overlay;
 pub mod path_list;
 pub mod probe;
+#[cfg(test)]
+mod readme;
 pub mod remount;
+mod remounting;
 pub mod script_probe;
 mod table_examples;
 mod texts;

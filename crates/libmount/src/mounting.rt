@@ -4,22 +4,24 @@ ghost use Rattle.std.specs.String.{string_bytes};
 ghost use Rattle.libmount.specs.BuilderTexts.{tmpfs_options};
 ghost use Rattle.libmount.specs.Mounters.{HasRoom};
 ghost use Rattle.libmount.specs.Mountings.{error_of, move_call, overlay_call, tmpfs_call};
-ghost use Rattle.libmount.specs.Mountings.{MountsBare, Reports};
+ghost use Rattle.libmount.specs.Mountings.{Ends, MountsBare, Reports};
 ghost use Rattle.libmount.specs.MountTables.{mount};
 ghost use Rattle.libmount.specs.declared.operation.Operation.TheVariants as operation;
 
-use crate::errors::{MountError, OSError};
+use crate::errors::{Failure, MountError, OSError};
+use crate::failure::explained;
 use crate::mounter::{MountFault, Mounter};
 use crate::move_mount::Move;
 use crate::operation::Operation;
 use crate::overlay::Overlay;
+use crate::probe::Probe;
 use crate::tmpfs::Tmpfs;
 use port_base::errno::EIO;
 use port_base::flags::MsFlags;
 use port_base::sink::NoMemory;
 use std::alloc::Global;
 
-fn error_of(fault: MountFault) -> MountError
+pub(crate) fn error_of(fault: MountFault) -> MountError
     ensures { result ≡ error_of fault }
 {
     match fault {
@@ -30,7 +32,7 @@ fn error_of(fault: MountFault) -> MountError
 }
 
 // What a mounter answered, with the operation where it failed.
-fn report(mounted: Result<(), MountFault>, operation: Operation) -> Result<(), OSError>
+pub(crate) fn report(mounted: Result<(), MountFault>, operation: Operation) -> Result<(), OSError>
     ensures { Reports mounted operation result }
 {
     match mounted {
@@ -62,6 +64,25 @@ impl Move {
         );
         report(mounted, Operation::Move(self))
     }
+
+    /// Moves the mount as `bare_move_mountpoint` does, and explains the error.
+    pub fn move_mountpoint<M: Mounter, P: Probe>(
+        self,
+        alloc: Global,
+        mounts: &mut M,
+        probe: &mut P,
+    ) -> Result<(), Failure>
+        requires { HasRoom (M.table mounts.old) }
+        ensures ends { Ends
+            (λ bare mid. MountsBare (mount (move_call self) (M.table mounts.old))
+            (operation.Move self) (M.table mounts.old) (M.table mounts.new) (M.calls mounts.old)
+            (M.calls mounts.new) bare × (mid ≡ P.calls probe.old))
+            (P.facts probe.old) result (P.calls probe.new) }
+        ensures facts { P.facts probe.new ≡ P.facts probe.old }
+    {
+        let bare = self.bare_move_mountpoint(alloc, mounts);
+        explained(bare, alloc, probe)
+    }
 }
 
 impl Overlay {
@@ -86,6 +107,25 @@ impl Overlay {
             Some(&options),
         );
         report(mounted, Operation::Overlay(self))
+    }
+
+    /// Mounts as `bare_mount` does, and explains the error.
+    pub fn mount<M: Mounter, P: Probe>(
+        self,
+        alloc: Global,
+        mounts: &mut M,
+        probe: &mut P,
+    ) -> Result<(), Failure>
+        requires { HasRoom (M.table mounts.old) }
+        ensures ends { Ends
+            (λ bare mid. MountsBare (mount (overlay_call self) (M.table mounts.old))
+            (operation.Overlay self) (M.table mounts.old) (M.table mounts.new) (M.calls mounts.old)
+            (M.calls mounts.new) bare × (mid ≡ P.calls probe.old))
+            (P.facts probe.old) result (P.calls probe.new) }
+        ensures facts { P.facts probe.new ≡ P.facts probe.old }
+    {
+        let bare = self.bare_mount(alloc, mounts);
+        explained(bare, alloc, probe)
     }
 }
 
@@ -119,5 +159,24 @@ impl Tmpfs {
             Some(options.as_bytes()),
         );
         report(mounted, Operation::Tmpfs(self))
+    }
+
+    /// Mounts as `bare_mount` does, and explains the error.
+    pub fn mount<M: Mounter, P: Probe>(
+        self,
+        alloc: Global,
+        mounts: &mut M,
+        probe: &mut P,
+    ) -> Result<(), Failure>
+        requires { HasRoom (M.table mounts.old) }
+        ensures ends { Ends
+            (λ bare mid. MountsBare (mount (tmpfs_call self) (M.table mounts.old))
+            (operation.Tmpfs self) (M.table mounts.old) (M.table mounts.new) (M.calls mounts.old)
+            (M.calls mounts.new) bare × (mid ≡ P.calls probe.old))
+            (P.facts probe.old) result (P.calls probe.new) }
+        ensures facts { P.facts probe.new ≡ P.facts probe.old }
+    {
+        let bare = self.bare_mount(alloc, mounts);
+        explained(bare, alloc, probe)
     }
 }

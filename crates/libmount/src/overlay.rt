@@ -8,6 +8,8 @@ ghost use Rattle.libmount.specs.BuilderTexts.{overlay_text, upper_options, upper
 ghost use Rattle.port_base.specs.Quoting.{quoted};
 ghost use Rattle.port_base.specs.Words.{words_of};
 
+mod telling;
+
 use crate::path_list::{PathError, PathList, has_nul};
 use crate::texts::Quoted;
 use port_base::buffer::push;

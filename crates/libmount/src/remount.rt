@@ -52,12 +52,9 @@ pub fn flags_from(
     let mut rest = Some(content);
     'lines: while let Some(text) = rest {
         let (before, line) = last_part(text, b'\n');
-        match verdict(alloc, line, path) {
-            Ok(found) => match found {
-                Some(flags) => return Ok(Some(flags)),
-                None => rest = before,
-            },
-            Err(error) => return Err(error),
+        match verdict(alloc, line, path)? {
+            Some(flags) => return Ok(Some(flags)),
+            None => rest = before,
         }
     }
     Ok(None)

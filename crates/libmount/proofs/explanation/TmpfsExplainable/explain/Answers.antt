@@ -1,0 +1,18 @@
+-- Two answers of the probe, one after the other.
+use Rattle.std.proofs.Common.{◌∷◌, ◌++◌, [], List, ℕ}
+use Rattle.std.specs.Prelude.{codes}
+use Rattle.std.proofs.lemmas.Result.{IfOk-weaker}
+use Rattle.libmount.specs.Explanations.{tmpfs_explanation, listed}
+use Rattle.libmount.proofs.FactLemmas.{explains_both, explains_seen, explains_told}
+use Rattle.libmount.proofs.explanation.TmpfsExplainable.explain.Goals as goal
+
+pub returns-clause-told : goal.returns-clause-told
+unfolding tmpfs_explanation
+returns-clause-told g c =
+    let all = explains_both {C = List ℕ} _ _ _ _
+    (λ s t. listed ((codes "target" ++ (codes ": " ++ s)) ∷ t ∷ [])) _ _ _ _ _
+    c.exists-target.ensures.facts (explains_told _ _ _ _ _ _
+    (rw c.target.ensures at c.exists-target.ensures.told))
+    (explains_told _ _ _ _ _ _ c.user-user.ensures.told) in
+    IfOk-weaker c.tell_path.result _ _ (λ text is. explains_seen _ _ (λ t. t) _ text.items _ _ is
+    all) c.tell_path.ensures

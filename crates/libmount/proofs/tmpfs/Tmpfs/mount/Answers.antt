@@ -1,0 +1,11 @@
+-- The call without an explanation, and then the explanation.
+use Rattle.std.proofs.Common.{refl}
+use Rattle.libmount.proofs.tmpfs.Tmpfs.mount.Goals as goal
+
+pub returns-clause-ends : goal.returns-clause-ends
+returns-clause-ends g c = record {
+  bare = _;
+  probe = _;
+  did = (c.bare_mount-bare.ensures, refl);
+  told = c.explained.ensures.told;
+}
