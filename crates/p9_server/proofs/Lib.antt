@@ -29,3 +29,4 @@ pub mod Reading
 pub mod Sampling
 pub mod PageSteps
 pub mod ListingSteps
+pub mod ConfigParts

@@ -1,9 +1,10 @@
 -- How a server is set up, and when it can't be.
-use Rattle.std.specs.Prelude.{ℕ, List, not, nat_lt, if◌then◌else◌, Option, Some, None}
+use Rattle.std.specs.Prelude.{ℕ, List, Bool, false, not, nat_lt, if◌then◌else◌, Option, Some, None}
+use Rattle.std.specs.Prelude.{[], ◌∷◌}
 use Rattle.std.specs.FinMap as map
 use Rattle.port_base.specs.Paths.{is_rooted_path}
 use Rattle.tree_model.specs.Finding.{path_names}
-use Rattle.tree_model.specs.Settings.{Settings}
+use Rattle.tree_model.specs.Settings.{Settings, IdMap}
 use Rattle.p9_server.specs.declared.config.Config.{Config}
 use Rattle.p9_server.specs.declared.config.ConfigError.{ConfigError}
 use Rattle.p9_server.specs.declared.config.ConfigError.TheVariants.{MsizeTooSmall, BadRoot}
@@ -23,4 +24,35 @@ settings_of c =
       gid_map = map.from_entries c.gid_map.entries;
       casefold = c.ascii_casefold;
       limit = c.fid_limit;
+    }
+
+-- a configuration, without where it lies in memory
+pub record Configuration : Type 0 where
+  pub root : List ℕ
+  pub msize : ℕ
+  pub uid_map : IdMap
+  pub gid_map : IdMap
+  pub ascii_casefold : Bool
+  pub fid_limit : ℕ
+
+abbrev pub configuration : Config → Configuration
+configuration c =
+    record {
+      root = c.root.items;
+      msize = c.msize;
+      uid_map = map.from_entries c.uid_map.entries;
+      gid_map = map.from_entries c.gid_map.entries;
+      ascii_casefold = c.ascii_casefold;
+      fid_limit = c.fid_limit;
+    }
+
+abbrev pub standard : Configuration
+standard =
+    record {
+      root = 47 ∷ [];
+      msize = 65560;
+      uid_map = map.empty;
+      gid_map = map.empty;
+      ascii_casefold = false;
+      fid_limit = 4294967295;
     }

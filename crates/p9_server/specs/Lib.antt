@@ -6,6 +6,7 @@ pub mod Answering
 pub mod GoodServer
 pub mod Handling
 pub mod Configs
+pub mod ConfigTexts
 pub mod Opening
 pub mod Creating
 pub mod Setting

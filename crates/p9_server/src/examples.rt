@@ -1,7 +1,7 @@
 //! What a server refuses, computed: roots and message sizes, new fids, walks and fids that aren't
 //! open. On the small server fid 7 names the top directory; with the open file, fid 8 names
 //! `hello`, and there is room for no third.
-ghost use Rattle.std.specs.Prelude.{◌≡◌, true, false, Ok, Err, Some, None, codes};
+ghost use Rattle.std.specs.Prelude.{◌≡◌, [], true, false, Ok, Err, Some, None, codes};
 ghost use Rattle.port_base.specs.declared.errno.TheConstants.{EBADF, EINVAL, EIO, ENFILE, ENOENT};
 ghost use Rattle.tree_model.specs.declared.attributes.HostError.TheVariants as host;
 ghost use Rattle.p9_wire.specs.declared.error.WireError.TheVariants as wire;
@@ -11,6 +11,10 @@ ghost use Rattle.fid_model.specs.Fids.OpenState.{Opened};
 ghost use Rattle.fid_model.specs.Samples.{server, with_open};
 ghost use Rattle.p9_server.specs.Answering.{reply_told};
 ghost use Rattle.p9_server.specs.Configs.{config_refused};
+ghost use Rattle.p9_server.specs.ConfigTexts.{casefold_of};
+ghost use Rattle.p9_server.specs.declared.config_text.ConfigTextError.TheVariants.{NotKindValue};
+ghost use Rattle.p9_server.specs.declared.config_text.ConfigTextError.TheVariants.{UnknownKind};
+ghost use Rattle.p9_server.specs.declared.config_text.ConfigTextError.TheVariants.{NotBoolean};
 ghost use Rattle.p9_server.specs.Steps.{attach_refused, walk_start, ino_told, readable_told};
 ghost use Rattle.p9_server.specs.declared.config.ConfigError.TheVariants.{MsizeTooSmall, BadRoot};
 
@@ -23,6 +27,19 @@ pub fn setting_up()
     ensures small { config_refused 255 (codes "hello") ≡ Some MsizeTooSmall }
     ensures bad { config_refused 256 (codes "hello") ≡ Some BadRoot }
     ensures good { config_refused 256 (codes "/") ≡ None }
+{}
+
+/// What texts tell of a configuration: the first bad part counts, and of good ones the last.
+pub fn reading_texts()
+    ensures empty { casefold_of [] ≡ Ok false }
+    ensures set { casefold_of (codes "ascii_casefold=true") ≡ Ok true }
+    ensures last { casefold_of (codes "ascii_casefold=true:ascii_casefold=false") ≡ Ok false }
+    ensures no_boolean { casefold_of (codes "ascii_casefold=yes") ≡ Err NotBoolean }
+    ensures two_signs { casefold_of (codes "ascii_casefold=true=") ≡ Err NotBoolean }
+    ensures no_sign { casefold_of (codes "x") ≡ Err NotKindValue }
+    ensures no_kind { casefold_of (codes "x=1") ≡ Err UnknownKind }
+    ensures no_part { casefold_of (codes ":") ≡ Err NotKindValue }
+    ensures first { casefold_of (codes "x=1:x:ascii_casefold=yes") ≡ Err UnknownKind }
 {}
 
 /// A new fid isn't one that is there, and there must be room for it.

@@ -2,6 +2,7 @@
 #![tactic(auto)]
 
 mod config;
+mod config_text;
 mod directory_reader;
 mod examples;
 mod fid_state;
@@ -15,6 +16,7 @@ mod server;
 mod share;
 
 pub use config::{Config, ConfigError, Refused};
+pub use config_text::ConfigTextError;
 pub use directory_reader::{DirEntry, FileType, ReadDir, read_dir};
 pub use fid_model::Nine;
 pub use qids::qid_of;

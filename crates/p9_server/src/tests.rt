@@ -3,6 +3,7 @@ ghost use Rattle.std.specs.Prelude.{◌≡◌, IfOk};
 ghost use Rattle.std.specs.FinMap as map;
 ghost use Rattle.tree_host.specs.TreeHosts.{holds};
 
+mod configs;
 mod directories;
 mod files;
 mod folding;
