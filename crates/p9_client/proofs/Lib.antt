@@ -1,7 +1,7 @@
 mod Readable
 mod Sizes
 mod Replies
-mod Names
+pub mod Names
 mod NewFids
 pub mod Telling
 mod Answering

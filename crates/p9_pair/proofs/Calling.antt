@@ -1,5 +1,5 @@
 -- Which fids there are after a call that was answered.
-use Rattle.std.proofs.Common.{◌≡◌, ⊎_elim, ℕ, ◌+◌, Bool, true, false, cond, List, Option, Some}
+use Rattle.std.proofs.Common.{◌≡◌, ⊎_elim, ℕ, ◌+◌, ◌≤◌, Bool, true, false, cond, List, Option, Some}
 use Rattle.std.proofs.Common.{None, Result, Ok, Err, refl, sym, ap, ◌∙◌, subst, arith, IsSome}
 use Rattle.std.proofs.lemmas.Bool.{cases_eq, false≢true}
 use Rattle.std.specs.Prelude.{is_some}
@@ -13,10 +13,12 @@ use Rattle.tree_model.proofs.Maps.{inserted, insert_keeps}
 use Rattle.fid_model.specs.Fids.{ServerState, Fids, Fid, closed}
 use Rattle.fid_model.specs.Answers.{opened}
 use Rattle.fid_model.specs.Calls.{named, attach_told, walk_one_told}
-use Rattle.fid_model.specs.Moments.{Asks, Untouched}
+use Rattle.tree_model.specs.Tree.{Tree}
+use Rattle.fid_model.specs.Moments.{Asks, Moment, Untouched}
 use Rattle.p9_wire.specs.declared.qid.Qid.{Qid as QidStruct}
 use Rattle.p9_wire.specs.Qids.{qid_of}
-use Rattle.p9_client.specs.Views.{qid_answer}
+use Rattle.p9_client.specs.Changing.{Gives}
+use Rattle.p9_client.specs.Views.{IsRoomy, qid_answer}
 use Rattle.p9_client.specs.Opening.{copied_told, opened_by, opened_told, is_readable_at}
 use Rattle.p9_pair.specs.Named.{HasFids}
 
@@ -146,3 +148,10 @@ module _ (s s1 : ServerState) (f0 f1 : ℕ) where
       → Asks (copied_told s f.ino 3) Untouched r s s1 f0 f1) → HasFids 3 s1.fids
   copied_fids r u is h a = copied_by r u is (map.get s.fids 2) refl
       (h.known 2 (omega arith) (omega arith)) h a
+
+-- a call keeps the room for messages
+pub roomy_after : {R A E : Type 0} {view : R → Result A ℕ} {told : Result A ℕ × ServerState}
+    {part : Tree → Tree → Type 0} {result : Result R E} {old new : Moment}
+    → Gives view told part result old new → IsRoomy old.state → IsRoomy new.state
+roomy_after {old = old} h roomy =
+    record { enough = subst (λ n. 4352 ≤ n) (sym h.kept.sized) roomy.enough }

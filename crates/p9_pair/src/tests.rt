@@ -18,7 +18,7 @@ use tree_host::{NewItem, TreeHost};
 use tree_model::{Limits, Stamp};
 
 // The root is fid 1.
-fn attached<N: Nine>(alloc: Global, nine: &mut N) -> Result<(), Fail>
+pub(crate) fn attached<N: Nine>(alloc: Global, nine: &mut N) -> Result<(), Fail>
     requires roomy { IsRoomy (N.at nine.old).state }
     requires none { (N.at nine.old).state.fids ≡ map.empty }
     ensures fids { IfOk result (λ _. HasFids 1 (N.at nine.new).state.fids) }
@@ -91,7 +91,7 @@ fn three_bytes<N: Nine>(alloc: Global, nine: &mut N, name: &[u8]) -> Result<Data
 }
 
 // A server of a host with the one file `f`, with the bytes `hello`.
-fn server_of_a_file(alloc: Global) -> Result<Server<TreeHost>, Fail>
+pub(crate) fn server_of_a_file(alloc: Global) -> Result<Server<TreeHost>, Fail>
     ensures none { IfOk result (λ s. s.fids ≡ map.empty) }
 {
     let limits = Limits {
