@@ -11,6 +11,7 @@ use Rattle.p9_rmsg.specs.declared.message.Rlcreate.{Rlcreate}
 use Rattle.p9_rmsg.specs.declared.message.Rmkdir.{Rmkdir}
 use Rattle.p9_rmsg.specs.declared.message.Rmknod.{Rmknod}
 use Rattle.p9_rmsg.specs.declared.message.Rsymlink.{Rsymlink}
+use Rattle.p9_rmsg.specs.declared.message.Rreaddir.{Rreaddir}
 use Rattle.p9_rmsg.specs.declared.message.Rreadlink.{Rreadlink}
 use Rattle.p9_rmsg.specs.declared.message.Rstatfs.{Rstatfs}
 use Rattle.p9_rmsg.specs.declared.message.Rwalk.{Rwalk}
@@ -18,7 +19,7 @@ use Rattle.p9_rmsg.specs.declared.message.Rwrite.{Rwrite}
 use Rattle.p9_rmsg.specs.Replies.{reply_of}
 use Rattle.p9_client.specs.Views.{attach_view, walk_one_view, copy_view, open_view, attributes_view}
 use Rattle.p9_client.specs.Views.{read_view, mkdir_view, write_view, sizes_view, readlink_view}
-use Rattle.p9_client.specs.Views.{create_view, symlink_view, mknod_view}
+use Rattle.p9_client.specs.Views.{create_view, symlink_view, mknod_view, page_view}
 
 pub only_attach : (x : Rmessage) → ((y : Rattach) → x ≢ variant.Attach y)
     → ((y : Rlerror) → x ≢ variant.Lerror y) → attach_view (reply_of x) ≡ None
@@ -97,3 +98,9 @@ pub only_mknod : (x : Rmessage) → ((y : Rmknod) → x ≢ variant.Mknod y)
 only_mknod (variant.Mknod y) own error = absurd (own y refl)
 only_mknod (variant.Lerror y) own error = absurd (error y refl)
 only_mknod _ own error = refl
+
+pub only_page : (x : Rmessage) → ((y : Rreaddir) → x ≢ variant.Readdir y)
+    → ((y : Rlerror) → x ≢ variant.Lerror y) → page_view (reply_of x) ≡ None
+only_page (variant.Readdir y) own error = absurd (own y refl)
+only_page (variant.Lerror y) own error = absurd (error y refl)
+only_page _ own error = refl

@@ -4,22 +4,23 @@ use Rattle.port_base.specs.declared.errno.TheConstants.{EACCES, EIO}
 use Rattle.tree_model.specs.Attributes.{Qid, qid_of}
 use Rattle.tree_model.specs.declared.attributes.Statfs.{Statfs}
 use Rattle.p9_tmsg.specs.Messages.Message.{fsync as t_fsync, link as t_link, mkdir as t_mkdir}
-use Rattle.p9_tmsg.specs.Messages.Message.{mknod as t_mknod, readlink as t_readlink}
+use Rattle.p9_tmsg.specs.Messages.Message.{mknod as t_mknod, readdir as t_readdir, readlink as t_readlink}
 use Rattle.p9_tmsg.specs.Messages.Message.{renameat as t_renameat, statfs as t_statfs}
 use Rattle.p9_tmsg.specs.Messages.Message.{symlink as t_symlink, unlinkat as t_unlinkat}
 use Rattle.p9_tmsg.specs.Messages.Message.{write as t_write}
 use Rattle.p9_rmsg.specs.Replies.{Reply}
 use Rattle.p9_rmsg.specs.Replies.Reply.{fsync as r_fsync, link as r_link, mkdir as r_mkdir}
-use Rattle.p9_rmsg.specs.Replies.Reply.{mknod as r_mknod, readlink as r_readlink}
+use Rattle.p9_rmsg.specs.Replies.Reply.{mknod as r_mknod, readdir as r_readdir, readlink as r_readlink}
 use Rattle.p9_rmsg.specs.Replies.Reply.{renameat as r_renameat, symlink as r_symlink}
 use Rattle.p9_rmsg.specs.Replies.Reply.{unlinkat as r_unlinkat, write as r_write}
 use Rattle.fid_model.specs.Fids.{ServerState, IsGoodServer}
 use Rattle.fid_model.specs.FidCalls.{told_answer}
 use Rattle.fid_model.specs.Directories.{link_told, mkdir_told, renameat_told, unlinkat_told}
 use Rattle.fid_model.specs.Files.{fsync_told, readlink_told, statfs_reply, statfs_told, write_told}
+use Rattle.fid_model.specs.Listings.{readdir_told}
 use Rattle.fid_model.specs.Moments.{Untouched}
 use Rattle.p9_client.specs.Views.{mkdir_view, mknod_view, readlink_view, sizes_told, sizes_view}
-use Rattle.p9_client.specs.Views.{symlink_view, write_view}
+use Rattle.p9_client.specs.Views.{page_view, symlink_view, write_view}
 use Rattle.p9_client.specs.Changing.{OldOrTold, changed}
 use Rattle.p9_client.proofs.Changing.{change_tells, done_view, show_tells}
 use Rattle.p9_client.proofs.Telling.{Tells}
@@ -86,6 +87,16 @@ module _ (s : ServerState) (g : IsGoodServer s) (fid : ℕ) where
   pub readlink_tells : Tells readlink_view s (t_readlink fid) (readlink_told s fid, s) Untouched
   readlink_tells = show_tells s g (t_readlink fid) r_readlink (readlink_told s fid) refl
       readlink_view (λ r. r) target_seen (λ r h. ap readlink_view h) (λ t h. h)
+
+  page_seen : (r : Result (List ℕ) ℕ) → page_view (told_answer s r_readdir r).0 ≡ Some r
+  page_seen (Ok bytes) = refl
+  page_seen (Err e) = refl
+
+  pub page_tells : (offset count : ℕ)
+      → Tells page_view s (t_readdir fid offset count) (readdir_told s fid offset count, s) Untouched
+  page_tells offset count = show_tells s g (t_readdir fid offset count) r_readdir
+      (readdir_told s fid offset count) refl page_view (λ r. r) page_seen (λ r h. ap page_view h)
+      (λ t h. h)
 
   -- ---- what is always refused
 

@@ -10,7 +10,8 @@ use Rattle.p9_rmsg.specs.Replies.{Attributes, attributes_of, Reply}
 use Rattle.p9_rmsg.specs.Replies.Reply.{attach as r_attach, getattr as r_getattr}
 use Rattle.p9_rmsg.specs.Replies.Reply.{lerror as r_lerror, lopen as r_lopen, read as r_read}
 use Rattle.p9_rmsg.specs.Replies.Reply.{lcreate as r_lcreate, mkdir as r_mkdir, mknod as r_mknod}
-use Rattle.p9_rmsg.specs.Replies.Reply.{readlink as r_readlink, symlink as r_symlink}
+use Rattle.p9_rmsg.specs.Replies.Reply.{readdir as r_readdir, readlink as r_readlink}
+use Rattle.p9_rmsg.specs.Replies.Reply.{symlink as r_symlink}
 use Rattle.p9_rmsg.specs.Replies.Reply.{statfs as r_statfs, walk as r_walk, write as r_write}
 use Rattle.p9_rmsg.specs.declared.message.Rstatfs.{Rstatfs}
 use Rattle.tree_model.specs.declared.attributes.Statfs.{Statfs}
@@ -114,6 +115,11 @@ sizes_view (r_statfs ty bsize blocks bfree bavail files ffree fsid namelen) =
     Some (Ok (r_statfs ty bsize blocks bfree bavail files ffree fsid namelen))
 sizes_view (r_lerror e) = Some (Err e)
 sizes_view _ = None
+
+abbrev pub page_view : Reply → Option (Result (List ℕ) ℕ)
+page_view (r_readdir bytes) = Some (Ok bytes)
+page_view (r_lerror e) = Some (Err e)
+page_view _ = None
 
 abbrev pub readlink_view : Reply → Option (Result (List ℕ) ℕ)
 readlink_view (r_readlink target) = Some (Ok target)

@@ -1,12 +1,15 @@
 //! Opens and reads as those that ask are told them, computed on a small server: fid 7 names the
 //! top directory, and fid 8 the file `hello`, which is open to be read.
-ghost use Rattle.std.specs.Prelude.{◌≡◌, true, false, Ok, Err, Some, None, codes};
+ghost use Rattle.std.specs.Prelude.{◌≡◌, ℕ, true, false, Ok, Err, Some, None, codes};
 ghost use Rattle.std.specs.FinMap.{insert};
-ghost use Rattle.port_base.specs.declared.errno.TheConstants.{EISDIR};
+ghost use Rattle.port_base.specs.declared.errno.TheConstants.{EBADF, EEXIST, EIO, EISDIR};
+ghost use Rattle.p9_rmsg.specs.Replies.Reply.{lerror as r_lerror, link as r_link};
 ghost use Rattle.fid_model.specs.Fids.{closed};
 ghost use Rattle.fid_model.specs.Fids.OpenState.{Opened};
 ghost use Rattle.fid_model.specs.Samples.{server, with_open, top_qid};
-ghost use Rattle.p9_client.specs.Opening.{opened_told, is_readable_at, read_told};
+ghost use Rattle.fid_model.specs.Setattr.{changes};
+ghost use Rattle.p9_client.specs.Opening.{created, opened_told, is_readable_at, read_told};
+ghost use Rattle.p9_client.specs.Changing.{changed, done, set_by};
 
 /// The directory, opened to be read; to be written it isn't.
 #[tactic(auto, using(crate::proofs::Sampling::open_read, crate::proofs::Sampling::open_written))]
@@ -33,4 +36,14 @@ pub fn reading()
     ensures part { read_told with_open 2 1 3 ≡ (Ok (codes "orl"), with_open) }
     ensures small { (read_told (record with_open { msize = 13 }) 2 0 8).0 ≡ Ok (codes "wo") }
     ensures directory { read_told server 1 0 8 ≡ (Err EISDIR, server) }
+{}
+
+/// A change that is refused leaves the server as it is; a reply without fields says that all was
+/// done.
+pub fn changing()
+    ensures refused { changed {A = ℕ} server (λ n. n) (Err EEXIST) ≡ (Err EEXIST, server) }
+    ensures not_made { created server 7 0 (Err EEXIST) ≡ (Err EEXIST, server) }
+    ensures no_fid { set_by server (changes 1 384 0 0 0 0 0 0 0) None ≡ (Err EBADF, server) }
+    ensures failed { done (r_lerror EIO) ≡ Err EIO }
+    ensures all_done { done r_link ≡ Ok tt }
 {}
