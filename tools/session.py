@@ -13,7 +13,9 @@ decimal; a name stands as it is, or as `\\xHH` for a byte.
     LOOKUP NODE NAME                RELEASE HANDLE
     GETATTR NODE [HANDLE]           FORGET NODE COUNT
     OPEN NODE FLAGS                 BATCH_FORGET NODE COUNT [NODE COUNT ..]
-    READ HANDLE OFFSET SIZE         FRAME OPCODE NODE HEX
+    READ HANDLE OFFSET SIZE         UNLINK NODE NAME
+    OPENDIR NODE                    RELEASEDIR HANDLE
+    FRAME OPCODE NODE HEX
     BYTES HEX                       (bytes that need be no frame)
 
 FRAME is any request: the body in hex, or - for none. The unique numbers are 1, 2 and so on.
@@ -24,8 +26,9 @@ import struct
 import subprocess
 import sys
 
-OPCODES = {"LOOKUP": 1, "FORGET": 2, "GETATTR": 3, "OPEN": 14, "READ": 15, "RELEASE": 18,
-           "FLUSH": 25, "INIT": 26, "BATCH_FORGET": 42}
+OPCODES = {"LOOKUP": 1, "FORGET": 2, "GETATTR": 3, "UNLINK": 10, "OPEN": 14, "READ": 15,
+           "RELEASE": 18, "FLUSH": 25, "INIT": 26, "OPENDIR": 27, "RELEASEDIR": 29,
+           "BATCH_FORGET": 42}
 SILENT = {2, 36, 42}
 ERRORS = {1: "EPERM", 2: "ENOENT", 5: "EIO", 9: "EBADF", 13: "EACCES", 17: "EEXIST", 20: "ENOTDIR",
           21: "EISDIR", 22: "EINVAL", 23: "ENFILE", 27: "EFBIG", 28: "ENOSPC", 31: "EMLINK",
@@ -49,7 +52,7 @@ def body_of(request, words):
     numbers = [int(word) for word in words if re.fullmatch(r"[0-9]+", word)]
     if request == "INIT":
         return 0, struct.pack("<IIII", 7, numbers[0] if numbers else 31, 131072, 0) + bytes(48)
-    if request == "LOOKUP":
+    if request in ("LOOKUP", "UNLINK"):
         return int(words[0]), name_bytes(words[1] if len(words) > 1 else "") + b"\0"
     if request == "GETATTR":
         given = len(numbers) > 1
@@ -59,7 +62,9 @@ def body_of(request, words):
     if request == "READ":
         handle, offset, size = numbers
         return 0, struct.pack("<QQIIQII", handle, offset, size, 0, 0, 0, 0)
-    if request in ("FLUSH", "RELEASE"):
+    if request == "OPENDIR":
+        return numbers[0], struct.pack("<II", 0, 0)
+    if request in ("FLUSH", "RELEASE", "RELEASEDIR"):
         return 0, struct.pack("<Q", numbers[0]) + bytes(16)
     if request == "FORGET":
         return numbers[0], struct.pack("<Q", numbers[1])
@@ -122,7 +127,7 @@ def reply_in_words(opcode, error, body):
         return "node=%d %s" % (struct.unpack("<Q", body[:8])[0], attributes(body[40:]))
     if opcode == 3:
         return attributes(body[16:])
-    if opcode == 14:
+    if opcode in (14, 27):
         return "handle=%d" % struct.unpack("<Q", body[:8])
     if opcode == 15:
         return "%d bytes %s" % (len(body), repr(body[:64])[1:] + (" .." if len(body) > 64 else ""))

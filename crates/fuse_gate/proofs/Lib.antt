@@ -8,6 +8,8 @@ pub mod Going
 pub mod LettingGo
 pub mod Batching
 pub mod Opening
+pub mod OpeningDirectories
+pub mod Unlinking
 pub mod Known
 pub mod Showing
 pub mod Beginning

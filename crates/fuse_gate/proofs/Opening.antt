@@ -3,6 +3,7 @@ use Rattle.std.proofs.Common.{◌≡◌, ◌≢◌, ℕ, ◌+◌, ◌<◌, ◌�
 use Rattle.std.proofs.Common.{refl, sym, ap, ◌∙◌, subst, Option, Some, None, Result, Ok, Err, arith}
 use Rattle.std.proofs.Common.{IsSome, inl, inr, ⊎_elim}
 use Rattle.std.specs.Prelude.{◌==◌, option_map}
+use Rattle.std.proofs.lemmas.Bool.{false≢true}
 use Rattle.std.proofs.lemmas.Bool.Decides.{nat_tests}
 use Rattle.std.specs.FinMap.{FinMap, get, insert}
 use Rattle.port_base.specs.Faults.{Rose}
@@ -52,10 +53,10 @@ kind_tells (File bytes) = refl
 kind_tells (Directory es next above) = refl
 kind_tells (Link target) = refl
 
-equal_test : (a b : ℕ) → a ≡ b → (a == b) ≡ true
+pub equal_test : (a b : ℕ) → a ≡ b → (a == b) ≡ true
 equal_test a b h = grind (arith, nat_tests)
 
-differ_test : (a b : ℕ) → a ≢ b → (a == b) ≡ false
+pub differ_test : (a b : ℕ) → a ≢ b → (a == b) ≡ false
 differ_test a b h = grind (arith, nat_tests)
 
 pub directory_by : (t : Tree) (ino kind : ℕ) → IsSome (get t.records ino)
@@ -129,7 +130,7 @@ module _ {g : Gate} (n : Moment) (st : IsInStep g n.state) (good : IsGoodServer 
           stands = st;
           known = at;
           served = sym reads;
-          file = file;
+          plain = λ is. absurd (false≢true (sym file ∙ is));
           room =
               sym room;
           few = few_used st (sym room) small;
@@ -367,7 +368,7 @@ module _ {g : Gate} (n : Moment) {id : ℕ} {k : Node} {flags : ℕ} (h : MayOpe
                   let frames = two_sent.messages.frames in
                   let asked = two_sent.messages.asked in
                   let fine = opened_good s.settings (machine_of g s) h.stands.good flags k.ino
-                  (to_read flags h.served).access h.room h.file checks refl in
+                  (to_read flags h.served).access h.room h.plain checks refl in
                   subst (λ (x : Gate). ServesOpening k flags (g, n) (x, n2) (Opened g.next))
                   (sym gate)
                   (made opens (opened_messages checks) (Untouched s.tree) (g, n)

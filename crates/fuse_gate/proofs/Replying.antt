@@ -3,15 +3,15 @@ use Rattle.std.proofs.Common.{◌≡◌, ℕ, ◌+◌, ◌≤◌, [], length, Li
 use Rattle.std.proofs.Common.{None, Result, Ok, Err, sym, ap, ◌∙◌, subst, arith, refl, ⊎_elim}
 use Rattle.std.specs.FinMap.{get}
 use Rattle.std.proofs.lemmas.List.{length-append, length-take}
-use Rattle.tree_model.specs.Tree.{Body, body_at}
+use Rattle.tree_model.specs.Tree.{Tree, Body, body_at}
 use Rattle.tree_model.specs.Tree.Body.{File, Directory, Link}
 use Rattle.tree_model.specs.Finding.{find}
 use Rattle.tree_model.specs.Opening.{body_answer, open_check_of, read_body}
 use Rattle.tree_model.specs.Settings.{Settings}
 use Rattle.tree_model.specs.declared.attributes.Attr.{Attr}
 use Rattle.fuse_wire.specs.Head.{head_of}
-use Rattle.fuse_wire.specs.Request.{Request, init, lookup, getattr, open_file, read, flush, release}
-use Rattle.fuse_wire.specs.Request.{forget, batch_forget}
+use Rattle.fuse_wire.specs.Request.{Request, init, lookup, getattr, unlink, open_file, read, opendir}
+use Rattle.fuse_wire.specs.Request.{releasedir, flush, release, forget, batch_forget}
 use Rattle.fuse_wire.specs.Reply.{u32s, u64s, reply_head, reply, init_body, entry_body, attr_body}
 use Rattle.fuse_wire.specs.Reply.{opened_body}
 use Rattle.fuse_wire.specs.declared.protocol.TheConstants.{MAX_READ}
@@ -24,6 +24,7 @@ use Rattle.tree_machine.specs.Replies.Reply.{Done}
 use Rattle.tree_machine.specs.Refusals.{refused_or}
 use Rattle.tree_machine.specs.Core.{node_ino, handle_ino, node_of, node_for, entry_reply, shown_at}
 use Rattle.tree_machine.specs.Core.{looked_up, getattr_ino, attr_reply, opened, bytes_reply}
+use Rattle.tree_machine.specs.Core.{unlink_told, unlinked}
 use Rattle.tree_machine.specs.Requests.{refusal_before, effect_of, answer_of}
 use Rattle.tree_machine.specs.Step.{request_in_turn}
 use Rattle.fid_model.specs.Moments.{Moment}
@@ -114,6 +115,10 @@ bytes_short offset size (Some (File bytes)) = part_short size (drop offset bytes
 bytes_short offset size (Some (Directory es next above)) = tt
 bytes_short offset size (Some (Link target)) = tt
 
+unlinked_short : (m : MachineState) (r : Result (Unit {0} × Tree) ℕ) → IsShort (unlinked m r).0
+unlinked_short m (Ok x) = tt
+unlinked_short m (Err e) = tt
+
 effect_short : (s : Settings) (m : MachineState) (node : ℕ) (r : Request)
     → IsShort (effect_of s m node r).0
 effect_short s m node (init major minor max_readahead flags) = tt
@@ -124,6 +129,10 @@ effect_short s m node (open_file flags) = let ino =
     node_ino (get m.nodes node) in opened_short m ino flags (open_check_of m.tree ino flags)
 effect_short s m node (read fh offset size flags lock) =
     bytes_short offset size (body_at m.tree.records (handle_ino (get m.handles fh)))
+effect_short s m node (unlink name) = unlinked_short m
+    (unlink_told m (node_ino (get m.nodes node)) name)
+effect_short s m node (opendir flags) = tt
+effect_short s m node (releasedir fh) = tt
 effect_short s m node (flush fh) = tt
 effect_short s m node (release fh) = tt
 effect_short s m node (forget number) = tt

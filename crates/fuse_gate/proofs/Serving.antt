@@ -209,7 +209,20 @@ module _ {g : Gate} {n : Moment} (st : IsInStep g n.state) (good : IsGoodServer 
       (unchanged st (Refused errno, m) 0 part good g n (Refused errno) (none_sent g n) refl refl
       refl)
 
-  -- none stands
+  -- none stands, and of a request that isn't carried out whole a part may be done
+  pub served_in_part : refusal_before n.state.settings (machine_of g n.state) node r ≡ None
+      → (new : Gate × Moment) (reply : Reply)
+      → Serves (effect_of n.state.settings (machine_of g n.state) node r)
+      (effect_messages (piece_of n.state) n.state.settings (machine_of g n.state) node r)
+      (PartOf n.state.settings (machine_of g n.state) node (Ok r)) (g, n) new reply
+      → ServesRequest node r (g, n) new reply
+  served_in_part none new reply served =
+      let m = machine_of g n.state in
+      subst (λ (o : Option ℕ). Serves (refused_or m o (effect_of n.state.settings m node r))
+      (none_or o (effect_messages (piece_of n.state) n.state.settings m node r))
+      (PartOf n.state.settings m node (Ok r)) (g, n) new reply) (sym none) served
+
+  -- none stands, and the tree stays
   pub served_after : refusal_before n.state.settings (machine_of g n.state) node r ≡ None
       → (new : Gate × Moment) (reply : Reply)
       → Serves (effect_of n.state.settings (machine_of g n.state) node r)
@@ -219,9 +232,7 @@ module _ {g : Gate} {n : Moment} (st : IsInStep g n.state) (good : IsGoodServer 
   served_after none new reply served =
       let m = machine_of g n.state in
       let part = PartOf n.state.settings m node (Ok r) in
-      subst (λ (o : Option ℕ). Serves (refused_or m o (effect_of n.state.settings m node r))
-      (none_or o (effect_messages (piece_of n.state) n.state.settings m node r)) part (g, n) new
-      reply) (sym none)
+      served_in_part none new reply
       (weaker (effect_of n.state.settings m node r)
       (effect_messages (piece_of n.state) n.state.settings m node r) (Untouched n.state.tree)
       part (λ t same. inl (inl same)) (g, n) new reply served)

@@ -85,12 +85,13 @@ without_handle g id = record g { handles = map.remove g.handles id; used = g.use
 abbrev pub without : ServerState → ℕ → ServerState
 without s fid = record s { fids = map.remove s.fids fid }
 
--- a node that is no directory may be opened by these flags, and a number is left for the handle
+-- a node may be opened by these flags, a directory not to append, and a number is left for the
+-- handle
 pub record MayOpen (g : Gate) (s : ServerState) (id : ℕ) (n : Node) (flags : ℕ) : Type 0 where
   pub stands : IsInStep g s
   pub known : map.get g.nodes id ≡ Some n
   pub served : opens_to_read flags ≡ true
-  pub file : is_directory_at (body_at s.tree.records n.ino) ≡ false
+  pub plain : is_directory_at (body_at s.tree.records n.ino) ≡ true → has_flag O_APPEND flags ≡ false
   pub room : is_at_limit s.settings (machine_of g s) ≡ false
   pub few : g.used < 2 ^ 32
 

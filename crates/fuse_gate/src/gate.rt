@@ -12,12 +12,14 @@ mod getattr;
 mod init;
 mod lookup;
 mod open;
+mod opendir;
 mod read;
 mod release;
 pub mod reply;
 mod serve;
 mod show;
 mod step;
+mod unlink;
 
 pub use attach::AttachError;
 use fid_model::Nine;

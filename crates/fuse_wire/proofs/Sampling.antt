@@ -1,13 +1,16 @@
 -- Worked examples: requests, replies and cuts, byte for byte.
 use Rattle.std.proofs.Common.{◌≡◌, [], ◌∷◌, ◌++◌, replicate, Some, None, Ok, Err, codes, refl}
 use Rattle.fuse_wire.specs.Fields.{u32_at, u64_at}
-use Rattle.fuse_wire.specs.Request.{request_of, request_in, name_at, only_name, init_of, lookup_of}
-use Rattle.fuse_wire.specs.Request.{getattr_of, open_of, read_of, handle_of, forget_of}
+use Rattle.fuse_wire.specs.Request.{request_of, request_in, name_at, only_name, init_of}
+use Rattle.fuse_wire.specs.Request.{getattr_of, flags_of, read_in_of, handle_of, forget_of}
 use Rattle.fuse_wire.specs.Request.{batch_forget_of}
 use Rattle.fuse_wire.specs.Request.Request.{init, lookup, getattr, open_file, read, flush, release}
-use Rattle.fuse_wire.specs.Request.Request.{forget, batch_forget}
+use Rattle.fuse_wire.specs.Request.Request.{forget, batch_forget, unlink, opendir}
+use Rattle.fuse_wire.specs.Request.Request.{releasedir}
 use Rattle.fuse_wire.specs.Reply.{u32s, u64s, reply, reply_head, attr_bytes, entry_body, attr_body}
 use Rattle.fuse_wire.specs.Reply.{init_body, opened_body}
+use Rattle.fuse_wire.specs.Listing.{dirent_bytes}
+use Rattle.fuse_wire.specs.declared.attr.FileType.TheVariants.{Directory, Symlink}
 use Rattle.fuse_wire.specs.Samples.{file, framed, least, init_bytes, entry_bytes, attr_reply}
 use Rattle.fuse_wire.specs.Cuts.{cut, front, is_allowed}
 use Rattle.fuse_wire.specs.Cuts.End.{done, turns_spent, torn, bad_length}
@@ -40,11 +43,11 @@ unfolding framed request_of request_in init_of u32_at u64_at u32s u64s
 asks_init = refl
 
 pub asks_lookup : request_of (framed 1 (codes "hello" ++ 0 ∷ [])) ≡ Ok (lookup (codes "hello"))
-unfolding framed request_of request_in lookup_of only_name name_at u32_at u64_at u32s u64s
+unfolding framed request_of request_in only_name name_at u32_at u64_at u32s u64s
 asks_lookup = refl
 
 pub asks_lookup_empty : request_of (framed 1 (0 ∷ [])) ≡ Ok (lookup [])
-unfolding framed request_of request_in lookup_of only_name name_at u32_at u64_at u32s u64s
+unfolding framed request_of request_in only_name name_at u32_at u64_at u32s u64s
 asks_lookup_empty = refl
 
 pub asks_getattr : request_of (framed 3 (replicate 8 0 ++ u64s (5 ∷ []))) ≡ Ok (getattr None)
@@ -58,11 +61,11 @@ asks_getattr_of_handle = refl
 
 -- a name without its zero byte, one with a zero byte inside, and a body that is too long: EINVAL
 pub name_unended : request_of (framed 1 (codes "hello")) ≡ Err 22
-unfolding framed request_of request_in lookup_of only_name name_at u32_at u64_at u32s u64s
+unfolding framed request_of request_in only_name name_at u32_at u64_at u32s u64s
 name_unended = refl
 
 pub name_ended_twice : request_of (framed 1 (codes "hel" ++ (0 ∷ (codes "lo" ++ 0 ∷ [])))) ≡ Err 22
-unfolding framed request_of request_in lookup_of only_name name_at u32_at u64_at u32s u64s
+unfolding framed request_of request_in only_name name_at u32_at u64_at u32s u64s
 name_ended_twice = refl
 
 pub getattr_too_long : request_of (framed 3 (replicate 17 0)) ≡ Err 22
@@ -70,12 +73,12 @@ unfolding framed request_of request_in getattr_of u32_at u64_at u32s u64s
 getattr_too_long = refl
 
 pub asks_open : request_of (framed 14 (u32s (32768 ∷ 0 ∷ []))) ≡ Ok (open_file 32768)
-unfolding framed request_of request_in open_of u32_at u64_at u32s u64s
+unfolding framed request_of request_in flags_of u32_at u64_at u32s u64s
 asks_open = refl
 
 pub asks_read : request_of (framed 15 (u64s (2 ∷ 4 ∷ [])
     ++ (u32s (9 ∷ 2 ∷ []) ++ (u64s (7 ∷ []) ++ u32s (1 ∷ 0 ∷ []))))) ≡ Ok (read 2 4 9 1 (Some 7))
-unfolding framed request_of request_in read_of u32_at u64_at u32s u64s
+unfolding framed request_of request_in read_in_of u32_at u64_at u32s u64s
 asks_read = refl
 
 pub asks_flush : request_of (framed 25 (u64s (2 ∷ 0 ∷ 0 ∷ []))) ≡ Ok (flush 2)
@@ -94,6 +97,41 @@ pub asks_batch_forget : request_of (framed 42 (u32s (1 ∷ 0 ∷ []) ++ u64s (2 
     ≡ Ok (batch_forget (u64s (2 ∷ 3 ∷ [])))
 unfolding framed request_of request_in batch_forget_of u32_at u64_at u32s u64s
 asks_batch_forget = refl
+
+pub asks_unlink : request_of (framed 10 (codes "hello" ++ 0 ∷ [])) ≡ Ok (unlink (codes "hello"))
+unfolding framed request_of request_in only_name name_at u32_at u64_at u32s u64s
+asks_unlink = refl
+
+pub asks_opendir : request_of (framed 27 (u32s (65536 ∷ 0 ∷ []))) ≡ Ok (opendir 65536)
+unfolding framed request_of request_in flags_of u32_at u64_at u32s u64s
+asks_opendir = refl
+
+pub asks_releasedir : request_of (framed 29 (u64s (2 ∷ 0 ∷ 0 ∷ []))) ≡ Ok (releasedir 2)
+unfolding framed request_of request_in handle_of u32_at u64_at u32s u64s
+asks_releasedir = refl
+
+-- a body that is a byte short, and one that is a byte long
+pub releasedir_too_short : request_of (framed 29 (replicate 23 0)) ≡ Err 22
+unfolding framed request_of request_in handle_of u32_at u64_at u32s u64s
+releasedir_too_short = refl
+
+pub opendir_too_long : request_of (framed 27 (replicate 9 0)) ≡ Err 22
+unfolding framed request_of request_in flags_of u32_at u64_at u32s u64s
+opendir_too_long = refl
+
+-- ---- entries of a listing: a name of 5 bytes and 3 zero bytes, and one of 8 bytes and none
+
+pub entry_padded : dirent_bytes 2 1 Directory (codes "hello") ≡
+    2 ∷ 0 ∷ 0 ∷ 0 ∷ 0 ∷ 0 ∷ 0 ∷ 0 ∷ 1 ∷ 0 ∷ 0 ∷ 0 ∷ 0 ∷ 0 ∷ 0 ∷ 0 ∷ 5 ∷ 0 ∷ 0 ∷ 0 ∷ 4 ∷ 0 ∷ 0 ∷ 0
+    ∷ 104 ∷ 101 ∷ 108 ∷ 108 ∷ 111 ∷ 0 ∷ 0 ∷ 0 ∷ []
+unfolding dirent_bytes u32s u64s
+entry_padded = refl
+
+pub entry_whole : dirent_bytes 3 258 Symlink (codes "hellohel") ≡
+    3 ∷ 0 ∷ 0 ∷ 0 ∷ 0 ∷ 0 ∷ 0 ∷ 0 ∷ 2 ∷ 1 ∷ 0 ∷ 0 ∷ 0 ∷ 0 ∷ 0 ∷ 0 ∷ 8 ∷ 0 ∷ 0 ∷ 0 ∷ 10 ∷ 0 ∷ 0 ∷ 0
+    ∷ 104 ∷ 101 ∷ 108 ∷ 108 ∷ 111 ∷ 104 ∷ 101 ∷ 108 ∷ []
+unfolding dirent_bytes u32s u64s
+entry_whole = refl
 
 -- two pairs are told, and one is there
 pub batch_too_short : request_of (framed 42 (u32s (2 ∷ 0 ∷ []) ++ u64s (2 ∷ 3 ∷ []))) ≡ Err 22

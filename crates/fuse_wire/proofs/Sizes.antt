@@ -1,8 +1,12 @@
 -- How long the bodies of replies are.
-use Rattle.std.proofs.Common.{◌≡◌, ℕ, length, refl}
+use Rattle.std.proofs.Common.{◌≡◌, ℕ, List, length, refl, arith, length-append}
+use Rattle.std.specs.Prelude.{replicate}
+use Rattle.std.proofs.lemmas.List.{length-replicate}
 use Rattle.fuse_wire.specs.declared.attr.FileAttr.{FileAttr}
 use Rattle.fuse_wire.specs.Reply.{u32s, u64s, attr_bytes, entry_body, attr_body, init_body}
 use Rattle.fuse_wire.specs.Reply.{opened_body}
+use Rattle.fuse_wire.specs.declared.attr.FileType.{FileType}
+use Rattle.fuse_wire.specs.Listing.{padded_size, padding, dirent_bytes}
 
 pub length-attr_bytes : (attr : FileAttr) → length (attr_bytes attr) ≡ 88
 unfolding attr_bytes u32s u64s
@@ -23,3 +27,12 @@ length-init_body minor max_readahead = refl
 pub length-opened_body : (handle : ℕ) → length (opened_body handle) ≡ 16
 unfolding opened_body u32s u64s
 length-opened_body handle = refl
+
+-- an entry of a listing is as long as it is counted
+pub length-dirent_bytes : (ino offset : ℕ) (kind : FileType) (name : List ℕ)
+    → length (dirent_bytes ino offset kind name) ≡ padded_size (length name)
+unfolding dirent_bytes u32s u64s
+length-dirent_bytes ino offset kind name =
+    let named = length-append name (replicate (padding (length name)) 0) in
+    let filled = length-replicate {A = ℕ} (padding (length name)) 0 in
+    omega (arith, named, filled)

@@ -1,8 +1,9 @@
 -- A request that was read, without where its bytes lie.
 use Rattle.std.specs.Prelude.{◌≡◌, ℕ, List, Result, Ok, Err}
 use Rattle.fuse_wire.specs.Head.{head_of}
-use Rattle.fuse_wire.specs.Request.{Request, init, lookup, getattr, open_file, read, flush, release}
-use Rattle.fuse_wire.specs.Request.{forget, batch_forget, request_of}
+use Rattle.fuse_wire.specs.Request.{Request, init, lookup, getattr, unlink, open_file, read, opendir}
+use Rattle.fuse_wire.specs.Request.{releasedir, flush, release, forget, batch_forget}
+use Rattle.fuse_wire.specs.Request.{request_of}
 use Rattle.fuse_wire.specs.declared.ids.Errno.{Errno}
 use Rattle.fuse_wire.specs.declared.request.Body.{Body}
 use Rattle.fuse_wire.specs.declared.request.Body.TheVariants as body
@@ -12,8 +13,11 @@ abbrev pub plain : Body → Request
 plain (body.Init major minor max_readahead flags) = init major minor max_readahead flags
 plain (body.Lookup name) = lookup name.now
 plain (body.GetAttr handle) = getattr handle
+plain (body.Unlink name) = unlink name.now
 plain (body.OpenFile flags) = open_file flags
 plain (body.Read fh offset size flags lock) = read fh offset size flags lock
+plain (body.OpenDir flags) = opendir flags
+plain (body.ReleaseDir fh) = releasedir fh
 plain (body.Flush fh) = flush fh
 plain (body.Release fh) = release fh
 plain (body.Forget nlookup) = forget nlookup

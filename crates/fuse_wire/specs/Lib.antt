@@ -2,6 +2,8 @@ pub mod Body
 pub mod Cuts
 pub mod Fields
 pub mod Head
+pub mod Listing
+pub mod Adding
 pub mod Opcode
 pub mod Reply
 pub mod Request

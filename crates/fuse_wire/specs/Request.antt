@@ -9,7 +9,10 @@ use Rattle.fuse_wire.specs.declared.opcode.TheConstants.{FUSE_LOOKUP, FUSE_GETAT
 use Rattle.fuse_wire.specs.declared.opcode.TheConstants.{FUSE_OPEN, FUSE_READ, FUSE_FLUSH}
 use Rattle.fuse_wire.specs.declared.opcode.TheConstants.{FUSE_RELEASE, FUSE_FORGET}
 use Rattle.fuse_wire.specs.declared.opcode.TheConstants.{FUSE_BATCH_FORGET, FUSE_GETATTR_FH}
-use Rattle.fuse_wire.specs.declared.opcode.TheConstants.{FUSE_READ_LOCKOWNER}
+use Rattle.fuse_wire.specs.declared.opcode.TheConstants.{FUSE_READ_LOCKOWNER, FUSE_UNLINK}
+use Rattle.fuse_wire.specs.declared.opcode.TheConstants.{FUSE_OPENDIR}
+use Rattle.fuse_wire.specs.declared.opcode.TheConstants.{FUSE_RELEASEDIR}
+use Rattle.fuse_wire.specs.declared.request.ReadIn.{ReadIn}
 use Rattle.fuse_wire.specs.declared.request.TheConstants.{INIT_IN_SIZE, GETATTR_IN_SIZE}
 use Rattle.fuse_wire.specs.declared.request.TheConstants.{OPEN_IN_SIZE, READ_IN_SIZE}
 use Rattle.fuse_wire.specs.declared.request.TheConstants.{RELEASE_IN_SIZE, FORGET_IN_SIZE}
@@ -22,8 +25,11 @@ pub data Request : Type 0 where
   init : (major minor max_readahead flags : ℕ) → Request
   lookup : (name : List ℕ) → Request
   getattr : (handle : Option ℕ) → Request
+  unlink : (name : List ℕ) → Request
   open_file : (flags : ℕ) → Request
   read : (fh offset size flags : ℕ) (lock : Option ℕ) → Request
+  opendir : (flags : ℕ) → Request
+  releasedir : (fh : ℕ) → Request
   flush : (fh : ℕ) → Request
   release : (fh : ℕ) → Request
   forget : (nlookup : ℕ) → Request
@@ -57,24 +63,28 @@ unfoldable pub init_of : List ℕ → Option Request
 init_of body = if nat_lt (length body) INIT_IN_SIZE then None else Some
     (init (u32_at body 0) (u32_at body 4) (u32_at body 8) (u32_at body 12))
 
-unfoldable pub lookup_of : List ℕ → Option Request
-lookup_of body = option_map lookup (only_name body)
-
 -- exactly flags of 4 bytes, 4 bytes that are ignored, and a handle of 8
 unfoldable pub getattr_of : List ℕ → Option Request
 getattr_of body = if length body == GETATTR_IN_SIZE then Some
     (getattr (given (u32_at body 0) FUSE_GETATTR_FH (u64_at body 8))) else None
 
 -- flags of 4 bytes, and 4 bytes that are ignored
-unfoldable pub open_of : List ℕ → Option Request
-open_of body = if length body == OPEN_IN_SIZE then Some (open_file (u32_at body 0)) else None
+unfoldable pub flags_of : List ℕ → Option ℕ
+flags_of body = if length body == OPEN_IN_SIZE then Some (u32_at body 0) else None
 
 -- a handle and an offset of 8 bytes each, a size and flags of 4, the owner of a lock of 8, the
 -- file's flags of 4, and 4 bytes that are ignored
-unfoldable pub read_of : List ℕ → Option Request
-read_of body = if length body == READ_IN_SIZE then Some
-    (read (u64_at body 0) (u64_at body 8) (u32_at body 16) (u32_at body 32)
-    (given (u32_at body 20) FUSE_READ_LOCKOWNER (u64_at body 24))) else None
+unfoldable pub read_in_of : List ℕ → Option ReadIn
+read_in_of body = if length body == READ_IN_SIZE then Some (record {
+  fh = u64_at body 0;
+  offset = u64_at body 8;
+  size = u32_at body 16;
+  flags = u32_at body 32;
+  lock = given (u32_at body 20) FUSE_READ_LOCKOWNER (u64_at body 24);
+}) else None
+
+abbrev pub asks_read : ReadIn → Request
+asks_read r = read r.fh r.offset r.size r.flags r.lock
 
 -- a handle of 8 bytes, and 16 bytes that are ignored
 unfoldable pub handle_of : List ℕ → Option ℕ
@@ -95,13 +105,16 @@ batch_forget_of body =
 -- ENOSYS for an opcode that isn't served, EINVAL for a body outside its grammar
 unfoldable pub request_in : ℕ → List ℕ → Result Request ℕ
 request_in opcode body =
-    if opcode == FUSE_LOOKUP then ok_or (lookup_of body) EINVAL else
+    if opcode == FUSE_LOOKUP then ok_or (option_map lookup (only_name body)) EINVAL else
     if opcode == FUSE_GETATTR then ok_or (getattr_of body) EINVAL else
     if opcode == FUSE_INIT then ok_or (init_of body) EINVAL else
-    if opcode == FUSE_OPEN then ok_or (open_of body) EINVAL else
-    if opcode == FUSE_READ then ok_or (read_of body) EINVAL else
+    if opcode == FUSE_OPEN then ok_or (option_map open_file (flags_of body)) EINVAL else
+    if opcode == FUSE_READ then ok_or (option_map asks_read (read_in_of body)) EINVAL else
     if opcode == FUSE_FLUSH then ok_or (option_map flush (handle_of body)) EINVAL else
     if opcode == FUSE_RELEASE then ok_or (option_map release (handle_of body)) EINVAL else
+    if opcode == FUSE_UNLINK then ok_or (option_map unlink (only_name body)) EINVAL else
+    if opcode == FUSE_OPENDIR then ok_or (option_map opendir (flags_of body)) EINVAL else
+    if opcode == FUSE_RELEASEDIR then ok_or (option_map releasedir (handle_of body)) EINVAL else
     if opcode == FUSE_FORGET then ok_or (forget_of body) EINVAL else
     if opcode == FUSE_BATCH_FORGET then ok_or (batch_forget_of body) EINVAL else
     Err ENOSYS

@@ -1,4 +1,27 @@
 //! Attributes of an inode.
+ghost use Rattle.std.specs.Prelude.{◌≡◌};
+ghost use Rattle.fuse_wire.specs.Listing.{type_number};
+
+/// What an inode is.
+#[derive(Clone, Copy, Debug, PartialEq, Eq)]
+pub enum FileType {
+    Directory,
+    RegularFile,
+    Symlink,
+}
+
+impl FileType {
+    /// Its number, as `d_type` of readdir(3) tells it.
+    pub fn number(self) -> u32
+        ensures { result ≡ type_number self }
+    {
+        match self {
+            FileType::Directory => 4,
+            FileType::RegularFile => 8,
+            FileType::Symlink => 10,
+        }
+    }
+}
 
 /// What a reply shows of an inode: `fuse_attr` of `fuse.h`, 88 bytes, in this order.
 #[derive(Clone, Copy, Debug, PartialEq, Eq)]

@@ -3,12 +3,16 @@
 ghost use Rattle.std.specs.Prelude.{◌≡◌, ◌++◌, [], ◌∷◌, replicate, codes, Some, None, Ok, Err};
 ghost use Rattle.fuse_wire.specs.Request.{request_of};
 ghost use Rattle.fuse_wire.specs.Request.Request.{init, lookup, getattr, open_file, read, flush};
-ghost use Rattle.fuse_wire.specs.Request.Request.{release, forget, batch_forget};
+ghost use Rattle.fuse_wire.specs.Request.Request.{release, forget, batch_forget, unlink, opendir};
+ghost use Rattle.fuse_wire.specs.Request.Request.{releasedir};
+ghost use Rattle.fuse_wire.specs.Listing.{dirent_bytes};
 ghost use Rattle.fuse_wire.specs.Reply.{u32s, u64s, reply, entry_body, attr_body, init_body};
 ghost use Rattle.fuse_wire.specs.Reply.{opened_body};
 ghost use Rattle.fuse_wire.specs.Samples.{file, framed, least, init_bytes, entry_bytes, attr_reply};
 ghost use Rattle.fuse_wire.specs.Cuts.{cut};
 ghost use Rattle.fuse_wire.specs.Cuts.End.{done, turns_spent, torn, bad_length};
+
+use crate::attr::FileType;
 
 /// Replies to INIT, LOOKUP and GETATTR of a small file, and a refusal with ENOENT.
 #[tactic(auto, using(crate::proofs::Sampling::begun, crate::proofs::Sampling::entered, crate::proofs::Sampling::shown, crate::proofs::Sampling::refused))]
@@ -47,6 +51,28 @@ pub fn files_and_forgets()
     ensures short { request_of (framed 42 (u32s (2 ∷ 0 ∷ []) ++ u64s (2 ∷ 3 ∷ []))) ≡ Err 22 }
     ensures opened { reply 4 0 (opened_body 2) ≡ 32 ∷ 0 ∷ 0 ∷ 0 ∷ 0 ∷ 0 ∷ 0 ∷ 0 ∷ 4 ∷ 0 ∷ 0 ∷ 0 ∷ 0
         ∷ 0 ∷ 0 ∷ 0 ∷ 2 ∷ 0 ∷ 0 ∷ 0 ∷ 0 ∷ 0 ∷ 0 ∷ 0 ∷ 0 ∷ 0 ∷ 0 ∷ 0 ∷ 0 ∷ 0 ∷ 0 ∷ 0 ∷ [] }
+{}
+
+/// What frames ask of directories, by bodies of exactly their length.
+#[tactic(auto, using(crate::proofs::Sampling::asks_unlink, crate::proofs::Sampling::asks_opendir, crate::proofs::Sampling::asks_releasedir, crate::proofs::Sampling::releasedir_too_short, crate::proofs::Sampling::opendir_too_long))]
+pub fn directories()
+    ensures unlink { request_of (framed 10 (codes "hello" ++ 0 ∷ []))
+        ≡ Ok (unlink (codes "hello")) }
+    ensures opendir { request_of (framed 27 (u32s (65536 ∷ 0 ∷ []))) ≡ Ok (opendir 65536) }
+    ensures releasedir { request_of (framed 29 (u64s (2 ∷ 0 ∷ 0 ∷ []))) ≡ Ok (releasedir 2) }
+    ensures short { request_of (framed 29 (replicate 23 0)) ≡ Err 22 }
+    ensures long { request_of (framed 27 (replicate 9 0)) ≡ Err 22 }
+{}
+
+/// Entries of a listing: one that ends by three zero bytes, and one that has none.
+#[tactic(auto, using(crate::proofs::Sampling::entry_padded, crate::proofs::Sampling::entry_whole))]
+pub fn entries()
+    ensures padded { dirent_bytes 2 1 FileType.Directory (codes "hello") ≡
+        2 ∷ 0 ∷ 0 ∷ 0 ∷ 0 ∷ 0 ∷ 0 ∷ 0 ∷ 1 ∷ 0 ∷ 0 ∷ 0 ∷ 0 ∷ 0 ∷ 0 ∷ 0 ∷ 5 ∷ 0 ∷ 0 ∷ 0 ∷ 4 ∷ 0 ∷ 0 ∷ 0
+        ∷ 104 ∷ 101 ∷ 108 ∷ 108 ∷ 111 ∷ 0 ∷ 0 ∷ 0 ∷ [] }
+    ensures whole { dirent_bytes 3 258 FileType.Symlink (codes "hellohel") ≡
+        3 ∷ 0 ∷ 0 ∷ 0 ∷ 0 ∷ 0 ∷ 0 ∷ 0 ∷ 2 ∷ 1 ∷ 0 ∷ 0 ∷ 0 ∷ 0 ∷ 0 ∷ 0 ∷ 8 ∷ 0 ∷ 0 ∷ 0 ∷ 10 ∷ 0 ∷ 0 ∷ 0
+        ∷ 104 ∷ 101 ∷ 108 ∷ 108 ∷ 111 ∷ 104 ∷ 101 ∷ 108 ∷ [] }
 {}
 
 /// A name without its zero byte, one with a zero byte inside and a body that is too long are

@@ -104,13 +104,9 @@ fn fill<S: Source>(source: &mut S, frame: &mut Vec<u8>, missing: usize) -> Resul
     let mut rest = missing;
     while rest > 0 {
         let count = rest.min(PIECE);
-        match take_piece(source, frame, count) {
-            Ok(n) => {
-                if n < count {
-                    return Ok(false);
-                }
-            }
-            Err(error) => return Err(error),
+        let n = take_piece(source, frame, count)?;
+        if n < count {
+            return Ok(false);
         }
         rest -= count;
     }
@@ -118,8 +114,7 @@ fn fill<S: Source>(source: &mut S, frame: &mut Vec<u8>, missing: usize) -> Resul
 }
 
 /// Takes the frame at the front of a source into a buffer, if a whole one stands there. The buffer
-/// grows
-/// with what comes in, and never by a length that was only told.
+/// grows with what comes in, and never by a length that was only told.
 pub fn next_frame<S: Source>(source: &mut S, frame: &mut Vec<u8>) -> Result<Next, NextError>
     ensures takes { Takes (S.left source.old) (S.left source.new) (S.faults source.old)
         (S.faults source.new) frame.new.items result }
@@ -143,9 +138,9 @@ pub fn next_frame<S: Source>(source: &mut S, frame: &mut Vec<u8>) -> Result<Next
         return Ok(Next::OddLength);
     }
     begin(frame, &head)?;
-    match fill(source, frame, len - 4) {
-        Ok(true) => Ok(Next::Frame),
-        Ok(false) => Ok(Next::Part),
-        Err(error) => Err(error),
+    if fill(source, frame, len - 4)? {
+        Ok(Next::Frame)
+    } else {
+        Ok(Next::Part)
     }
 }

@@ -20,6 +20,21 @@ pub struct INodeNo(pub u64);
 #[derive(Clone, Copy, Debug, PartialEq, Eq)]
 pub struct FileHandle(pub u64);
 
+/// The flags of an open, as `open(2)` has them.
+#[derive(Clone, Copy, Debug, PartialEq, Eq)]
+pub struct OpenFlags(pub u32);
+
+/// The owner of a lock, `lock_owner` of `fuse.h`.
+#[derive(Clone, Copy, Debug, PartialEq, Eq)]
+pub struct LockOwner(pub u64);
+
+/// How long something that was told is valid: seconds and nanoseconds.
+#[derive(Clone, Copy, Debug, PartialEq, Eq)]
+pub struct Ttl {
+    pub secs: u64,
+    pub nanos: u32,
+}
+
 /// A node's generation, which tells apart inodes that had one number.
 #[derive(Clone, Copy, Debug, PartialEq, Eq)]
 pub struct Generation(pub u64);

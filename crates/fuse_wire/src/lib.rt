@@ -9,6 +9,7 @@ pub mod frames;
 pub mod head;
 pub mod ids;
 mod laws;
+pub mod listing;
 pub mod opcode;
 pub mod protocol;
 pub mod reply;

@@ -6,6 +6,8 @@ ghost use Rattle.fuse_wire.specs.Opcode.{is_silent};
 pub const FUSE_LOOKUP: u32 = 1;
 /// Asks for attributes.
 pub const FUSE_GETATTR: u32 = 3;
+/// Takes a name out of a directory.
+pub const FUSE_UNLINK: u32 = 10;
 /// Opens a file.
 pub const FUSE_OPEN: u32 = 14;
 /// Reads a file.
@@ -14,6 +16,12 @@ pub const FUSE_READ: u32 = 15;
 pub const FUSE_RELEASE: u32 = 18;
 /// One of the descriptors of a handle was closed.
 pub const FUSE_FLUSH: u32 = 25;
+/// Opens a directory.
+pub const FUSE_OPENDIR: u32 = 27;
+/// Lists a directory.
+pub const FUSE_READDIR: u32 = 28;
+/// Ends the handle of a directory.
+pub const FUSE_RELEASEDIR: u32 = 29;
 /// Begins a session.
 pub const FUSE_INIT: u32 = 26;
 
@@ -27,7 +35,7 @@ pub const FUSE_BATCH_FORGET: u32 = 42;
 /// A flag of GETATTR: a handle is given.
 pub const FUSE_GETATTR_FH: u32 = 1;
 
-/// A flag of READ: the owner of a lock is given.
+/// A flag of READ and READDIR: the owner of a lock is given.
 pub const FUSE_READ_LOCKOWNER: u32 = 2;
 
 /// Whether a request never gets a reply: FORGET, INTERRUPT and BATCH_FORGET.

@@ -12,5 +12,5 @@ pub const FUSE_KERNEL_MINOR_VERSION: u32 = 31;
 /// The node id of the root.
 pub const FUSE_ROOT_ID: u64 = 1;
 
-/// The most bytes that one READ gives.
+/// The most bytes that one READ or READDIR gives.
 pub const MAX_READ: u32 = 131072;

@@ -32,7 +32,7 @@ pub const TIME_GRAN: u32 = 1;
 pub const VALID_SECS: u64 = 1;
 
 // Appends bytes for which there is room.
-fn put(out: &mut Vec<u8>, bytes: &[u8])
+pub(crate) fn put(out: &mut Vec<u8>, bytes: &[u8])
     requires { vec_len out.old + length bytes.now ≤ vec_capacity out.old }
     ensures items { out.new.items ≡ out.old.items ++ bytes.now }
     ensures len { vec_len out.new ≡ vec_len out.old + length bytes.now }
@@ -45,7 +45,7 @@ fn put(out: &mut Vec<u8>, bytes: &[u8])
 }
 
 // Appends numbers of 4 bytes.
-fn put_u32s(out: &mut Vec<u8>, numbers: &[u32])
+pub(crate) fn put_u32s(out: &mut Vec<u8>, numbers: &[u32])
     requires { vec_len out.old + 4 * length numbers.now ≤ vec_capacity out.old }
     ensures items { out.new.items ≡ out.old.items ++ u32s numbers.now }
     ensures len { vec_len out.new ≡ vec_len out.old + 4 * length numbers.now }
@@ -57,7 +57,7 @@ fn put_u32s(out: &mut Vec<u8>, numbers: &[u32])
 }
 
 // Appends numbers of 8 bytes.
-fn put_u64s(out: &mut Vec<u8>, numbers: &[u64])
+pub(crate) fn put_u64s(out: &mut Vec<u8>, numbers: &[u64])
     requires { vec_len out.old + 8 * length numbers.now ≤ vec_capacity out.old }
     ensures items { out.new.items ≡ out.old.items ++ u64s numbers.now }
     ensures len { vec_len out.new ≡ vec_len out.old + 8 * length numbers.now }

@@ -4,16 +4,19 @@ ghost use Rattle.std.specs.Option.{option_map};
 ghost use Rattle.fuse_wire.specs.Body.{plain, Gives, Reads};
 ghost use Rattle.fuse_wire.specs.Fields.{u64_at};
 ghost use Rattle.fuse_wire.specs.Head.{head_of};
-ghost use Rattle.fuse_wire.specs.Request.{is_zero, name_at, only_name, init_of, lookup_of};
-ghost use Rattle.fuse_wire.specs.Request.{getattr_of, open_of, read_of, handle_of, forget_of};
-ghost use Rattle.fuse_wire.specs.Request.{batch_forget_of, flush, release, request_in, request_of};
+ghost use Rattle.fuse_wire.specs.Request.{is_zero, name_at, only_name, init_of, getattr_of};
+ghost use Rattle.fuse_wire.specs.Request.{flags_of, read_in_of, handle_of, forget_of};
+ghost use Rattle.fuse_wire.specs.Request.{batch_forget_of, asks_read};
+ghost use Rattle.fuse_wire.specs.Request.{lookup, unlink, open_file, opendir, flush, release};
+ghost use Rattle.fuse_wire.specs.Request.{releasedir, request_in, request_of};
 
 use crate::fields::{given, u32_at, u64_at};
 use crate::head::{Head, IN_HEADER_SIZE};
 use crate::ids::Errno;
 use crate::opcode::{
     FUSE_BATCH_FORGET, FUSE_FLUSH, FUSE_FORGET, FUSE_GETATTR, FUSE_GETATTR_FH, FUSE_INIT,
-    FUSE_LOOKUP, FUSE_OPEN, FUSE_READ, FUSE_READ_LOCKOWNER, FUSE_RELEASE,
+    FUSE_LOOKUP, FUSE_OPEN, FUSE_OPENDIR, FUSE_READ, FUSE_READ_LOCKOWNER, FUSE_RELEASE,
+    FUSE_RELEASEDIR, FUSE_UNLINK,
 };
 use port_base::errno::{EINVAL, ENOSYS};
 
@@ -22,12 +25,12 @@ pub const INIT_IN_SIZE: usize = 16;
 /// The size of GETATTR's body (`fuse_getattr_in` of `fuse.h`), in bytes.
 pub const GETATTR_IN_SIZE: usize = 16;
 
-/// The size of OPEN's body (`fuse_open_in` of `fuse.h`), in bytes.
+/// The size of OPEN's and of OPENDIR's body (`fuse_open_in` of `fuse.h`), in bytes.
 pub const OPEN_IN_SIZE: usize = 8;
 /// The size of READ's body (`fuse_read_in` of `fuse.h`), in bytes.
 pub const READ_IN_SIZE: usize = 40;
-/// The size of RELEASE's and of FLUSH's body (`fuse_release_in`, `fuse_flush_in` of `fuse.h`), in
-/// bytes.
+/// The size of the body of RELEASE, RELEASEDIR and FLUSH (`fuse_release_in`, `fuse_flush_in` of
+/// `fuse.h`), in bytes.
 pub const RELEASE_IN_SIZE: usize = 24;
 /// The size of FORGET's body (`fuse_forget_in` of `fuse.h`), in bytes.
 pub const FORGET_IN_SIZE: usize = 8;
@@ -54,6 +57,10 @@ pub enum Body<'a> {
     GetAttr {
         handle: Option<u64>,
     },
+    /// Takes a name out of the node, a directory.
+    Unlink {
+        name: &'a [u8],
+    },
     /// Opens the node, a file, by the flags of `open(2)`.
     OpenFile {
         flags: u32,
@@ -65,6 +72,14 @@ pub enum Body<'a> {
         size: u32,
         flags: u32,
         lock: Option<u64>,
+    },
+    /// Opens the node, a directory. The flags are ignored.
+    OpenDir {
+        flags: u32,
+    },
+    /// Ends the handle of a directory.
+    ReleaseDir {
+        fh: u64,
     },
     /// A descriptor of a handle was closed.
     Flush {
@@ -89,6 +104,16 @@ pub enum Body<'a> {
 pub struct FuseRequest<'a> {
     pub head: Head,
     pub body: Body<'a>,
+}
+
+// What READ asks (`fuse_read_in` of `fuse.h`).
+#[derive(Clone, Copy)]
+struct ReadIn {
+    fh: u64,
+    offset: u64,
+    size: u32,
+    flags: u32,
+    lock: Option<u64>,
 }
 
 /// A pair of BATCH_FORGET (`fuse_forget_one` of `fuse.h`): a node id, and how much less it counts.
@@ -155,12 +180,18 @@ fn init_of(body: &[u8]) -> Option<Body<'_>>
     })
 }
 
-#[tactic(auto, unfolding(crate::specs::Request::lookup_of))]
 fn lookup_of(body: &[u8]) -> Option<Body<'_>>
-    ensures { option_map plain result ≡ lookup_of body.now }
+    ensures { option_map plain result ≡ option_map lookup (only_name body.now) }
 {
     let name = only_name(body)?;
     Some(Body::Lookup { name })
+}
+
+fn unlink_of(body: &[u8]) -> Option<Body<'_>>
+    ensures { option_map plain result ≡ option_map unlink (only_name body.now) }
+{
+    let name = only_name(body)?;
+    Some(Body::Unlink { name })
 }
 
 #[tactic(auto, unfolding(crate::specs::Request::getattr_of))]
@@ -175,27 +206,41 @@ fn getattr_of(body: &[u8]) -> Option<Body<'_>>
     Some(Body::GetAttr { handle })
 }
 
-#[tactic(auto, unfolding(crate::specs::Request::open_of))]
-fn open_of(body: &[u8]) -> Option<Body<'_>>
-    ensures { option_map plain result ≡ open_of body.now }
+// The flags that a body of OPEN or of OPENDIR tells.
+#[tactic(auto, unfolding(crate::specs::Request::flags_of))]
+fn flags_of(body: &[u8]) -> Option<u32>
+    ensures { result ≡ flags_of body.now }
 {
     if body.len() != OPEN_IN_SIZE {
         return None;
     }
-    Some(Body::OpenFile {
-        flags: u32_at(body, 0),
-    })
+    Some(u32_at(body, 0))
 }
 
-#[tactic(auto, unfolding(crate::specs::Request::read_of))]
-fn read_of(body: &[u8]) -> Option<Body<'_>>
-    ensures { option_map plain result ≡ read_of body.now }
+fn open_of(body: &[u8]) -> Option<Body<'_>>
+    ensures { option_map plain result ≡ option_map open_file (flags_of body.now) }
+{
+    let flags = flags_of(body)?;
+    Some(Body::OpenFile { flags })
+}
+
+fn opendir_of(body: &[u8]) -> Option<Body<'_>>
+    ensures { option_map plain result ≡ option_map opendir (flags_of body.now) }
+{
+    let flags = flags_of(body)?;
+    Some(Body::OpenDir { flags })
+}
+
+// What a body of READ tells.
+#[tactic(auto, unfolding(crate::specs::Request::read_in_of))]
+fn read_in_of(body: &[u8]) -> Option<ReadIn>
+    ensures { result ≡ read_in_of body.now }
 {
     if body.len() != READ_IN_SIZE {
         return None;
     }
     let lock = given(u32_at(body, 20), FUSE_READ_LOCKOWNER, u64_at(body, 24));
-    Some(Body::Read {
+    Some(ReadIn {
         fh: u64_at(body, 0),
         offset: u64_at(body, 8),
         size: u32_at(body, 16),
@@ -204,7 +249,20 @@ fn read_of(body: &[u8]) -> Option<Body<'_>>
     })
 }
 
-// The handle that a body of RELEASE or of FLUSH names.
+fn read_of(body: &[u8]) -> Option<Body<'_>>
+    ensures { option_map plain result ≡ option_map asks_read (read_in_of body.now) }
+{
+    let asked = read_in_of(body)?;
+    Some(Body::Read {
+        fh: asked.fh,
+        offset: asked.offset,
+        size: asked.size,
+        flags: asked.flags,
+        lock: asked.lock,
+    })
+}
+
+// The handle that a body of RELEASE, RELEASEDIR or FLUSH names.
 #[tactic(auto, unfolding(crate::specs::Request::handle_of))]
 fn handle_of(body: &[u8]) -> Option<u64>
     ensures { result ≡ handle_of body.now }
@@ -227,6 +285,13 @@ fn release_of(body: &[u8]) -> Option<Body<'_>>
 {
     let fh = handle_of(body)?;
     Some(Body::Release { fh })
+}
+
+fn releasedir_of(body: &[u8]) -> Option<Body<'_>>
+    ensures { option_map plain result ≡ option_map releasedir (handle_of body.now) }
+{
+    let fh = handle_of(body)?;
+    Some(Body::ReleaseDir { fh })
 }
 
 #[tactic(auto, unfolding(crate::specs::Request::forget_of))]
@@ -269,6 +334,9 @@ fn body_of(opcode: u32, body: &[u8]) -> Result<Body<'_>, Errno>
         FUSE_READ => read_of(body).ok_or(Errno(EINVAL)),
         FUSE_FLUSH => flush_of(body).ok_or(Errno(EINVAL)),
         FUSE_RELEASE => release_of(body).ok_or(Errno(EINVAL)),
+        FUSE_UNLINK => unlink_of(body).ok_or(Errno(EINVAL)),
+        FUSE_OPENDIR => opendir_of(body).ok_or(Errno(EINVAL)),
+        FUSE_RELEASEDIR => releasedir_of(body).ok_or(Errno(EINVAL)),
         FUSE_FORGET => forget_of(body).ok_or(Errno(EINVAL)),
         FUSE_BATCH_FORGET => batch_forget_of(body).ok_or(Errno(EINVAL)),
         _ => Err(Errno(ENOSYS)),

@@ -1,6 +1,7 @@
-use crate::attr::FileAttr;
+use crate::attr::{FileAttr, FileType};
 use crate::frames::{Next, next_frame};
 use crate::ids::{Errno, FileHandle, INodeNo, RequestId};
+use crate::listing::{DirEntListBuilder, ReplyDirectory};
 use crate::reply::{
     reply_attr, reply_bytes, reply_empty, reply_entry, reply_error, reply_init, reply_opened,
 };
@@ -124,7 +125,14 @@ fn what_files_and_forgets_ask(rt: HostRuntime) -> Result<(), Fail> {
         flags: 1,
         lock,
     };
-    let cases: [(u8, &[u8], Body<'_>); 8] = [
+    let cases: [(u8, &[u8], Body<'_>); 11] = [
+        (10, b"hello\0", Body::Unlink { name: b"hello" }),
+        (
+            27,
+            b"\0\0\x01\0\x09\x09\x09\x09",
+            Body::OpenDir { flags: 65536 },
+        ),
+        (29, &HANDLE[..24], Body::ReleaseDir { fh: 259 }),
         (
             14,
             b"\0\x80\0\0\x09\x09\x09\x09",
@@ -159,7 +167,13 @@ fn what_files_and_forgets_ask(rt: HostRuntime) -> Result<(), Fail> {
 
 #[test]
 fn bodies_of_another_length_are_refused(rt: HostRuntime) -> Result<(), Fail> {
-    let cases: [(u8, &[u8]); 16] = [
+    let cases: [(u8, &[u8]); 22] = [
+        (10, b"hello"),
+        (10, b"hello\0\0"),
+        (27, &HANDLE[..7]),
+        (27, &HANDLE[..9]),
+        (29, &HANDLE[..23]),
+        (29, &HANDLE),
         (14, &HANDLE[..7]),
         (14, &HANDLE[..9]),
         (15, &READ[..39]),
@@ -218,6 +232,33 @@ fn short_replies(rt: HostRuntime) -> Result<(), Fail> {
         0, 0, 0, 0, 0, 0, 0, 0, 0, 0, 0, 0, 0, 1, 3, 1, 0, 0, 0, 0, 0, 0, 0, 0, 0, 0, 0, 0, 0, 0,
     ];
     assert_eq!(rt; out.as_slice(), want.as_slice());
+    Ok(())
+}
+
+#[test]
+fn entries_fill_a_listing(rt: HostRuntime) -> Result<(), Fail> {
+    let cases: [(u64, FileType, &[u8], bool); 4] = [
+        (2, FileType::Directory, b"hello", false),
+        (3, FileType::Symlink, b"hellohel", false),
+        (4, FileType::RegularFile, b"hellohell", true),
+        (5, FileType::RegularFile, b"", false),
+    ];
+    let mut listing = ReplyDirectory::new(rt.alloc(), 95)?;
+    let mut builder = DirEntListBuilder::new(&mut listing);
+    for (number, kind, name, is_full) in cases {
+        assert_eq!(rt;
+            builder.add(INodeNo(number), number + 256, kind, name),
+            is_full
+        );
+    }
+    let want = [
+        2, 0, 0, 0, 0, 0, 0, 0, 2, 1, 0, 0, 0, 0, 0, 0, 5, 0, 0, 0, 4, 0, 0, 0, 0x68, 0x65, 0x6c,
+        0x6c, 0x6f, 0, 0, 0, 3, 0, 0, 0, 0, 0, 0, 0, 3, 1, 0, 0, 0, 0, 0, 0, 8, 0, 0, 0, 10, 0, 0,
+        0, 0x68, 0x65, 0x6c, 0x6c, 0x6f, 0x68, 0x65, 0x6c, 5, 0, 0, 0, 0, 0, 0, 0, 5, 1, 0, 0, 0,
+        0, 0, 0, 0, 0, 0, 0, 8, 0, 0, 0,
+    ];
+    assert_eq!(rt; listing.as_bytes(), want.as_slice());
+    assert_eq!(rt; listing.into_bytes().as_slice(), want.as_slice());
     Ok(())
 }
 

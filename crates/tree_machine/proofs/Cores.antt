@@ -7,8 +7,9 @@ use Rattle.port_base.specs.declared.errno.TheConstants.{ENOSYS, EPROTO}
 use Rattle.tree_model.specs.Tree.{Tree, body_at}
 use Rattle.tree_model.specs.Settings.{Settings}
 use Rattle.fuse_wire.specs.Head.{head_of}
-use Rattle.fuse_wire.specs.Request.{Request, request_of, init, lookup, getattr, open_file, read}
-use Rattle.fuse_wire.specs.Request.{flush, release, forget, batch_forget}
+use Rattle.fuse_wire.specs.Request.{Request, request_of, init, lookup, getattr, unlink, open_file}
+use Rattle.fuse_wire.specs.Request.{read, opendir, releasedir, flush, release, forget}
+use Rattle.fuse_wire.specs.Request.{batch_forget}
 use Rattle.tree_machine.specs.State.{MachineState, Node, begun}
 use Rattle.tree_machine.specs.Refusals.{refused_if, first_refusal, refused_or}
 use Rattle.tree_machine.specs.Core.{node_ino, opened, open_refusal, link_check, core}
@@ -42,6 +43,9 @@ module _ (s : Settings) (m : MachineState) (node : ℕ) where
       (opened m (node_ino o) flags r)) (sym
       (checked_alike flags h (body_at m.tree.records (node_ino o))))
   core_alike (read fh offset size flags lock) h = refl
+  core_alike (unlink name) h = refl
+  core_alike (opendir flags) h = refl
+  core_alike (releasedir fh) h = refl
   core_alike (flush fh) h = refl
   core_alike (release fh) h = refl
   core_alike (forget number) h = refl

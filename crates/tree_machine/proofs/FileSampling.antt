@@ -12,7 +12,7 @@ use Rattle.tree_model.specs.Opening.{body_answer, unless, open_refused, open_che
 use Rattle.tree_model.proofs.Maps.{inserted, insert_keeps, undone}
 use Rattle.fuse_wire.specs.Fields.{u32_at, u64_at}
 use Rattle.fuse_wire.specs.Head.{head_of}
-use Rattle.fuse_wire.specs.Request.{request_of, request_in, open_of, read_of as read_in, handle_of}
+use Rattle.fuse_wire.specs.Request.{request_of, request_in, flags_of, read_in_of, handle_of}
 use Rattle.fuse_wire.specs.Request.{forget_of, batch_forget_of, open_file, read, flush, release}
 use Rattle.fuse_wire.specs.Request.{forget, batch_forget}
 use Rattle.fuse_wire.specs.Reply.{reply, reply_head, opened_body, u32s, u64s}
@@ -37,13 +37,13 @@ use Rattle.tree_machine.specs.FileSamples.{forget_frame, with_none, thrice_given
 use Rattle.tree_machine.proofs.Sampling.{file, file_at, root_node, top_at}
 use Rattle.tree_machine.proofs.Forgetting.{gone_one}
 
-abbrev hello_node : Node
+abbrev pub hello_node : Node
 hello_node = record { ino = 2; count = 1 }
 
 abbrev hello_handle : Handle
 hello_handle = record { ino = 2; access = 0; append = false }
 
-hello_known : get with_hello.nodes 2 ≡ Some hello_node
+pub hello_known : get with_hello.nodes 2 ≡ Some hello_node
 hello_known = inserted started.nodes 2 hello_node
 
 hello_unknown : get started.nodes 2 ≡ None
@@ -64,7 +64,7 @@ none_open = get-empty {X = Handle} nat_cmp 3
 
 -- ---- OPEN
 
-open_limit : is_at_limit settings with_hello ≡ false
+pub open_limit : is_at_limit settings with_hello ≡ false
 open_limit =
     let one : len started.nodes ≡ 1 = len-insert nat_cmp_total empty 1 root_node
     ∙ ap (λ (o : Option Node). cond (is_some o) (len (empty {X = Node} {R = nat_cmp}))
@@ -77,7 +77,7 @@ open_limit =
     ∙ ap (λ k. nat_le 1024 (2 + k) || nat_le 4294967295 3) (len-empty nat_cmp Handle)
 
 open_asked : request_in_turn Started open_frame ≡ Ok (open_file 0)
-unfolding u32_at u64_at request_of request_in open_of
+unfolding u32_at u64_at request_of request_in flags_of
 open_asked = refl
 
 open_nodeid : (head_of open_frame).nodeid ≡ 2
@@ -142,7 +142,7 @@ open_unknown = ap (λ (o : Option Node). (refused_or with_hello
     (first_refusal (open_refusal settings with_hello o ∷ []))
     (opened with_hello (node_ino o) 0 (open_check_of tree (node_ino o) 0))).0) nine_unknown
 
-root_known : get with_hello.nodes 1 ≡ Some root_node
+pub root_known : get with_hello.nodes 1 ≡ Some root_node
 root_known = insert_keeps started.nodes 2 hello_node 1 (λ h. absurd (omega (arith, h)))
     ∙ inserted empty 1 root_node
 
@@ -184,7 +184,7 @@ release_unknown = ap (released 9) nine_closed
 -- ---- READ
 
 read_asked : request_in_turn Started read_frame ≡ Ok (read 3 1 4 0 None)
-unfolding u32_at u64_at request_of request_in read_in
+unfolding u32_at u64_at request_of request_in read_in_of
 read_asked = refl
 
 reads_file : (offset size : ℕ) → read_by offset size (get with_open.handles 3)

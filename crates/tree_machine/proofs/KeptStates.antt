@@ -46,7 +46,7 @@ or_true true b h = refl
 or_true false b h = h
 
 -- what is held stays stored
-kept_at : (t : Tree) (held : ℕ → Bool) (i : ℕ) → held i ≡ true
+pub kept_at : (t : Tree) (held : ℕ → Bool) (i : ℕ) → held i ≡ true
     → get (keep held t).records i ≡ get t.records i
 kept_at t held i h =
     retained t.records (λ q. is_linked t.records q || held q) i

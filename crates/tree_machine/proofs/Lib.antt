@@ -4,6 +4,7 @@ pub mod Looking
 pub mod Handles
 pub mod Opening
 pub mod Refusals
+pub mod Directories
 pub mod Cores
 pub mod Forgetting
 pub mod Steps
@@ -12,6 +13,7 @@ pub mod Begun
 pub mod First
 pub mod Sampling
 pub mod FileSampling
+pub mod DirectorySampling
 pub mod Pieces
 pub mod Batches
 pub mod Pairs

@@ -1,7 +1,8 @@
 -- OPEN leaves a good state, and is refused by a core request's rule where it is one.
 use Rattle.std.proofs.Common.{◌≡◌, ℕ, ◌+◌, ◌≤◌, Bool, true, false, cond, not, ◌||◌, ◌&&◌, [], ◌∷◌}
-use Rattle.std.proofs.Common.{refl, Option, Some, None, Result, Ok, Err, arith}
+use Rattle.std.proofs.Common.{refl, sym, ◌∙◌, Option, Some, None, Result, Ok, Err, arith}
 use Rattle.std.specs.Prelude.{◌==◌}
+use Rattle.std.proofs.lemmas.Bool.{false≢true}
 use Rattle.std.proofs.lemmas.Bool.Decides.{nat_tests}
 use borrow.Author.Tests.{eqb-true}
 use Rattle.std.specs.FinMap.{insert}
@@ -35,13 +36,14 @@ link_refused true b x y z h = cc
 link_refused false true x y z h = cc
 link_refused false false x y z h = cc
 
--- what is opened, and is no directory, is a file
-pub opened_is_file : (o : Option Body) (flags : ℕ) (h : Handle) → is_directory_at o ≡ false
+-- what is opened to be read is a file, or a directory that isn't appended to
+pub opened_is_openable : (o : Option Body) (flags : ℕ) (h : Handle) → h.access ≡ 0
+    → (is_directory_at o ≡ true → h.append ≡ false)
     → body_answer (λ b. unless (open_refused flags (kind_of b))) o ≡ Ok tt → IsOpenable o h
-opened_is_file None flags h plain ok = cc
-opened_is_file (Some (File bytes)) flags h plain ok = tt
-opened_is_file (Some (Directory es next above)) flags h plain ok = absurd cc
-opened_is_file (Some (Link target)) flags h plain ok =
+opened_is_openable None flags h reads plain ok = cc
+opened_is_openable (Some (File bytes)) flags h reads plain ok = tt
+opened_is_openable (Some (Directory es next above)) flags h reads plain ok = (reads, plain refl)
+opened_is_openable (Some (Link target)) flags h reads plain ok =
     link_refused (access flags == 3) (has_flag O_CREAT flags && has_flag O_EXCL flags) EINVAL EEXIST
     ELOOP ok
 
@@ -112,7 +114,7 @@ checked_alike flags h (Some (Link target)) =
 
 module _ (s : Settings) (m : MachineState) (g : IsGoodMachine s m) where
   pub opened_good : (flags ino : ℕ) → access flags ≡ 0 → is_at_limit s m ≡ false
-      → is_directory_at (body_at m.tree.records ino) ≡ false
+      → (is_directory_at (body_at m.tree.records ino) ≡ true → has_flag O_APPEND flags ≡ false)
       → (r : Result (Unit {0}) ℕ) → open_check_of m.tree ino flags ≡ r
       → Gives s (opened m ino flags r)
   opened_good flags ino to_read open_limit plain (Err e) told = kept_good s m g
@@ -121,7 +123,7 @@ module _ (s : Settings) (m : MachineState) (g : IsGoodMachine s m) where
       in
       kept_good s (record m { handles = insert m.handles m.next v; next = m.next + 1 })
       (handle_drawn s m g v (omega (arith, to_read))
-      (opened_is_file (body_at m.tree.records ino) flags v plain told) open_limit)
+      (opened_is_openable (body_at m.tree.records ino) flags v to_read plain told) open_limit)
 
   pub open_good : (flags : ℕ) (o : Option Node)
       → first_refusal (refused_if (not (opens_to_read flags)) ENOSYS ∷ open_refusal s m o ∷ [])
@@ -144,7 +146,8 @@ module _ (s : Settings) (m : MachineState) (g : IsGoodMachine s m) where
       in
       opened_good flags (node_ino o) (to_read flags read).access
       (fails (is_at_limit s m) ENFILE below.0)
-      (fails (is_directory_at (body_at m.tree.records (node_ino o))) EISDIR plain.0)
+      (λ is. absurd (false≢true (sym (fails (is_directory_at (body_at m.tree.records (node_ino o)))
+      EISDIR plain.0) ∙ is)))
       (open_check_of m.tree (node_ino o) flags) refl where
         is_true : (b : Bool) → not b ≡ false → b ≡ true
         is_true true h = refl

@@ -11,7 +11,7 @@ use Rattle.tree_model.specs.Tree.Body.{Directory}
 use Rattle.tree_model.specs.Making.{new_tree, joined_by, file_record}
 use Rattle.tree_model.proofs.Maps.{inserted, insert_keeps}
 use Rattle.fuse_wire.specs.Fields.{u32_at, u64_at}
-use Rattle.fuse_wire.specs.Request.{request_of, request_in, init_of, lookup_of, getattr_of}
+use Rattle.fuse_wire.specs.Request.{request_of, request_in, init_of, getattr_of}
 use Rattle.fuse_wire.specs.Request.{only_name, name_at}
 use Rattle.fuse_wire.specs.Reply.{reply, reply_head, init_body, entry_body, attr_body, attr_bytes}
 use Rattle.fuse_wire.specs.Reply.{u32s, u64s}
@@ -103,7 +103,7 @@ file_at = ap (λ (rs : Records). get rs 2) records_are
 root_at : get started.nodes 1 ≡ Some root_node
 root_at = inserted empty 1 root_node
 
-found : find false tree 1 (codes "hello") ≡ Ok 2
+pub found : find false tree 1 (codes "hello") ≡ Ok 2
 found = ap (λ (o : Option Record). ino_among false (codes "hello")
     (option_and_then entries_of (option_map (λ (r : Record). r.body) o))) top_at
 
@@ -170,7 +170,7 @@ hello_is_text = is_utf8-from_IsUtf8 (codes "hello")
     (IsUtf8-from_ascii (codes "hello") (ascii_at (codes "hello")
     (lit< tt, (lit< tt, (lit< tt, (lit< tt, (lit< tt, tt)))))))
 
-hello_has_no_fault : name_fault (codes "hello") ≡ None
+pub hello_has_no_fault : name_fault (codes "hello") ≡ None
 hello_has_no_fault = ap (λ (b : Bool). cond {A = Option ℕ} (not b) (Some 22) None) hello_is_text
 
 passed : lookup_refusal settings started (codes "hello") (get started.nodes 1) ≡ None
@@ -198,7 +198,7 @@ unfolding u32_at u64_at reply reply_head entry_body attr_bytes u32s u64s shown
 entry_spelled = refl
 
 lookup_asked : request_in_turn Started lookup_frame ≡ Ok (lookup (codes "hello"))
-unfolding u32_at u64_at request_of request_in lookup_of only_name name_at
+unfolding u32_at u64_at request_of request_in only_name name_at
 lookup_asked = refl
 
 nodeid_is : (head_of lookup_frame).nodeid ≡ 1

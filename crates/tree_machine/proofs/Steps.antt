@@ -3,8 +3,8 @@ use Rattle.std.proofs.Common.{◌≡◌, ℕ, List, [], ◌∷◌, None, Result,
 use Rattle.std.specs.FinMap.{get, remove}
 use Rattle.tree_model.specs.Settings.{Settings}
 use Rattle.fuse_wire.specs.Head.{head_of}
-use Rattle.fuse_wire.specs.Request.{Request, init, lookup, getattr, open_file, read, flush, release}
-use Rattle.fuse_wire.specs.Request.{forget, batch_forget}
+use Rattle.fuse_wire.specs.Request.{Request, init, lookup, getattr, unlink, open_file, read, opendir}
+use Rattle.fuse_wire.specs.Request.{releasedir, flush, release, forget, batch_forget}
 use Rattle.tree_machine.specs.State.{MachineState}
 use Rattle.tree_machine.specs.State.Phase.{Started}
 use Rattle.tree_machine.specs.Requests.{refusal_before, effect_of, answer_of}
@@ -17,6 +17,7 @@ pub use Rattle.tree_machine.proofs.KeptStates.{kept_good}
 pub use Rattle.tree_machine.proofs.Nodes.{given_good}
 use Rattle.tree_machine.proofs.Looking.{lookup_good}
 use Rattle.tree_machine.proofs.Opening.{open_good}
+use Rattle.tree_machine.proofs.Directories.{opendir_good, unlink_good}
 use Rattle.tree_machine.proofs.Handles.{handle_gone}
 use Rattle.tree_machine.proofs.Forgetting.{forgotten_good, all_forgotten_good}
 
@@ -54,6 +55,10 @@ module _ (s : Settings) where
     effect_good node (getattr handle) none = kept_good s m g
     effect_good node (open_file flags) none = open_good s m g flags (get m.nodes node) none
     effect_good node (read fh offset size flags lock) none = kept_good s m g
+    effect_good node (unlink name) none = unlink_good s m g name (get m.nodes node)
+    effect_good node (opendir flags) none = opendir_good s m g (get m.nodes node) none
+    effect_good node (releasedir fh) none = kept_good s (record m { handles = remove m.handles fh })
+        (handle_gone s m g fh)
     effect_good node (flush fh) none = kept_good s m g
     effect_good node (release fh) none = kept_good s (record m { handles = remove m.handles fh })
         (handle_gone s m g fh)

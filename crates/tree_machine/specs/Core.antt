@@ -6,20 +6,23 @@ use Rattle.std.specs.FinMap as map
 use Rattle.port_base.specs.Names.{name_fault}
 use Rattle.port_base.specs.OpenFlags.{access, has_flag}
 use Rattle.port_base.specs.declared.errno.TheConstants.{EBADF, EISDIR, ELOOP, ENFILE, ENOENT}
-use Rattle.port_base.specs.declared.errno.TheConstants.{EPROTO, ESTALE}
-use Rattle.port_base.specs.declared.oflag.TheConstants.{O_APPEND, O_WRONLY}
+use Rattle.port_base.specs.declared.errno.TheConstants.{ENOTDIR, EPROTO, ESTALE}
+use Rattle.port_base.specs.declared.oflag.TheConstants.{O_APPEND, O_RDONLY, O_WRONLY}
 use Rattle.tree_model.specs.Tree.{Tree, Body, body_at, is_directory_at}
 use Rattle.tree_model.specs.Tree.Body.{File, Directory, Link}
 use Rattle.tree_model.specs.Finding.{find}
 use Rattle.tree_model.specs.Attributes.{stat_of}
 use Rattle.tree_model.specs.Opening.{read_of}
+use Rattle.tree_model.specs.Unlinking.{unlink_of}
 use Rattle.tree_model.specs.Settings.{Settings, shown_told}
 use Rattle.tree_model.specs.declared.attributes.Attr.{Attr}
-use Rattle.fuse_wire.specs.Request.{Request, init, lookup, getattr, open_file, read, flush}
-use Rattle.fuse_wire.specs.Request.{release, forget, batch_forget}
+use Rattle.fuse_wire.specs.Request.{Request, init, lookup, getattr, unlink, open_file, read}
+use Rattle.fuse_wire.specs.Request.{opendir, releasedir, flush, release, forget}
+use Rattle.fuse_wire.specs.Request.{batch_forget}
 use Rattle.fuse_wire.specs.declared.protocol.TheConstants.{FUSE_KERNEL_VERSION, FUSE_LEAST_MINOR}
 use Rattle.fuse_wire.specs.declared.protocol.TheConstants.{FUSE_KERNEL_MINOR_VERSION, MAX_READ}
-use Rattle.tree_machine.specs.State.{MachineState, Node, Handle, is_at_limit, COUNT_LIMIT}
+use Rattle.tree_machine.specs.State.{MachineState, Node, Handle, is_named, is_at_limit}
+use Rattle.tree_machine.specs.State.{COUNT_LIMIT}
 use Rattle.tree_machine.specs.State.Phase.{Started}
 use Rattle.tree_machine.specs.Replies.{Reply, fuse_attributes}
 use Rattle.tree_machine.specs.Replies.Reply.{Refused, Granted, Entry, Attributes, Opened, Bytes}
@@ -158,6 +161,26 @@ abbrev pub bytes_reply : Result (List ℕ) ℕ → Reply
 bytes_reply (Ok bytes) = Bytes bytes
 bytes_reply (Err e) = Refused e
 
+-- ---- OPENDIR and UNLINK
+
+abbrev pub opendir_refusal : Settings → MachineState → Option Node → Option ℕ
+opendir_refusal s m node = first_refusal (
+    refused_unknown node ESTALE
+    ∷ refused_if (is_at_limit s m) ENFILE
+    ∷ refused_if (not (is_directory_at (body_at m.tree.records (node_ino node)))) ENOTDIR
+    ∷ [])
+
+abbrev pub unlink_refusal : List ℕ → Option Node → Option ℕ
+unlink_refusal name node = first_refusal (refused_unknown node ESTALE ∷ name_fault name ∷ [])
+
+-- a name that goes; a file that a node or a handle names stays
+abbrev pub unlink_told : MachineState → ℕ → List ℕ → Result (Unit {0} × Tree) ℕ
+unlink_told m dir name = unlink_of (is_named m.nodes m.handles) m.tree dir name
+
+abbrev pub unlinked : MachineState → Result (Unit {0} × Tree) ℕ → Reply × MachineState
+unlinked m (Ok (u, t)) = (Done, record m { tree = t })
+unlinked m (Err e) = (Refused e, m)
+
 -- ---- every core request, asked of a node
 
 abbrev pub core_refusal : Settings → MachineState → ℕ → Request → Option ℕ
@@ -166,6 +189,9 @@ core_refusal s m node (lookup name) = lookup_refusal s m name (map.get m.nodes n
 core_refusal s m node (getattr handle) = getattr_refusal m node handle
 core_refusal s m node (open_file flags) = open_refusal s m (map.get m.nodes node)
 core_refusal s m node (read fh offset size flags lock) = read_refusal m (map.get m.handles fh)
+core_refusal s m node (unlink name) = unlink_refusal name (map.get m.nodes node)
+core_refusal s m node (opendir flags) = opendir_refusal s m (map.get m.nodes node)
+core_refusal s m node (releasedir fh) = refused_unknown (map.get m.handles fh) EBADF
 core_refusal s m node (flush fh) = refused_unknown (map.get m.handles fh) EBADF
 core_refusal s m node (release fh) = refused_unknown (map.get m.handles fh) EBADF
 core_refusal s m node (forget number) = None
@@ -182,6 +208,11 @@ core_effect s m node (open_file flags) =
     opened m ino flags (link_check (body_at m.tree.records ino))
 core_effect s m node (read fh offset size flags lock) =
     (bytes_reply (bytes_read m offset size (map.get m.handles fh)), m)
+core_effect s m node (unlink name) =
+    unlinked m (unlink_told m (node_ino (map.get m.nodes node)) name)
+core_effect s m node (opendir flags) =
+    (Opened m.next, with_handle m (node_ino (map.get m.nodes node)) O_RDONLY)
+core_effect s m node (releasedir fh) = (Done, record m { handles = map.remove m.handles fh })
 core_effect s m node (flush fh) = (Done, m)
 core_effect s m node (release fh) = (Done, record m { handles = map.remove m.handles fh })
 core_effect s m node (forget number) = (Done, forgotten m node number)

@@ -11,3 +11,4 @@ pub mod Messages
 pub mod Faults
 pub mod Samples
 pub mod FileSamples
+pub mod DirectorySamples

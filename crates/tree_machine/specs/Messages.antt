@@ -1,7 +1,8 @@
 -- How many 9P messages a gate takes for a request: counted from the tree, and not from what a gate
 -- sent.
 use Rattle.std.specs.Prelude.{ℕ, ◌+◌, ◌-◌, ◌/◌, max, min, List, [], ◌∷◌, length, Option, Some}
-use Rattle.std.specs.Prelude.{None, Result, Ok, Err, if◌then◌else◌, nat_lt}
+use Rattle.std.specs.Prelude.{None, Result, Ok, Err, Bool, drop, zero, suc, ◌||◌, ◌==◌}
+use Rattle.std.specs.Prelude.{if◌then◌else◌, nat_lt}
 use Rattle.std.specs.FinMap as map
 use Rattle.std.specs.Int.{div_ceil}
 use Rattle.tree_model.specs.Tree.{Tree}
@@ -9,12 +10,13 @@ use Rattle.tree_model.specs.Finding.{find}
 use Rattle.tree_model.specs.Opening.{open_check_of}
 use Rattle.tree_model.specs.Settings.{Settings}
 use Rattle.fuse_wire.specs.Head.{head_of}
-use Rattle.fuse_wire.specs.Request.{Request, init, lookup, getattr, open_file, read, flush}
-use Rattle.fuse_wire.specs.Request.{release, forget, batch_forget}
+use Rattle.fuse_wire.specs.Request.{Request, init, lookup, getattr, unlink, open_file, read}
+use Rattle.fuse_wire.specs.Request.{opendir, releasedir, flush, release, forget}
+use Rattle.fuse_wire.specs.Request.{batch_forget}
 use Rattle.fuse_wire.specs.declared.protocol.TheConstants.{MAX_READ}
 use Rattle.tree_machine.specs.State.{MachineState, Node, begun}
 use Rattle.tree_machine.specs.Refusals.{none_or}
-use Rattle.tree_machine.specs.Core.{node_ino, node_of, bytes_read}
+use Rattle.tree_machine.specs.Core.{node_ino, handle_ino, node_of, bytes_read}
 use Rattle.tree_machine.specs.Requests.{refusal_before}
 use Rattle.tree_machine.specs.Forgetting.{forgotten, all_forgotten, pairs_of}
 use Rattle.tree_machine.specs.Step.{request_in_turn, step}
@@ -59,6 +61,9 @@ effect_messages piece s m node (open_file flags) =
     opened_messages (open_check_of m.tree (node_ino (map.get m.nodes node)) flags)
 effect_messages piece s m node (read fh offset size flags lock) =
     read_messages piece (min size MAX_READ) (bytes_read m offset size (map.get m.handles fh))
+effect_messages piece s m node (unlink name) = 1
+effect_messages piece s m node (opendir flags) = 2
+effect_messages piece s m node (releasedir fh) = 1
 effect_messages piece s m node (flush fh) = 0
 effect_messages piece s m node (release fh) = 1
 effect_messages piece s m node (forget number) = gone m (forgotten m node number)

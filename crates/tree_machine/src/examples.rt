@@ -1,10 +1,12 @@
 //! The first example, computed. Each function makes no call: its contract is the example.
 ghost use Rattle.std.specs.Prelude.{◌≡◌, true, false, Ok, Some, None, [], codes};
 ghost use Rattle.std.specs.FinMap as map;
-ghost use Rattle.port_base.specs.declared.errno.TheConstants.{EBADF, EISDIR, ENOSYS, ESTALE};
+ghost use Rattle.port_base.specs.declared.errno.TheConstants.{EBADF, EISDIR, ENOSYS, ENOTDIR};
+ghost use Rattle.port_base.specs.declared.errno.TheConstants.{ESTALE};
 ghost use Rattle.tree_machine.specs.State.{begun};
-ghost use Rattle.fuse_wire.specs.Request.{open_file, read, flush, release};
-ghost use Rattle.tree_machine.specs.Replies.Reply.{Refused, Bytes, Done};
+ghost use Rattle.fuse_wire.specs.Request.{unlink, open_file, read, opendir, flush};
+ghost use Rattle.fuse_wire.specs.Request.{release};
+ghost use Rattle.tree_machine.specs.Replies.Reply.{Refused, Opened, Bytes, Done};
 ghost use Rattle.tree_machine.specs.Requests.{answer_of, is_core};
 ghost use Rattle.tree_machine.specs.Forgetting.{forgotten};
 ghost use Rattle.tree_machine.specs.FileSamples.{open_frame, open_reply, with_open, read_frame};
@@ -12,6 +14,8 @@ ghost use Rattle.tree_machine.specs.FileSamples.{read_reply, release_frame, rele
 ghost use Rattle.tree_machine.specs.FileSamples.{with_closed, forget_frame, with_none};
 ghost use Rattle.tree_machine.specs.FileSamples.{thrice_given, batch_frame};
 ghost use Rattle.tree_machine.specs.Messages.{messages, pieces};
+ghost use Rattle.tree_machine.specs.DirectorySamples.{with_root_open};
+ghost use Rattle.tree_machine.specs.DirectorySamples.{hello_without_name};
 ghost use Rattle.tree_machine.specs.Step.{step, frame_answer};
 ghost use Rattle.tree_machine.specs.Samples.{tree, settings, init_frame, init_reply, started};
 ghost use Rattle.tree_machine.specs.Samples.{lookup_frame, entry_reply_bytes, getattr_frame};
@@ -91,6 +95,24 @@ fn hello_is_forgotten()
     ensures batch_silent { (step settings with_hello batch_frame).0 ≡ [] }
     ensures batch_state { (frame_answer settings with_hello batch_frame).1 ≡ with_none }
     ensures batch_messages { messages 4341 settings with_hello batch_frame ≡ 1 }
+{}
+
+/// OPENDIR of the root gives handle 3; a file isn't opened so.
+#[tactic(auto, using(crate::proofs::DirectorySampling::root_opened, crate::proofs::DirectorySampling::file_not_opened))]
+fn the_root_is_opened()
+    ensures root { answer_of settings with_hello 1 (Ok (opendir 0)) ≡ (Opened 3, with_root_open) }
+    ensures file { answer_of settings with_hello 2 (Ok (opendir 0)) ≡ (Refused ENOTDIR, with_hello) }
+{}
+
+/// UNLINK of `hello` is done, and its file stays, which node 2 names; in a file there is no name.
+#[tactic(auto, using(crate::proofs::DirectorySampling::hello_unlinked, crate::proofs::DirectorySampling::hello_stays, crate::proofs::DirectorySampling::unlinked_below_file))]
+fn hello_is_unlinked()
+    ensures reply { (answer_of settings with_hello 1 (Ok (unlink (codes "hello")))).0 ≡ Done }
+    ensures stays { map.get
+        (answer_of settings with_hello 1 (Ok (unlink (codes "hello")))).1.tree.records 2
+        ≡ Some hello_without_name }
+    ensures below { answer_of settings with_hello 2 (Ok (unlink (codes "hello")))
+        ≡ (Refused ENOTDIR, with_hello) }
 {}
 
 /// A node that was given three times is counted down by two.

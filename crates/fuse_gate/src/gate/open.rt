@@ -39,7 +39,7 @@ fn handle_by(node: Node, flags: u32) -> Handle
 
 impl Gate {
     // Opens a copy of a node's fid under the next number, which becomes a handle, or goes again.
-    fn open_node<N: Nine>(
+    pub(super) fn open_node<N: Nine>(
         &mut self,
         nine: &mut N,
         id: u32,
@@ -75,7 +75,7 @@ impl Gate {
         }
     }
 
-    // Opens a node to read it.
+    // Opens a node to read it, and no directory.
     pub(super) fn open<N: Nine>(
         &mut self,
         nine: &mut N,

@@ -1,4 +1,4 @@
-// FLUSH and RELEASE.
+// FLUSH, RELEASE and RELEASEDIR.
 ghost use Rattle.std.specs.Prelude.{◌≡◌, IfOk, OnErr};
 ghost use Rattle.fuse_wire.specs.Request.{flush, release};
 ghost use Rattle.fid_model.specs.Fids.{IsGoodServer};
@@ -28,7 +28,7 @@ impl Gate {
         }
     }
 
-    // Ends a handle.
+    // Ends a handle, of whatever kind.
     pub(super) fn release<N: Nine>(&mut self, nine: &mut N, handle: u64) -> Result<Reply, NoMemory>
         requires { IsInStep self.old (N.at nine.old).state }
         ensures served { IfOk result (λ reply. ServesRequest 0 (release handle)

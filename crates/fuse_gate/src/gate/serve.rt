@@ -55,6 +55,9 @@ impl Gate {
                 size,
                 ..
             } => self.read(nine, fh, offset, size),
+            Body::OpenDir { .. } => self.opendir(nine, node),
+            Body::ReleaseDir { fh } => self.release(nine, fh),
+            Body::Unlink { name } => self.unlink(nine, node, name),
             Body::Flush { fh } => Ok(self.flush(fh)),
             Body::Release { fh } => self.release(nine, fh),
             Body::Forget { nlookup } => {

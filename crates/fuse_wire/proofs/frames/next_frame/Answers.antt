@@ -1,5 +1,6 @@
 -- Each answer of a taking, from what the two reads took.
 use Rattle.std.proofs.Common.{◌≡◌, take, false, ap, sym, ◌∙◌, arith, take_all}
+use Rattle.std.proofs.lemmas.Result.{err_from_is_err_and}
 use Rattle.fuse_wire.specs.Fields.{u32_at}
 use Rattle.fuse_wire.specs.Cuts.{is_allowed}
 use Rattle.fuse_wire.proofs.Takings.{stands-nothing, stands-few, stands-odd_length, takes-frame}
@@ -35,24 +36,24 @@ returns-then-not-is_allowed-clause-takes g c =
       (c.read_full.new.buf, rw whole at e.bytes, c.read_full.auto.buf),
     )
 
-pub returns-in-Ok-true-clause-takes : goal.returns-in-Ok-true-clause-takes
-returns-in-Ok-true-clause-takes g c =
+pub returns-then-branch-clause-takes : goal.returns-then-branch-clause-takes
+returns-then-branch-clause-takes g c =
     let e = c.in-Ok.ensures in
     let whole : take c.in-Ok.n c.read_full.new.buf ≡ c.read_full.new.buf =
     take_all _ _ (omega (arith, c.read_full.auto.buf)) in
-    let filled = rw c.in-Ok-true.field-0-test at c.in-Ok-true.ensures.fills in
+    let filled = rw c.if-branch.true at c.in_ok-fill.ensures.fills in
     let behind = rw c.in_ok-begin.ensures.ok at filled.1 in
     let t = takes-frame _ _ _ c.read_full.new.buf c.u32_at-len.result c.read_full.auto.buf
     c.u32_at-len.ensures (sym c.if-not-is_allowed.ensures.value) (omega arith)
     (rw whole at e.bytes) _ behind in
     (filled.0 ∙ e.cause, t.0, t.1)
 
-pub returns-in-Ok-false-clause-takes : goal.returns-in-Ok-false-clause-takes
-returns-in-Ok-false-clause-takes g c =
+pub returns-else-branch-clause-takes : goal.returns-else-branch-clause-takes
+returns-else-branch-clause-takes g c =
     let e = c.in-Ok.ensures in
     let whole : take c.in-Ok.n c.read_full.new.buf ≡ c.read_full.new.buf =
     take_all _ _ (omega (arith, c.read_full.auto.buf)) in
-    let filled = rw c.in-Ok-false.field-0-test at c.in-Ok-false.ensures.fills in (
+    let filled = rw c.if-branch.false at c.in_ok-fill.ensures.fills in (
       filled.0 ∙ e.cause,
       stands-part _ _ _ c.read_full.new.buf c.u32_at-len.result
           c.read_full.auto.buf c.u32_at-len.ensures (sym c.if-not-is_allowed.ensures.value)
@@ -60,12 +61,14 @@ returns-in-Ok-false-clause-takes g c =
       filled.2,
     )
 
-pub returns-in-Err-fill-clause-takes : goal.returns-in-Err-fill-clause-takes
-returns-in-Err-fill-clause-takes g c =
+pub returns-in_err-fill-clause-takes : goal.returns-in_err-fill-clause-takes
+returns-in_err-fill-clause-takes g c =
     let e = c.in-Ok.ensures in
     let whole : take c.in-Ok.n c.read_full.new.buf ≡ c.read_full.new.buf =
     take_all _ _ (omega (arith, c.read_full.auto.buf)) in
-    takes-stopped _ _ _ c.read_full.new.buf c.u32_at-len.result c.read_full.auto.buf
+    let p = err_from_is_err_and c.from_residual-in_err-fill.result
+    c.from_residual-in_err-fill.ensures.1 in
+    rw (p.1, p.2) (takes-stopped _ _ _ c.read_full.new.buf c.u32_at-len.result c.read_full.auto.buf
     c.u32_at-len.ensures (sym c.if-not-is_allowed.ensures.value) (omega arith)
     (rw whole at e.bytes) _ _ _ c.begin.new.frame.items c.fill.new.frame.items
-    c.in-Err-fill.error e.cause c.in-Err-fill.ensures.fills
+    c.in_err-fill.field-0.0 e.cause c.in_err-fill.ensures.fills)

@@ -1,0 +1,50 @@
+-- The refusals in order, and then the opening.
+use Rattle.std.proofs.Common.{sym, ◌∙◌, arith}
+use Rattle.fuse_wire.specs.Request.{opendir}
+use Rattle.fuse_gate.proofs.Asking.{ok_map}
+use Rattle.fuse_gate.proofs.Standings.{node_below}
+use Rattle.fuse_gate.proofs.Serving.{refused_before}
+use Rattle.fuse_gate.proofs.OpeningDirectories.{opendir_unknown, opendir_full, opendir_file}
+use Rattle.fuse_gate.proofs.OpeningDirectories.{may_open_directory, opendir_opened}
+use Rattle.fuse_gate.proofs.gate.Gate.opendir.Goals as goal
+
+pub returns-in_default-clause-served : goal.returns-in_default-clause-served
+returns-in_default-clause-served g c =
+    refused_before c.requires (g.met.N.Nine.good c.args.nine.now) c.args.node (opendir 0) _
+    (opendir_unknown (g.N.Nine.at c.args.nine.now) c.requires
+    (g.met.N.Nine.good c.args.nine.now) c.args.node
+    (sym (c.in_default.ensures ∙ c.get.ensures)))
+
+pub returns-then-is_full-clause-served : goal.returns-then-is_full-clause-served
+returns-then-is_full-clause-served g c =
+    refused_before c.requires (g.met.N.Nine.good c.args.nine.now) c.args.node (opendir 0) _
+    (opendir_full (g.N.Nine.at c.args.nine.now) c.requires (g.met.N.Nine.good c.args.nine.now)
+    c.args.node c.in-Some.found (sym (c.in-Some.ensures ∙ c.get.ensures))
+    c.if-is_full.ensures.full)
+
+pub returns-then-found-clause-served : goal.returns-then-found-clause-served
+returns-then-found-clause-served g c =
+    refused_before c.requires (g.met.N.Nine.good c.args.nine.now) c.args.node (opendir 0) _
+    (opendir_file (g.N.Nine.at c.args.nine.now) c.requires (g.met.N.Nine.good c.args.nine.now)
+    c.args.node c.in-Some.found (sym (c.in-Some.ensures ∙ c.get.ensures))
+    c.if-is_full.ensures.full c.if-found.true)
+
+pub overflow_cast-node : goal.overflow_cast-node
+overflow_cast-node g c = let low = node_below c.requires c.args.node c.in-Some.found
+    (sym (c.in-Some.ensures ∙ c.get.ensures)) in omega arith
+
+pub open_node-requires : goal.open_node-requires
+open_node-requires g c =
+    may_open_directory (g.N.Nine.at c.args.nine.now) c.requires
+    (g.met.N.Nine.good c.args.nine.now) c.args.node c.in-Some.found
+    (sym (c.in-Some.ensures ∙ c.get.ensures)) c.if-is_full.ensures.full c.if-found.false
+    c.if-is_full.ensures.small
+
+pub returns-clause-served : goal.returns-clause-served
+returns-clause-served g c =
+    ok_map c.open_node.result _ _
+    (λ r served. opendir_opened (g.N.Nine.at c.args.nine.now) c.requires
+    (g.met.N.Nine.good c.args.nine.now) c.args.node c.in-Some.found
+    (sym (c.in-Some.ensures ∙ c.get.ensures)) c.if-is_full.ensures.full c.if-found.false _ _
+    served)
+    c.open_node.ensures.served
