@@ -11,7 +11,8 @@ use Rattle.mount9_run.specs.Texts.{split_once}
 use Rattle.mount9_run.specs.Paths.{is_path}
 use Rattle.mount9_run.specs.Header.{header, text_of, text_from, header_of, start_at}
 use Rattle.mount9_run.specs.HeaderLines.{stamp_at}
-use Rattle.mount9_run.specs.Numbers.{number_field, number_of}
+use Rattle.port_base.specs.Decimals.{number_of}
+use Rattle.mount9_run.specs.Numbers.{number_field}
 use Rattle.mount9_run.specs.Reading.{lines_of, keyword_at, after_word, field_at}
 use Rattle.mount9_run.specs.Command.{with_word, with_words, command}
 use Rattle.mount9_run.specs.Outcome.{outcome}

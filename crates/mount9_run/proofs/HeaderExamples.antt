@@ -8,7 +8,8 @@ use Rattle.port_base.specs.Names.{name_fault}
 use Rattle.mount9_run.specs.Texts.{split_once}
 use Rattle.mount9_run.specs.Paths.{is_path}
 use Rattle.mount9_run.specs.Reading.{◌>>=◌, check, or_refused, after_word, field_at}
-use Rattle.mount9_run.specs.Numbers.{number_at, number_field, number_of, mode_field, mode_of}
+use Rattle.port_base.specs.Decimals.{number_of}
+use Rattle.mount9_run.specs.Numbers.{number_at, number_field, mode_field, mode_of}
 use Rattle.port_base.specs.Escapes.{unescaped}
 use Rattle.mount9_run.specs.HeaderLines.{present_at}
 use Rattle.mount9_run.specs.HeaderRecords.{RecordLine, file_at, is_record_path, record_path_at}

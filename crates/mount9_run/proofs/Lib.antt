@@ -1,5 +1,4 @@
 pub mod Alone
-pub mod Digits
 pub mod ByComputing
 pub mod FileLines
 pub mod Gathering

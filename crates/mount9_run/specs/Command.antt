@@ -5,7 +5,8 @@ use Rattle.std.specs.Prelude.{slice_get, false}
 use Rattle.std.specs.Option.{option_map_or}
 use Rattle.mount9_run.specs.Texts.{split_once}
 use Rattle.mount9_run.specs.Paths.{is_path, is_root}
-use Rattle.mount9_run.specs.Numbers.{number_of, in_range}
+use Rattle.port_base.specs.Decimals.{number_of}
+use Rattle.mount9_run.specs.Numbers.{in_range}
 use Rattle.mount9_run.specs.declared.command.TheConstants.{MSIZE, TURNS, FID_LIMIT}
 
 -- what `serve` is to serve, and where; the greatest size of a 9P message, the most frames, and the

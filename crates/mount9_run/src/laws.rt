@@ -1,11 +1,9 @@
 //! What the definitions of this crate imply. Each function makes no call: its contract is the law.
-ghost use Rattle.std.specs.Prelude.{◌≡◌, ◌↔◌, ◌⊎◌, ◌<◌, ◌^◌, ℕ, List, ◌∷◌, ◌++◌, Option, Some};
+ghost use Rattle.std.specs.Prelude.{◌≡◌, ◌↔◌, ◌⊎◌, ℕ, List, ◌∷◌, ◌++◌, Option, Some};
 ghost use Rattle.std.specs.Prelude.{None};
-ghost use Rattle.std.specs.Fmt.{decimal};
 ghost use Rattle.port_base.specs.Faults.{Faulted};
 ghost use Rattle.mount9_run.specs.Causes.{IsValidInput, IsStoppedInput, IsRefusedHeader};
 ghost use Rattle.mount9_run.specs.Command.{command};
-ghost use Rattle.mount9_run.specs.Numbers.{number_of};
 ghost use Rattle.mount9_run.specs.Outcome.{outcome};
 ghost use Rattle.mount9_run.specs.Running.{Ran};
 ghost use Rattle.mount9_run.specs.declared.run.Status.{Status};
@@ -17,13 +15,6 @@ pub fn words_in_any_order()
     ensures { (first one other : List ℕ) (before after : List (List ℕ))
         → command (first ∷ (before ++ (one ∷ other ∷ after)))
         ≡ command (first ∷ (before ++ (other ∷ one ∷ after))) }
-{}
-
-/// The text of a number is its decimal text, and no other.
-#[tactic(auto, using(crate::proofs::Digits::number_of_decimal))]
-pub fn numbers_are_decimal_texts()
-    ensures { (text : List ℕ) (n : ℕ) → n < 2 ^ 64
-        → ((number_of text ≡ Some n) ↔ (text ≡ decimal n)) }
 {}
 
 /// A run answers that it served exactly where the input is valid: words and header are accepted,

@@ -8,3 +8,4 @@ pub mod Escaping
 pub mod Unescaping
 pub mod BlockWrites
 pub mod ByComputing
+pub mod DecimalTexts

@@ -12,3 +12,4 @@ pub mod Blocks
 pub mod Words
 pub mod Tables
 pub mod Failing
+pub mod Decimals

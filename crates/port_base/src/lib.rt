@@ -4,6 +4,7 @@
 
 pub mod blocks;
 pub mod buffer;
+pub mod decimals;
 pub mod errno;
 pub mod escapes;
 mod examples;

@@ -2,49 +2,21 @@
 ghost use Rattle.std.specs.Prelude.{◌≡◌, ◌<◌, ◌≤◌, ◌-◌, ◌^◌, length, IfOk, IfSome, IsTrue};
 ghost use Rattle.std.specs.Prelude.{EachIndex, slice_index};
 ghost use Rattle.std.specs.List.{list_all};
-ghost use Rattle.std.specs.Char.{is_ascii_digit};
 ghost use Rattle.mount9_run.specs.Reading.{Gives};
-ghost use Rattle.mount9_run.specs.Numbers.{is_number, number_of, in_range, number_at};
-ghost use Rattle.mount9_run.specs.Numbers.{number_field, is_octal, mode_of, mode_field, CountsTo};
+ghost use Rattle.port_base.specs.Decimals.{number_of};
+ghost use Rattle.mount9_run.specs.Numbers.{in_range, number_at};
+ghost use Rattle.mount9_run.specs.Numbers.{number_field, is_octal, mode_of, mode_field};
 
 use crate::header::error::HeaderError;
 use crate::header::lines::field;
-
-fn are_digits(text: &[u8]) -> bool
-    ensures { result ≡ list_all is_ascii_digit text.now }
-{
-    text.iter().all(|b| b.is_ascii_digit())
-}
-
-// Digits, the first of them 0 only alone.
-fn is_number(text: &[u8]) -> bool
-    ensures { result ≡ is_number text.now }
-{
-    !text.is_empty() && are_digits(text) && (text.len() == 1 || text[0] != b'0')
-}
-
-// The number that is written so, where it is below 2^64.
-fn value(text: &[u8]) -> Option<u64>
-    ensures { CountsTo result (number_of text.now) }
-{
-    if !is_number(text) {
-        return None;
-    }
-    match std::str::from_utf8(text) {
-        Ok(digits) => match digits.parse::<u64>() {
-            Ok(n) => Some(n),
-            Err(_) => None,
-        },
-        Err(_) => unreachable!(),
-    }
-}
+use port_base::decimals::number_of;
 
 /// A number from `low` to `high`, where the text is one.
 pub fn number_in(low: u64, high: u64, text: &[u8]) -> Option<u64>
     ensures value { result ≡ in_range low high (number_of text.now) }
     ensures range { IfSome result (λ n. (low ≤ n) × (n ≤ high)) }
 {
-    match value(text) {
+    match number_of(text) {
         Some(n) => { if n >= low && n <= high { Some(n) } else { None } }
         None => None,
     }

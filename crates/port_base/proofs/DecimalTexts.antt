@@ -17,7 +17,7 @@ use Rattle.std.proofs.lemmas.Fmt.{IsAscii-from_digits, decimal-digits_value, dig
 use Rattle.std.proofs.lemmas.Fmt.{digits_value-decimal, decimal_nonempty, first_decimal}
 use Rattle.std.proofs.lemmas.Fmt.{decimal_digit}
 use Rattle.std.proofs.lemmas.Str.{IsUtf8-from_ascii}
-use Rattle.mount9_run.specs.Numbers.{is_number, number_of, CountsTo}
+use Rattle.port_base.specs.Decimals.{is_number, number_of, CountsTo}
 
 abbrev AreDigits : List ℕ → Type 0
 AreDigits text = list_all is_ascii_digit text ≡ true

@@ -1,8 +1,8 @@
 -- What `parse` reads of digits is their value.
 use Rattle.std.proofs.Common.{sym}
-use Rattle.mount9_run.proofs.Digits.{number_of-other, IsUtf8-number, number_of-parsed}
-use Rattle.mount9_run.proofs.Digits.{number_of-large}
-use Rattle.mount9_run.proofs.header.numbers.value.Goals as goal
+use Rattle.port_base.proofs.DecimalTexts.{number_of-other, IsUtf8-number, number_of-parsed}
+use Rattle.port_base.proofs.DecimalTexts.{number_of-large}
+use Rattle.port_base.proofs.decimals.number_of.Goals as goal
 
 pub returns-then-not-is_number : goal.returns-then-not-is_number
 returns-then-not-is_number c = λ n lt h. let e =
