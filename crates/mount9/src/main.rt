@@ -20,6 +20,11 @@ input. Serves the frames, and writes a report to standard output.
   msize=N      the greatest size of a 9P message, 256 to 65560 bytes (65560); a session needs 4352
   turns=N      how many frames are handled at most, 1 to 8192 (4096)
   ids=N        how many node ids and handles there may be, 0 to 1000000 (1024)
+  casefold=B   whether a name that differs in the case of ASCII letters alone is found where the
+               exact name isn't there, true or false (false)
+  uid=H:C      user H of the tree is shown as user C, two numbers below 2^32; any number of times,
+               but once for each H
+  gid=H:C      the same of groups
 
 The status is 0 where the input was read to its end, 1 where the run stopped early, 2 for wrong
 words, 3 for a wrong header, 4 out of memory, 5 where the input and 6 where the output failed.

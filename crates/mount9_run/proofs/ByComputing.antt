@@ -1,5 +1,10 @@
 -- The definitions at examples.
-use Rattle.std.proofs.Common.{◌≡◌, ℕ, List, [], ◌∷◌, Some, None, Err, refl}
+use Rattle.std.proofs.Common.{◌≡◌, ℕ, List, [], ◌∷◌, Some, None, Err, refl, ap, cond, is_some, true}
+use Rattle.std.proofs.Common.{false}
+use Rattle.std.specs.declared.option.Option.{Option}
+use Rattle.std.specs.Ordering.{nat_cmp}
+use Rattle.std.specs.Cmp.{nat_cmp_total}
+use Rattle.std.specs.FinMap as map
 use Rattle.std.specs.Prelude.{codes}
 use Rattle.std.specs.Fmt.{digits}
 use Rattle.port_base.specs.Escapes.{escaped}
@@ -14,23 +19,34 @@ use Rattle.mount9_run.specs.HeaderLines.{stamp_at}
 use Rattle.port_base.specs.Decimals.{number_of}
 use Rattle.mount9_run.specs.Numbers.{number_field}
 use Rattle.mount9_run.specs.Reading.{lines_of, keyword_at, after_word, field_at}
-use Rattle.mount9_run.specs.Command.{with_word, with_words, command}
+use Rattle.mount9_run.specs.Command.{with_word, with_words, command, owners_of, with_owner}
 use Rattle.mount9_run.specs.Outcome.{outcome}
 use Rattle.mount9_run.specs.declared.run.Status.TheVariants as status
 
 pub command_example : command (codes "serve" ∷ codes "target=/mnt" ∷ codes "root=/" ∷ []) ≡ Some
-    (record { target = codes "/mnt"; root = codes "/"; msize = 65560; turns = 4096; ids = 1024 })
+    (record {
+      target = codes "/mnt";
+      root = codes "/";
+      msize = 65560;
+      turns = 4096;
+      ids = 1024;
+      uid_map = map.empty;
+      gid_map = map.empty;
+      casefold = false;
+    })
 unfolding command with_words with_word split_once is_path
 command_example = refl
 
 pub numbers_example : command (codes "serve" ∷ codes "ids=0" ∷ codes "root=/" ∷ codes "msize=4352"
-    ∷ codes "target=/" ∷ []) ≡ Some (record {
+    ∷ codes "target=/" ∷ codes "casefold=true" ∷ []) ≡ Some (record {
       target = codes "/";
       root = codes "/";
-      msize =
-          4352;
+      msize = 4352;
       turns = 4096;
       ids = 0;
+      uid_map = map.empty;
+      gid_map = map.empty;
+      casefold = true;
     })
 unfolding command with_words with_word split_once is_path number_of
 numbers_example = refl
@@ -39,6 +55,20 @@ pub msize_refused : command (codes "serve" ∷ codes "target=/" ∷ codes "root=
     ∷ []) ≡ None
 unfolding command with_words with_word split_once is_path number_of
 msize_refused = refl
+
+pub owners_example : owners_of (codes "1000:0") ≡ Some (1000, 0)
+unfolding owners_of split_once number_of
+owners_example = refl
+
+-- an owner is taken once
+pub owner_example : with_owner map.empty (Some (1000, 0)) ≡ Some (map.insert map.empty 1000 0)
+owner_example = ap (λ (o : Option ℕ). cond (is_some o) None (Some (map.insert map.empty 1000 0)))
+    (map.get-empty nat_cmp ℕ 1000)
+
+pub again_example : with_owner (map.insert map.empty 1000 0) (Some (1000, 5)) ≡ None
+again_example = ap (λ (o : Option ℕ). cond (is_some o) None
+    (Some (map.insert (map.insert map.empty 1000 0) 1000 5)))
+    (map.get-insert nat_cmp_total map.empty 1000 0 1000)
 
 pub header_example : header (codes "mount9 1\nmoment 1700000000\nend\n") ≡ Err 2
 unfolding header text_of text_from header_of lines_of start_at stamp_at keyword_at after_word

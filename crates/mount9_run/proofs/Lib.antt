@@ -10,6 +10,8 @@ pub mod Ends
 pub mod InBlocks
 pub mod Taking
 pub mod WalkLemmas
+pub mod OwnerWords
+pub mod WordPlaces
 pub mod WordOrder
 pub mod WordSteps
 pub mod Presence

@@ -1,22 +1,29 @@
 -- What the words of a command line say.
-use Rattle.std.specs.Prelude.{ℕ, List, [], ◌∷◌, Option, Some, None, is_some, if◌then◌else◌, Bool}
+use Rattle.std.specs.Prelude.{ℕ, ◌-◌, ◌^◌, List, [], ◌∷◌, Option, Some, None, is_some, Bool, true}
 use Rattle.std.specs.Prelude.{codes, bytes_eq, option_map, option_and_then, unwrap_or, drop}
-use Rattle.std.specs.Prelude.{slice_get, false}
+use Rattle.std.specs.Prelude.{slice_get, false, if◌then◌else◌}
 use Rattle.std.specs.Option.{option_map_or}
+use Rattle.std.specs.FinMap as map
 use Rattle.mount9_run.specs.Texts.{split_once}
 use Rattle.mount9_run.specs.Paths.{is_path, is_root}
 use Rattle.port_base.specs.Decimals.{number_of}
 use Rattle.mount9_run.specs.Numbers.{in_range}
+use Rattle.tree_model.specs.Settings.{IdMap}
+use Rattle.p9_server.specs.ConfigTexts.{boolean_of}
 use Rattle.mount9_run.specs.declared.command.TheConstants.{MSIZE, TURNS, FID_LIMIT}
 
 -- what `serve` is to serve, and where; the greatest size of a 9P message, the most frames, and the
--- most node ids and handles
+-- most node ids and handles; the users and groups that are shown for others; whether names are
+-- found without regard to case
 pub record Serve : Type 0 where
   pub target : List ℕ
   pub root : List ℕ
   pub msize : ℕ
   pub turns : ℕ
   pub ids : ℕ
+  pub uid_map : IdMap
+  pub gid_map : IdMap
+  pub casefold : Bool
 
 -- what the words so far say
 pub record Draft : Type 0 where
@@ -25,13 +32,27 @@ pub record Draft : Type 0 where
   pub msize : Option ℕ
   pub turns : Option ℕ
   pub ids : Option ℕ
+  pub uid_map : IdMap
+  pub gid_map : IdMap
+  pub casefold : Option Bool
 
 abbrev pub no_words : Draft
-no_words = record { target = None; root = None; msize = None; turns = None; ids = None }
+no_words = record {
+  target = None;
+  root = None;
+  msize = None;
+  turns = None;
+  ids = None;
+  uid_map = map.empty;
+  gid_map = map.empty;
+  casefold = None;
+}
+
+-- ---- values
 
 -- the value of a key that comes for the first time
-abbrev pub once : {A : Type 0} → Option A → Option A → Option A
-once old new = if is_some old then None else new
+abbrev pub once : {A : Type 0} → Option A → Option A → Option (Option A)
+once old new = if is_some old then None else option_map Some new
 
 -- a text that passes a test
 abbrev pub text_in_form : (List ℕ → Bool) → List ℕ → Option (List ℕ)
@@ -41,19 +62,42 @@ text_in_form in_form value = if in_form value then Some value else None
 abbrev pub number_in : ℕ → ℕ → List ℕ → Option ℕ
 number_in low high value = in_range low high (number_of value)
 
+abbrev pub owner_of : List ℕ → Option ℕ
+owner_of text = number_in 0 (2 ^ 32 - 1) text
+
+-- `h:c`, two owners
+unfoldable pub owners_of : List ℕ → Option (ℕ × ℕ)
+owners_of value =
+    option_and_then (λ p. option_and_then (λ id. option_map (λ shown. (id, shown)) (owner_of p.1))
+        (owner_of p.0)) (split_once 58 value)
+
+-- one more owner, for which another is shown
+abbrev pub with_owner : IdMap → Option (ℕ × ℕ) → Option IdMap
+with_owner ids None = None
+with_owner ids (Some p) =
+    if is_some (map.get ids p.0) then None else Some (map.insert ids p.0 p.1)
+
+-- ---- keys
+
 -- one more key and its value
 abbrev pub with_key : Draft → List ℕ → List ℕ → Option Draft
 with_key d key value =
-    if bytes_eq key (codes "target") then option_map (λ v. record d { target = Some v })
+    if bytes_eq key (codes "target") then option_map (λ v. record d { target = v })
     (once d.target (text_in_form is_path value)) else
-    if bytes_eq key (codes "root") then option_map (λ v. record d { root = Some v })
+    if bytes_eq key (codes "root") then option_map (λ v. record d { root = v })
     (once d.root (text_in_form is_root value)) else
-    if bytes_eq key (codes "msize") then option_map (λ n. record d { msize = Some n })
+    if bytes_eq key (codes "msize") then option_map (λ n. record d { msize = n })
     (once d.msize (number_in 256 65560 value)) else
-    if bytes_eq key (codes "turns") then option_map (λ n. record d { turns = Some n })
+    if bytes_eq key (codes "turns") then option_map (λ n. record d { turns = n })
     (once d.turns (number_in 1 8192 value)) else
-    if bytes_eq key (codes "ids") then option_map (λ n. record d { ids = Some n })
-    (once d.ids (number_in 0 1000000 value)) else None
+    if bytes_eq key (codes "ids") then option_map (λ n. record d { ids = n })
+    (once d.ids (number_in 0 1000000 value)) else
+    if bytes_eq key (codes "uid") then option_map (λ m. record d { uid_map = m })
+    (with_owner d.uid_map (owners_of value)) else
+    if bytes_eq key (codes "gid") then option_map (λ m. record d { gid_map = m })
+    (with_owner d.gid_map (owners_of value)) else
+    if bytes_eq key (codes "casefold") then option_map (λ b. record d { casefold = b })
+    (once d.casefold (boolean_of value)) else None
 
 -- one more word, which is `key=value`
 unfoldable pub with_word : Draft → List ℕ → Option Draft
@@ -72,6 +116,9 @@ completed d target root =
       msize = unwrap_or d.msize MSIZE;
       turns = unwrap_or d.turns TURNS;
       ids = unwrap_or d.ids FID_LIMIT;
+      uid_map = d.uid_map;
+      gid_map = d.gid_map;
+      casefold = unwrap_or d.casefold false;
     }
 
 -- the command, where neither path is missing

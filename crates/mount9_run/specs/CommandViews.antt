@@ -1,6 +1,9 @@
 -- Drafts and commands, without where they lie in memory.
 use Rattle.std.specs.Prelude.{◌≡◌, ℕ, List, Option, Some, None, Result, Ok, Err, Vec, option_map}
+use Rattle.std.specs.BTreeMap.{BTreeMap}
 use Rattle.std.specs.Global.{Global}
+use Rattle.std.specs.FinMap as map
+use Rattle.tree_model.specs.Settings.{IdMap}
 use Rattle.mount9_run.specs.Command.{Draft, Serve}
 use Rattle.mount9_run.specs.declared.command.DraftWords.{DraftWords}
 use Rattle.mount9_run.specs.declared.command.ShareWords.{ShareWords}
@@ -12,6 +15,10 @@ use Rattle.mount9_run.specs.declared.command.WordsError.TheVariants.{Words, NoMe
 abbrev pub slot_view : Option (Vec ℕ Global) → Option (List ℕ)
 slot_view slot = option_map (λ (v : Vec ℕ Global). v.items) slot
 
+-- the pairs of a map of owners
+abbrev pub ids_view : BTreeMap ℕ ℕ → IdMap
+ids_view ids = map.from_entries ids.entries
+
 abbrev pub draft_view : DraftWords → Draft
 draft_view d = record {
   target = slot_view d.target;
@@ -19,6 +26,9 @@ draft_view d = record {
   msize = d.msize;
   turns = d.turns;
   ids = d.ids;
+  uid_map = ids_view d.uid_map;
+  gid_map = ids_view d.gid_map;
+  casefold = d.casefold;
 }
 
 abbrev pub share_view : ShareWords → Serve
@@ -28,6 +38,9 @@ share_view s = record {
   msize = s.msize;
   turns = s.turns;
   ids = s.ids;
+  uid_map = ids_view s.uid_map;
+  gid_map = ids_view s.gid_map;
+  casefold = s.casefold;
 }
 
 abbrev pub serve_view : Command → Serve

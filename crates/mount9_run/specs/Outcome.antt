@@ -1,9 +1,8 @@
 -- What a run answers and writes, where memory suffices and neither stream fails.
-use Rattle.std.specs.Prelude.{ℕ, ◌-◌, ◌^◌, min, List, [], length, Bool, false, not, ◌||◌, Option}
+use Rattle.std.specs.Prelude.{ℕ, ◌-◌, ◌^◌, min, List, [], length, Bool, not, ◌||◌, Option}
 use Rattle.std.specs.Prelude.{Some, None, Result, Ok, Err, if◌then◌else◌, codes, nat_lt, nat_le}
 use Rattle.std.specs.Prelude.{option_map}
 use Rattle.std.specs.List.{list_any}
-use Rattle.std.specs.FinMap as map
 use Rattle.port_base.specs.Paths.{same_path}
 use Rattle.port_base.specs.declared.errno.TheConstants.{ENFILE, ENOENT, EPERM}
 use Rattle.tree_model.specs.Tree.{Tree, linked}
@@ -32,15 +31,14 @@ use Rattle.mount9_run.specs.declared.run.Status.TheVariants as status
 abbrev pub Outcome : Type 0
 Outcome = Status × List ℕ
 
--- what is below the root is shared, its owners as they are, with exact names, and up to so many
--- fids
+-- what is below the root is shared, as the words say
 abbrev pub share_settings : Serve → Settings
 share_settings s =
     record {
       root = path_names s.root;
-      uid_map = map.empty;
-      gid_map = map.empty;
-      casefold = false;
+      uid_map = s.uid_map;
+      gid_map = s.gid_map;
+      casefold = s.casefold;
       limit = s.ids;
     }
 

@@ -2,16 +2,20 @@
 ghost use Rattle.std.specs.Prelude.{◌≡◌, drop, bytes_eq, codes, ◌&&◌, option_map, option_and_then};
 ghost use Rattle.std.specs.Prelude.{Option};
 ghost use Rattle.mount9_run.specs.Command.{once, text_in_form, number_in, with_word, with_words};
-ghost use Rattle.mount9_run.specs.Command.{no_words, finished, is_serve, command};
-ghost use Rattle.mount9_run.specs.CommandViews.{slot_view, draft_view, share_view, serve_view};
-ghost use Rattle.mount9_run.specs.CommandViews.{GivesWords};
+ghost use Rattle.mount9_run.specs.Command.{no_words, finished, is_serve, command, owner_of};
+ghost use Rattle.mount9_run.specs.Command.{owners_of, with_owner};
+ghost use Rattle.mount9_run.specs.CommandViews.{slot_view, ids_view, draft_view, share_view};
+ghost use Rattle.mount9_run.specs.CommandViews.{serve_view, GivesWords};
 ghost use Rattle.mount9_run.specs.Paths.{is_path, is_root};
+ghost use Rattle.p9_server.specs.ConfigTexts.{boolean_of};
 
 use crate::header::numbers::number_in;
 use crate::path::{is_path, is_root};
 use crate::text::split_once;
+use p9_server::{ServerGidMap, ServerIdMap, ServerUidMap, boolean_of};
 use port_base::words::Words;
 use std::alloc::Global;
+use std::collections::BTreeMap;
 use std::error::Error;
 use std::fmt;
 
@@ -37,6 +41,12 @@ pub struct ShareWords {
     pub turns: u32,
     /// How many node ids and handles there are at most.
     pub ids: u32,
+    /// The users that are shown for users of the tree; one without a pair stays.
+    pub uid_map: ServerUidMap,
+    /// The groups that are shown for groups of the tree; one without a pair stays.
+    pub gid_map: ServerGidMap,
+    /// Whether a name that differs in the case of ASCII letters alone is found.
+    pub casefold: bool,
 }
 
 /// What the words command.
@@ -84,6 +94,9 @@ struct DraftWords {
     msize: Option<u32>,
     turns: Option<u32>,
     ids: Option<u32>,
+    uid_map: ServerUidMap,
+    gid_map: ServerGidMap,
+    casefold: Option<bool>,
 }
 
 // A target, if it is in form.
@@ -106,8 +119,8 @@ fn take_text(
     slot: &mut Option<Vec<u8>>,
     value: Option<&[u8]>,
 ) -> Result<(), WordsError>
-    ensures { GivesWords (λ _. slot_view slot.new) result (option_map Some
-        (once (slot_view slot.old) (option_map (λ text. text.now) value.entry))) }
+    ensures { GivesWords (λ _. slot_view slot.new) result
+        (once (slot_view slot.old) (option_map (λ text. text.now) value.entry)) }
 {
     if slot.is_some() {
         return Err(WordsError::Words);
@@ -124,8 +137,7 @@ fn take_text(
 
 // Takes the number of a key that comes for the first time, if it is from `low` to `high`.
 fn take_number(slot: &mut Option<u32>, low: u32, high: u32, value: &[u8]) -> Result<(), WordsError>
-    ensures { GivesWords (λ _. slot.new) result
-        (option_map Some (once slot.old (number_in low high value.now))) }
+    ensures { GivesWords (λ _. slot.new) result (once slot.old (number_in low high value.now)) }
 {
     if slot.is_some() {
         return Err(WordsError::Words);
@@ -136,6 +148,58 @@ fn take_number(slot: &mut Option<u32>, low: u32, high: u32, value: &[u8]) -> Res
             Ok(())
         }
         None => Err(WordsError::Words),
+    }
+}
+
+// Takes the value of a key that comes for the first time, if it is `true` or `false`.
+fn take_boolean(slot: &mut Option<bool>, value: &[u8]) -> Result<(), WordsError>
+    ensures { GivesWords (λ _. slot.new) result (once slot.old (boolean_of value.now)) }
+{
+    if slot.is_some() {
+        return Err(WordsError::Words);
+    }
+    match boolean_of(value) {
+        Some(b) => {
+            *slot = Some(b);
+            Ok(())
+        }
+        None => Err(WordsError::Words),
+    }
+}
+
+// The number of an owner.
+fn owner_of(text: &[u8]) -> Option<u32>
+    ensures { result ≡ owner_of text.now }
+{
+    match number_in(0, u32::MAX as u64, text) {
+        Some(id) => Some(id as u32),
+        None => None,
+    }
+}
+
+// An owner, and the one that is shown for it.
+#[tactic(auto, unfolding(crate::specs::Command::owners_of))]
+fn owners_of(value: &[u8]) -> Option<(u32, u32)>
+    ensures { result ≡ owners_of value.now }
+{
+    let (id, shown) = split_once(value, b':')?;
+    Some((owner_of(id)?, owner_of(shown)?))
+}
+
+// Takes an owner that comes for the first time, and the one that is shown for it.
+fn take_owners(ids: &mut ServerIdMap<u32>, value: &[u8]) -> Result<(), WordsError>
+    ensures { GivesWords (λ _. ids_view ids.new) result
+        (with_owner (ids_view ids.old) (owners_of value.now)) }
+{
+    let Some((id, shown)) = owners_of(value) else {
+        return Err(WordsError::Words);
+    };
+    if ids.contains_key(&id) {
+        return Err(WordsError::Words);
+    }
+    match ids.insert(id, shown) {
+        Ok(_) => Ok(()),
+        Err(_) => Err(WordsError::NoMemory),
     }
 }
 
@@ -157,6 +221,12 @@ fn take_word(alloc: Global, draft: &mut DraftWords, word: &[u8]) -> Result<(), W
         take_number(&mut draft.turns, 1, 8192, value)
     } else if key == b"ids".as_slice() {
         take_number(&mut draft.ids, 0, 1000000, value)
+    } else if key == b"uid".as_slice() {
+        take_owners(&mut draft.uid_map, value)
+    } else if key == b"gid".as_slice() {
+        take_owners(&mut draft.gid_map, value)
+    } else if key == b"casefold".as_slice() {
+        take_boolean(&mut draft.casefold, value)
     } else {
         Err(WordsError::Words)
     }
@@ -172,6 +242,9 @@ fn read_keys(alloc: Global, words: &Words) -> Result<DraftWords, WordsError>
         msize: None,
         turns: None,
         ids: None,
+        uid_map: BTreeMap::new(alloc),
+        gid_map: BTreeMap::new(alloc),
+        casefold: None,
     };
     'words: for i in 1..words.len() {
         let Some(word) = words.get(i) else {
@@ -191,6 +264,9 @@ fn finish(draft: DraftWords) -> Result<Command, WordsError>
         msize,
         turns,
         ids,
+        uid_map,
+        gid_map,
+        casefold,
     } = draft;
     match target {
         Some(target) => match root {
@@ -200,6 +276,9 @@ fn finish(draft: DraftWords) -> Result<Command, WordsError>
                 msize: msize.unwrap_or(MSIZE),
                 turns: turns.unwrap_or(TURNS),
                 ids: ids.unwrap_or(FID_LIMIT),
+                uid_map,
+                gid_map,
+                casefold: casefold.unwrap_or(false),
             })),
             None => Err(WordsError::Words),
         },
@@ -217,8 +296,9 @@ fn is_serve(words: &Words) -> bool
 }
 
 /// What the words command: `serve`, and then in any order `target=PATH`, `root=PATH`, and if
-/// wanted `msize=N` (256 to 65560), `turns=N` (1 to 8192) and `ids=N` (0 to 1000000), each at most
-/// once.
+/// wanted `msize=N` (256 to 65560), `turns=N` (1 to 8192), `ids=N` (0 to 1000000) and
+/// `casefold=true` or `casefold=false`, each at most once, and `uid=H:C` and `gid=H:C`, where user
+/// or group H of the tree is shown as C, at most once for each H.
 #[tactic(auto, unfolding(crate::specs::Command::command))]
 pub fn read_words(alloc: Global, words: &Words) -> Result<Command, WordsError>
     ensures { GivesWords serve_view result (command words.now) }
@@ -253,6 +333,7 @@ mod tests {
         assert_eq!(rt; share.target.as_slice(), b"/mnt".as_slice());
         assert_eq!(rt; share.root.as_slice(), b"/".as_slice());
         assert_eq!(rt; (share.msize, share.turns, share.ids), (65560, 4096, 1024));
+        assert_eq!(rt; (share.uid_map.len(), share.gid_map.len(), share.casefold), (0, 0, false));
         let cases = [
             ("serve root=/ target=/a/b", true),
             ("serve target=/ root=/", true),
@@ -294,6 +375,25 @@ mod tests {
             ("serve target=/mnt root=/ ids=1000001", false),
             ("serve target=/mnt root=/ ids=1 ids=1", false),
             ("serve target=/mnt root=/ id=1", false),
+            ("serve target=/mnt root=/ casefold=true", true),
+            ("serve target=/mnt root=/ casefold=false", true),
+            ("serve target=/mnt root=/ casefold=yes", false),
+            ("serve target=/mnt root=/ casefold=", false),
+            (
+                "serve target=/mnt root=/ casefold=true casefold=true",
+                false,
+            ),
+            ("serve uid=1000:0 target=/mnt root=/ uid=0:1000", true),
+            ("serve target=/mnt root=/ uid=1:2 gid=1:2 gid=2:2", true),
+            ("serve target=/mnt root=/ uid=1:2 uid=1:2", false),
+            ("serve target=/mnt root=/ gid=1:2 gid=1:3", false),
+            ("serve target=/mnt root=/ uid=4294967295:0", true),
+            ("serve target=/mnt root=/ uid=4294967296:0", false),
+            ("serve target=/mnt root=/ uid=0:4294967296", false),
+            ("serve target=/mnt root=/ uid=1", false),
+            ("serve target=/mnt root=/ uid=1:", false),
+            ("serve target=/mnt root=/ uid=1:2:3", false),
+            ("serve target=/mnt root=/ uid=01:2", false),
             ("serve target=/mnt root=/ more", false),
         ];
         for (line, accepted) in cases {

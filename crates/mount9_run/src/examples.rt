@@ -1,9 +1,10 @@
 //! The definitions of this crate at examples. Each function makes no call: its contract is the
 //! example.
-ghost use Rattle.std.specs.Prelude.{◌≡◌, ℕ, List, [], ◌∷◌, codes, Some, None, Ok, Err};
+ghost use Rattle.std.specs.Prelude.{◌≡◌, ℕ, List, [], ◌∷◌, codes, Some, None, Ok, Err, true, false};
 ghost use Rattle.tree_model.specs.declared.attributes.Kind.{Kind};
 ghost use Rattle.tree_model.specs.declared.attributes.Stamp.{Stamp};
-ghost use Rattle.mount9_run.specs.Command.{command};
+ghost use Rattle.std.specs.FinMap as map;
+ghost use Rattle.mount9_run.specs.Command.{command, owners_of, with_owner};
 ghost use Rattle.mount9_run.specs.Header.{header};
 ghost use Rattle.mount9_run.specs.HeaderLines.{present_at};
 ghost use Rattle.mount9_run.specs.HeaderRecords.{file_at};
@@ -13,7 +14,7 @@ ghost use Rattle.mount9_run.specs.declared.run.Status.TheVariants as status;
 ghost use Rattle.mount9_run.specs.ReportLines.{entry_line, directory_line, stamp_text};
 
 /// A share of the whole tree at `/mnt`, with and without numbers; a message size of 255 is refused.
-#[tactic(auto, using(crate::proofs::ByComputing::command_example, crate::proofs::ByComputing::numbers_example, crate::proofs::ByComputing::msize_refused))]
+#[tactic(auto, using(crate::proofs::ByComputing::command_example, crate::proofs::ByComputing::numbers_example, crate::proofs::ByComputing::msize_refused, crate::proofs::ByComputing::owners_example, crate::proofs::ByComputing::owner_example, crate::proofs::ByComputing::again_example))]
 pub fn a_share_at_mnt()
     ensures plain { command (codes "serve" ∷ codes "target=/mnt" ∷ codes "root=/" ∷ [])
         ≡ Some
@@ -22,21 +23,28 @@ pub fn a_share_at_mnt()
           root = codes "/";
           msize = 65560;
           turns = 4096;
-          ids =
-              1024;
+          ids = 1024;
+          uid_map = map.empty;
+          gid_map = map.empty;
+          casefold = false;
         }) }
     ensures numbers { command (codes "serve" ∷ codes "ids=0" ∷ codes "root=/" ∷ codes "msize=4352"
-        ∷ codes "target=/" ∷ [])
+        ∷ codes "target=/" ∷ codes "casefold=true" ∷ [])
         ≡ Some (record {
           target = codes "/";
           root = codes "/";
           msize = 4352;
           turns = 4096;
-          ids =
-              0;
+          ids = 0;
+          uid_map = map.empty;
+          gid_map = map.empty;
+          casefold = true;
         }) }
     ensures short { command (codes "serve" ∷ codes "target=/" ∷ codes "root=/" ∷ codes "msize=255"
         ∷ []) ≡ None }
+    ensures owners { owners_of (codes "1000:0") ≡ Some (1000, 0) }
+    ensures owner { with_owner map.empty (Some (1000, 0)) ≡ Some (map.insert map.empty 1000 0) }
+    ensures again { with_owner (map.insert map.empty 1000 0) (Some (1000, 5)) ≡ None }
 {}
 
 /// A header whose second line tells no nanoseconds is refused at that line.

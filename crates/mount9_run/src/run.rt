@@ -37,7 +37,7 @@ use crate::report::writing::{write_number_line, write_text};
 use frame_pump::outcome::{BridgeError, Pumped, Stopped};
 use fuse_gate::gate::LEAST_MSIZE;
 use fuse_gate::pump::pump;
-use p9_server::{Config, Server};
+use p9_server::{Config, Server, ServerIdMap};
 use port_base::memory::MemSink;
 use port_base::sink::{NoMemory, Sink, SinkFault};
 use port_base::source::Source;
@@ -144,6 +144,13 @@ fn tell_report<K: Sink>(
     after_text(ending.status, written)
 }
 
+// The same owners.
+fn copied(ids: &ServerIdMap<u32>) -> Result<ServerIdMap<u32>, NoMemory>
+    ensures { IfOk result (λ copy. copy.entries ≡ ids.now.entries) }
+{
+    ids.clone().map_err(|_| NoMemory)
+}
+
 // How a share is set up.
 fn share_config(alloc: Global, share: &ShareWords) -> Result<Config, NoMemory>
     requires long { LEAST_MSIZE ≤ share.now.msize }
@@ -152,13 +159,16 @@ fn share_config(alloc: Global, share: &ShareWords) -> Result<Config, NoMemory>
     ensures msize { IfOk result (λ c. c.msize ≡ share.now.msize) }
     ensures allowed { IfOk result (λ c. config_refused c.msize c.root.items ≡ None) }
 {
-    let config = Config::standard(alloc)?;
     let root = Vec::from_slice(alloc, &share.root).map_err(|_| NoMemory)?;
+    let uid_map = copied(&share.uid_map)?;
+    let gid_map = copied(&share.gid_map)?;
     Ok(Config {
         root,
         msize: share.msize,
+        uid_map,
+        gid_map,
+        ascii_casefold: share.casefold,
         fid_limit: share.ids,
-        ..config
     })
 }
 

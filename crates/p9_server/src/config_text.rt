@@ -48,7 +48,8 @@ impl ConfigTextError {
     }
 }
 
-fn boolean_of(value: &[u8]) -> Option<bool>
+/// The value that is written `true` or `false`.
+pub fn boolean_of(value: &[u8]) -> Option<bool>
     ensures { result ≡ boolean_of value.now }
 {
     if value == b"true".as_slice() {

@@ -16,7 +16,7 @@ mod server;
 mod share;
 
 pub use config::{Config, ConfigError, Refused};
-pub use config_text::ConfigTextError;
+pub use config_text::{ConfigTextError, boolean_of};
 pub use directory_reader::{DirEntry, FileType, ReadDir, read_dir};
 pub use fid_model::Nine;
 pub use qids::qid_of;
