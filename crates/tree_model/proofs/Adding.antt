@@ -1,6 +1,6 @@
 -- A good tree with a record more, and an entry for it, is good.
-use Rattle.std.proofs.Common.{◌≡◌, ◌≢◌, ℕ, zero, suc, ◌+◌, ◌<◌, ◌≤◌, Bool, true, false, cond, ◌||◌}
-use Rattle.std.proofs.Common.{List, [], ◌∷◌, ◌++◌, length, refl, sym, ap, ◌∙◌, subst, Option, Some}
+use Rattle.std.proofs.Common.{◌≡◌, ◌≢◌, ℕ, zero, suc, ◌+◌, ◌-◌, ◌^◌, ◌<◌, ◌≤◌, Bool, true, false}
+use Rattle.std.proofs.Common.{cond, ◌||◌, List, [], ◌∷◌, ◌++◌, length, refl, sym, ap, ◌∙◌, subst, Option, Some}
 use Rattle.std.proofs.Common.{None, inl, inr, ⊎_elim, arith, IsSome, IsTrue, nat_lt, get_or}
 use Rattle.std.specs.Prelude.{◌==◌, option_map, IfSome, Contains}
 use Rattle.std.proofs.Math.Logic.{∥∥₁_map}
@@ -30,7 +30,8 @@ pub count_names-push : (q : ℕ) (es : List DirEntry) (e : DirEntry)
 count_names-push q [] e = omega arith
 count_names-push q (f ∷ es) e = let more = count_names-push q es e in omega arith
 
--- what is added: the directory and its new record, and the record that it names
+-- what is added: the directory and its new record, and the record that it names, where a number is
+-- left after it
 pub record IsAdded (t : Tree) (dir : ℕ) (name : List ℕ) (d d' f : Record) : Type 0 where
   pub at : IsAt t.records dir d
   pub directory : is_directory d.body ≡ true
@@ -40,6 +41,7 @@ pub record IsAdded (t : Tree) (dir : ℕ) (name : List ℕ) (d d' f : Record) : 
   pub lists : listed f.body ≡ []
   pub shows : f.links ≡ links_of f.body 1 true
   pub under : (es : List DirEntry) (next up : ℕ) → f.body ≡ Directory es next up → up ≡ dir
+  pub number : t.next < 2 ^ 64 - 1
 
 module _ (t : Tree) (g : IsGoodTree t) (dir : ℕ) (name : List ℕ) (d d' f : Record)
     (w : IsAdded t dir name d d' f) where
@@ -245,6 +247,7 @@ module _ (t : Tree) (g : IsGoodTree t) (dir : ℕ) (name : List ℕ) (d d' f : R
     added_good = record {
       limits = g.limits;
       moment = g.moment;
+      next = let n = w.number in omega arith;
       top_is_directory = top_stays;
       numbers = by_place (λ q x. (1 ≤ q) × (q < next + 1))
           (let b = beyond in (omega arith, omega arith))

@@ -113,6 +113,7 @@ module _ (t : Tree) (g : IsGoodTree t) (ino : ℕ) (r r' : Record) (w : IsAltere
   altered_good = record {
     limits = g.limits;
     moment = g.moment;
+    next = g.next;
     top_is_directory = top_stays;
     numbers = by_place (λ q x. (1 ≤ q) × (q < t.next)) (g.numbers ino r w.at)
         (λ q x ne was. g.numbers q x was);

@@ -1,5 +1,5 @@
 -- What the kinds of bodies list, and how many links they show.
-use Rattle.std.proofs.Common.{◌≡◌, ◌≢◌, ℕ, zero, suc, ◌+◌, ◌<◌, Bool, true, false, cond, List, []}
+use Rattle.std.proofs.Common.{◌≡◌, ◌≢◌, ℕ, zero, suc, ◌+◌, ◌-◌, ◌^◌, ◌<◌, Bool, true, false, cond, List, []}
 use Rattle.std.proofs.Common.{◌∷◌, ◌++◌, length, refl, sym, ap, ◌∙◌, Some, None, arith, bytes_eq}
 use Rattle.std.specs.Prelude.{slice_index_or}
 use Rattle.std.proofs.lemmas.Bool.{false≢true}
@@ -36,6 +36,12 @@ pub with_entries-listed : (b : Body) (es : List DirEntry) (next : ℕ) → is_di
 with_entries-listed (File bytes) es next is = absurd (false≢true is)
 with_entries-listed (Directory fs cookie above) es next is = refl
 with_entries-listed (Link target) es next is = absurd (false≢true is)
+
+pub with_entries-next : (b : Body) (es : List DirEntry) (next : ℕ) → is_directory b ≡ true
+    → next_cookie (with_entries b es next) ≡ next
+with_entries-next (File bytes) es next is = absurd (false≢true is)
+with_entries-next (Directory fs cookie above) es next is = refl
+with_entries-next (Link target) es next is = absurd (false≢true is)
 
 -- a directory whose entries changed stays under the same directory
 pub with_entries-above : (b : Body) (es fs : List DirEntry) (next cookie up : ℕ)
@@ -76,13 +82,14 @@ named_none name (f ∷ es) none k d low is = by_test (bytes_eq f.name name) refl
       by_test false found none (suc k) low is later = later none k (omega arith) is
 
 pub good_joined : (b : Body) (name : List ℕ) (ino : ℕ) → is_directory b ≡ true → IsGoodBody b
-    → name_fault name ≡ None → entry_named name (listed b) ≡ None
+    → name_fault name ≡ None → entry_named name (listed b) ≡ None → next_cookie b < 2 ^ 64 - 1
     → IsGoodBody (with_entries b (listed b ++ (record
     { cookie = next_cookie b; name = name; ino = ino } ∷ [])) (next_cookie b + 1))
-good_joined (File bytes) name ino is good fine none = absurd (false≢true is)
-good_joined (Link target) name ino is good fine none = absurd (false≢true is)
-good_joined (Directory es next above) name ino is good fine none = (
+good_joined (File bytes) name ino is good fine none room = absurd (false≢true is)
+good_joined (Link target) name ino is good fine none room = absurd (false≢true is)
+good_joined (Directory es next above) name ino is good fine none room = (
   CookiesRise-push 1 es next _ refl good.0,
   All-push (λ e. name_fault e.name ≡ None) es _ good.1 fine,
   all_pairs_push (λ e f. e.name ≢ f.name) es _ good.2 (λ k d low. named_none name es none k d low),
+  omega arith,
 )

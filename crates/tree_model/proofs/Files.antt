@@ -131,6 +131,7 @@ module _ (t : Tree) (g : IsGoodTree t) (born : Stamp) (dir : ℕ) (name : List �
     lists = refl;
     shows = refl;
     under = λ es next up is. absurd (cc);
+    number = w.number;
   }
 
   pub with_file-records : (with_file born t dir name f).records ≡ insert
@@ -155,7 +156,8 @@ module _ (t : Tree) (g : IsGoodTree t) (born : Stamp) (dir : ℕ) (name : List �
     pub good_directory : IsGoodRecord (joined_by name t.next w.d)
     good_directory = let r = g.records dir w.d w.at in
         record {
-          body = good_joined w.d.body name t.next w.directory r.body fine w.new;
+          body = good_joined w.d.body name t.next w.directory r.body fine w.new
+              w.room;
           mode =
               r.mode;
           links = r.links;
@@ -235,6 +237,7 @@ module _ (limits : Limits) (moment born : Stamp) (mode uid gid : ℕ) where
   new_tree_good good_limits good_moment good_born good_mode = record {
     limits = good_limits;
     moment = good_moment;
+    next = omega arith;
     top_is_directory = subst (λ o. is_directory_at (option_map (λ (r : Record). r.body) o) ≡ true)
         (sym (inserted empty TOP first)) refl;
     numbers = of_first (λ q x. (1 ≤ q) × (q < 2)) (omega arith, omega arith);
@@ -245,6 +248,7 @@ module _ (limits : Limits) (moment born : Stamp) (mode uid gid : ℕ) where
             λ k d low. absurd (omega arith),
             λ i j d less low. absurd
                 (omega arith),
+            omega arith,
           );
           mode = good_mode;
           links = omega arith;

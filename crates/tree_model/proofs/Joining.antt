@@ -133,7 +133,8 @@ module _ (t : Tree) (g : IsGoodTree t) (dir ino : ℕ) (name : List ℕ)
       (linked_in_good t g dir ino name w.d (joined_by name ino w.d) w.x (one_link_more w.x)
       is_linked_in
       (record {
-        body = good_joined w.d.body name ino w.directory d.body fine w.new;
+        body = good_joined w.d.body name ino w.directory d.body fine w.new
+            w.room;
         mode =
             d.mode;
         links = d.links;

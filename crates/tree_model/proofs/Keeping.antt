@@ -113,6 +113,7 @@ module _ (t : Tree) (g : IsGoodTree t) (p : ℕ → Bool)
   good_retained = record {
     limits = g.limits;
     moment = g.moment;
+    next = g.next;
     top_is_directory = ap (λ o. is_directory_at (option_map (λ (r : Record). r.body) o))
         (stays TOP (all TOP refl)) ∙ g.top_is_directory;
     numbers = λ i r at. g.numbers i r (was_at i r at);

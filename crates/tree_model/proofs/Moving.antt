@@ -1,6 +1,6 @@
 -- A good tree in which an entry moves is good.
-use Rattle.std.proofs.Common.{◌≡◌, ◌≢◌, ℕ, zero, suc, ◌+◌, ◌<◌, ◌≤◌, Bool, true, false, cond, ◌||◌}
-use Rattle.std.proofs.Common.{List, [], ◌∷◌, ◌++◌, length, refl, sym, ap, ◌∙◌, subst, Option, Some}
+use Rattle.std.proofs.Common.{◌≡◌, ◌≢◌, ℕ, zero, suc, ◌+◌, ◌-◌, ◌^◌, ◌<◌, ◌≤◌, Bool, true, false}
+use Rattle.std.proofs.Common.{cond, ◌||◌, List, [], ◌∷◌, ◌++◌, length, refl, sym, ap, ◌∙◌, subst, Option, Some}
 use Rattle.std.proofs.Common.{None, inl, inr, ⊎_elim, arith, IsSome, IsTrue, nat_lt, bytes_eq}
 use Rattle.std.proofs.Common.{get_or, unwrap_or}
 use Rattle.std.specs.Prelude.{◌==◌, option_map, IfSome, Contains}
@@ -26,7 +26,7 @@ use Rattle.tree_model.specs.Renaming.{above_at, climbs_past, placed_below, moved
 use Rattle.tree_model.proofs.Changing.{change_at}
 use Rattle.tree_model.proofs.Naming.{names_in-le, named_is_stored, top_is_unnamed}
 use Rattle.tree_model.proofs.Bodies.{shows_links, with_entries-is_directory, with_entries-listed}
-use Rattle.tree_model.proofs.Bodies.{with_entries-above, same_some, good_joined}
+use Rattle.tree_model.proofs.Bodies.{with_entries-above, with_entries-next, same_some, good_joined}
 use Rattle.tree_model.proofs.Adding.{count_names-push}
 use Rattle.tree_model.proofs.Parting.{good_parted, without-Contains, count_names-without}
 use Rattle.tree_model.proofs.Leaving.{IsEntryIn}
@@ -84,8 +84,8 @@ without-none name other (e ∷ es) none = by_tests (bytes_eq e.name name) (bytes
 
 -- ---- the move
 
--- what is known of a move: an entry that names the inode, a directory without the new name, which
--- isn't at or below what moves
+-- what is known of a move: an entry that names the inode, a directory without the new name, with a
+-- cookie left, which isn't at or below what moves
 pub record IsMove (t : Tree) (olddir : ℕ) (oldname : List ℕ) (newdir : ℕ) (newname : List ℕ)
     (ino : ℕ) : Type 0 where
   pub old : IsEntryIn t.records olddir oldname ino
@@ -95,6 +95,7 @@ pub record IsMove (t : Tree) (olddir : ℕ) (oldname : List ℕ) (newdir : ℕ) 
   pub live : is_linked t.records newdir ≡ true
   pub new : entry_named newname (listed n.body) ≡ None
   pub fine : name_fault newname ≡ None
+  pub room : next_cookie n.body < 2 ^ 64 - 1
   pub steps : ℕ
   pub past : is_directory_at (body_at t.records ino) ≡ true
       → climbs_past t.records ino steps newdir ≡ true
@@ -190,6 +191,19 @@ module _ (t : Tree) (g : IsGoodTree t) (olddir : ℕ) (oldname : List ℕ) (newd
       (ap (λ (r : Record). entry_named newname (listed r.body)) same ∙ w.new))
       (λ is. ap (λ (r : Record). entry_named newname (listed r.body)) (is.1 ∙ same) ∙ w.new)
       was.2
+
+  m_room : next_cookie (m.0).body < 2 ^ 64 - 1
+  m_room =
+      let was = change_from parts rs olddir newdir m.0 m.1 in
+      let same : was.0 ≡ w.n = same_some was.0 w.n (sym was.1 ∙ w.there) in
+      subst (λ k. k < 2 ^ 64 - 1) (sym (⊎_elim
+      (λ is.
+      ap (λ (r : Record). next_cookie r.body) is.1
+      ∙ with_entries-next (was.0).body (without oldname (listed (was.0).body))
+      (next_cookie (was.0).body) (ap (λ (r : Record). is_directory r.body) same ∙ w.directory)
+      ∙ ap (λ (r : Record). next_cookie r.body) same)
+      (λ is. ap (λ (r : Record). next_cookie r.body) (is.1 ∙ same))
+      was.2)) w.room
 
   abbrev entry : DirEntry
   entry = record { cookie = next_cookie (m.0).body; name = newname; ino = ino }
@@ -330,7 +344,7 @@ module _ (t : Tree) (g : IsGoodTree t) (olddir : ℕ) (oldname : List ℕ) (newd
       let good = parted_good newdir m.0 m.1 in
       subst (λ (r : Record). IsGoodRecord (joins r)) (same_some m.0 r (sym m.1 ∙ at))
       (record {
-        body = good_joined (m.0).body newname ino m_directory good.body w.fine m_new;
+        body = good_joined (m.0).body newname ino m_directory good.body w.fine m_new m_room;
         mode =
             good.mode;
         links = good.links;
@@ -491,6 +505,7 @@ module _ (t : Tree) (g : IsGoodTree t) (olddir : ℕ) (oldname : List ℕ) (newd
   moved_good = record {
     limits = g.limits;
     moment = g.moment;
+    next = g.next;
     top_is_directory = top_stays (get rs TOP) refl g.top_is_directory;
     numbers = λ q x at. g.numbers q (from q x at).0 (from q x at).1;
     records = made_records;

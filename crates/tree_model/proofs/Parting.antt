@@ -101,6 +101,7 @@ good_parted (Directory es next above) name e is good named =
           (All-remove (λ e. name_fault e.name ≡ None) es at.0 good.1),
       subst (AllPairs (λ e f. e.name ≢ f.name)) (sym at.2)
           (all_pairs_remove (λ e f. e.name ≢ f.name) es at.0 at.1 good.2),
+      good.3,
     )
 
 -- ---- by the place of the name

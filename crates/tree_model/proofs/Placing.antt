@@ -28,6 +28,7 @@ module _ (t : Tree) (g : IsGoodTree t) (dir : ℕ) (name : List ℕ)
     lists = new.lists;
     shows = new.shows;
     under = new.under;
+    number = w.number;
   }
 
   records_are : (with_record t dir name r).records ≡ insert (insert t.records t.next r) dir
@@ -38,7 +39,8 @@ module _ (t : Tree) (g : IsGoodTree t) (dir : ℕ) (name : List ℕ)
   joined_good : name_fault name ≡ None → IsGoodRecord (joined_by name t.next w.d)
   joined_good fine = let d = g.records dir w.d w.at in
       record {
-        body = good_joined w.d.body name t.next w.directory d.body fine w.new;
+        body = good_joined w.d.body name t.next w.directory d.body fine w.new
+            w.room;
         mode =
             d.mode;
         links = d.links;
@@ -88,6 +90,7 @@ new_directory born mode uid gid dir stamp low = record {
       λ k d low. absurd (omega arith),
       λ i j d less low. absurd
           (omega arith),
+      omega arith,
     );
     mode = low;
     links = omega arith;

@@ -1,15 +1,17 @@
 -- A name that moves leaves a good tree.
-use Rattle.std.proofs.Common.{◌≡◌, ◌≢◌, ℕ, zero, suc, ◌<◌, Bool, true, false, cond, not, ◌&&◌, ◌||◌}
+use Rattle.std.proofs.Common.{◌≡◌, ◌≢◌, ℕ, zero, suc, ◌-◌, ◌^◌, ◌<◌, Bool, true, false, cond, not}
+use Rattle.std.proofs.Common.{◌&&◌, ◌||◌}
 use Rattle.std.proofs.Common.{List, [], ◌∷◌, length, refl, sym, ap, ◌∙◌, subst, Option, Some, None}
 use Rattle.std.proofs.Common.{Result, Ok, Err, ⊎_elim, arith, bytes_eq, unwrap_or, get_or}
-use Rattle.std.specs.Prelude.{◌==◌, option_map, option_and_then, is_some, AllPairs}
+use Rattle.std.specs.Prelude.{◌==◌, option_map, option_and_then, is_some, nat_le, AllPairs}
 use Rattle.std.proofs.lemmas.Bool.{cases_eq, false≢true}
 use Rattle.std.proofs.lemmas.Bool.Decides.{nat_tests}
 use Rattle.std.proofs.lemmas.Slice.Eq.{bytes_eq-Decides}
 use Rattle.std.specs.FinMap.{get}
 use Rattle.std.specs.Result.{result_ok}
 use Rattle.port_base.specs.Names.{name_fault}
-use Rattle.port_base.specs.declared.errno.TheConstants.{ENOENT, ENOTDIR, EISDIR, EINVAL, ENOTEMPTY}
+use Rattle.port_base.specs.declared.errno.TheConstants.{ENOENT, ENOTDIR, EISDIR, EINVAL, ENOSPC}
+use Rattle.port_base.specs.declared.errno.TheConstants.{ENOTEMPTY}
 use Rattle.tree_model.specs.Tree.{Tree, Record, Records, Body, DirEntry, TOP, body_at, listed}
 use Rattle.tree_model.specs.Tree.{is_directory, is_directory_at, is_linked, keep}
 use Rattle.tree_model.specs.Tree.Body.{File, Directory, Link}
@@ -25,6 +27,7 @@ use Rattle.tree_model.specs.Renaming.{room_refused, first_of, move_refused, with
 use Rattle.tree_model.specs.Renaming.{without_replaced, same_ino, move_to, renamed_at, rename_of}
 use Rattle.tree_model.proofs.Changing.{change_at, change_keeps}
 use Rattle.tree_model.proofs.Bodies.{with_entries-is_directory, with_entries-listed}
+use Rattle.tree_model.proofs.Bodies.{with_entries-next}
 use Rattle.tree_model.proofs.Naming.{found_among-exact}
 use Rattle.tree_model.proofs.Keeping.{keep_good}
 use Rattle.tree_model.proofs.Leaving.{IsEntryIn, entry_in, without_good, without_live}
@@ -149,13 +152,25 @@ not_listed (Directory es next up) name e directory is = sym (found_among-exact n
     ∙ missing_entry (found_among false name es) e is
 not_listed (Link target) name e directory is = absurd (false≢true directory)
 
+-- where there is room, a cookie is left
+cookie_left : (limit : ℕ) (more : Bool) (b : Body) → room_refused limit more (Some b) ≡ None
+    → next_cookie b < 2 ^ 64 - 1
+cookie_left limit more b = by_tests (more && nat_le limit (length (listed b)))
+    (nat_le (2 ^ 64 - 1) (next_cookie b)) refl where
+      by_tests : (f c : Bool) → nat_le (2 ^ 64 - 1) (next_cookie b) ≡ c
+          → cond {A = Option ℕ} (f || c) (Some ENOSPC) None ≡ None → next_cookie b < 2 ^ 64 - 1
+      by_tests true c is e = absurd (cc)
+      by_tests false true is e = absurd (cc)
+      by_tests false false is e = grind (arith, nat_tests)
+
 module _ (t : Tree) (g : IsGoodTree t) (olddir : ℕ) (oldname : List ℕ) (newdir : ℕ)
     (newname : List ℕ) (fine : name_fault newname ≡ None) (ino : ℕ)
     (is : lookup_of t olddir oldname ≡ Ok ino)
     (directory : is_directory_at (body_at t.records newdir) ≡ true)
     (live : is_linked t.records newdir ≡ true)
     (away : is_directory_at (body_at t.records ino) ≡ true
-    → climbs_past t.records ino t.next newdir ≡ true) where
+    → climbs_past t.records ino t.next newdir ≡ true) (more : Bool)
+    (room : room_refused t.limits.entries more (body_at t.records newdir) ≡ None) where
   abbrev rs : Records
   rs = t.records
 
@@ -164,6 +179,11 @@ module _ (t : Tree) (g : IsGoodTree t) (olddir : ℕ) (oldname : List ℕ) (newd
 
   old : IsEntryIn rs olddir oldname ino
   old = entry_in rs olddir oldname ino is
+
+  room_there : next_cookie (n.0).body < 2 ^ 64 - 1
+  room_there = cookie_left t.limits.entries more (n.0).body
+      (sym (ap (λ o. room_refused t.limits.entries more
+      (option_map (λ (r : Record). r.body) o)) n.1) ∙ room)
 
   -- nothing has the new name
   pub free_move : (e : ℕ) → lookup_of t newdir newname ≡ Err e
@@ -178,6 +198,7 @@ module _ (t : Tree) (g : IsGoodTree t) (olddir : ℕ) (oldname : List ℕ) (newd
         (sym (ap (λ o. ino_among false newname
         (option_and_then entries_of (option_map (λ (r : Record). r.body) o))) n.1) ∙ none);
     fine = fine;
+    room = room_there;
     steps = t.next;
     past = away;
   }
@@ -264,6 +285,9 @@ module _ (t : Tree) (g : IsGoodTree t) (olddir : ℕ) (oldname : List ℕ) (newd
           (pairs_of x.body (subst IsGoodBody (sym (at_mid newdir n.0 n.1).2)
           (g.records newdir n.0 n.1).body));
       fine = fine;
+      room = subst (λ k. k < 2 ^ 64 - 1) (sym (with_entries-next x.body
+          (without newname (listed x.body)) (next_cookie x.body) x_directory
+          ∙ ap next_cookie (at_mid newdir n.0 n.1).2)) room_there;
       steps = t.next;
       past = λ moves. sym (climbs_past-same rs left.records same_above ino t.next newdir)
           ∙ away (sym same_kind ∙ moves);
@@ -332,8 +356,9 @@ module _ (t : Tree) (g : IsGoodTree t) (olddir : ℕ) (oldname : List ℕ) (newd
       ino
   move_is (Err e) found other free = (
     g,
-    free_move t g olddir oldname newdir newname fine ino is
-        directory live (free_of t olddir newdir ino None free).away e found,
+    let known = free_of t olddir newdir ino None free in
+        free_move t g olddir oldname newdir newname fine ino is directory live known.away
+        (not (olddir == newdir)) known.room e found,
   )
   move_is (Ok i) found other free =
       let known = free_of t olddir newdir ino (Some i) free in
@@ -343,7 +368,7 @@ module _ (t : Tree) (g : IsGoodTree t) (olddir : ℕ) (oldname : List ℕ) (newd
       ∙ (let is : (i == ino) ≡ true = grind (arith, nat_tests) in is)) in (
         without_good t g newdir newname i found empty,
         replacing_move t g olddir oldname newdir
-            newname fine ino is directory live known.away i found empty ne,
+            newname fine ino is directory live known.away false known.room i found empty ne,
       )
 
 same_or_moved : (held : ℕ → Bool) (b : Bool) (o : Option ℕ) (t v u : Tree)

@@ -231,6 +231,7 @@ module _ (t : Tree) (g : IsGoodTree t) (dir ino : ℕ) (name : List ℕ) (e : Di
     unlinked_in_good = record {
       limits = g.limits;
       moment = g.moment;
+      next = g.next;
       top_is_directory = top_stays;
       numbers = by_place (λ q r. (1 ≤ q) × (q < t.next)) (g.numbers ino x w.there)
           (g.numbers dir d w.at) (λ q r ne nd was. g.numbers q r was);

@@ -1,6 +1,6 @@
 -- Trees as they are at every moment.
-use Rattle.std.specs.Prelude.{◌≡◌, ◌≢◌, ◌⊎◌, ℕ, zero, suc, ◌+◌, ◌<◌, ◌≤◌, Bool, false, not, List}
-use Rattle.std.specs.Prelude.{[], ◌∷◌, length, All, AllPairs, Contains, Some, None, if◌then◌else◌}
+use Rattle.std.specs.Prelude.{◌≡◌, ◌≢◌, ◌⊎◌, ℕ, zero, suc, ◌+◌, ◌^◌, ◌<◌, ◌≤◌, Bool, false, not}
+use Rattle.std.specs.Prelude.{List, [], ◌∷◌, length, All, AllPairs, Contains, Some, None, if◌then◌else◌}
 use Rattle.std.specs.Prelude.{◌==◌, IsTrue, IsSome, IfSome}
 use Rattle.std.specs.List.{list_any}
 use Rattle.std.specs.Str.{is_utf8}
@@ -30,11 +30,12 @@ IsGoodTarget target =
     (1 ≤ length target) × (length target ≤ 4000)
     × IsTrue (is_utf8 target) × IsTrue (not (list_any (λ b. b == 0) target))
 
+-- a directory's names are well formed and apart, and its next cookie fits 64 bits
 abbrev pub IsGoodBody : Body → Type 0
 IsGoodBody (File bytes) = length bytes ≤ 1073741824
 IsGoodBody (Directory es next above) =
     CookiesRise 1 es next × All (λ e. name_fault e.name ≡ None) es
-    × AllPairs (λ e f. e.name ≢ f.name) es
+    × AllPairs (λ e f. e.name ≢ f.name) es × (next < 2 ^ 64)
 IsGoodBody (Link target) = IsGoodTarget target
 
 pub record IsGoodRecord (r : Record) : Type 0 where
@@ -67,6 +68,7 @@ Climbs rs (suc n) i =
 pub record IsGoodTree (t : Tree) : Type 0 where
   pub limits : IsGoodLimits t.limits
   pub moment : IsGoodStamp t.moment
+  pub next : t.next < 2 ^ 64
   pub top_is_directory : IsTrue (is_directory_at (body_at t.records TOP))
   pub numbers : (i : ℕ) (r : Record) → IsAt t.records i r → (1 ≤ i) × (i < t.next)
   pub records : (i : ℕ) (r : Record) → IsAt t.records i r → IsGoodRecord r
