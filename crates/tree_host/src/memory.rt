@@ -195,10 +195,8 @@ impl Host for TreeHost {
             return Err(HostError::Fault);
         }
         let ino = walk(&self.nodes, path)?;
-        match hold(&mut self.holds, ino) {
-            Ok(()) => Ok(ino),
-            Err(_) => Err(HostError::NoMemory),
-        }
+        hold(&mut self.holds, ino)?;
+        Ok(ino)
     }
 
     fn lookup(&mut self, dir: u64, name: &[u8]) -> Result<u64, HostError> {
@@ -206,10 +204,8 @@ impl Host for TreeHost {
             return Err(HostError::Fault);
         }
         let ino = find_in(&self.nodes, dir, name)?;
-        match hold(&mut self.holds, ino) {
-            Ok(()) => Ok(ino),
-            Err(_) => Err(HostError::NoMemory),
-        }
+        hold(&mut self.holds, ino)?;
+        Ok(ino)
     }
 
     fn hold_again(&mut self, ino: u64) -> Result<(), HostError> {

@@ -317,14 +317,12 @@ fn shown(alloc: Global, nodes: &Table<Node>, entry: &DirEntry) -> Result<Option<
     let Some(node) = nodes.get(entry.ino()) else {
         return Ok(None);
     };
-    match Vec::from_slice(alloc, entry.name()) {
-        Ok(name) => Ok(Some(Entry {
-            cookie: entry.cookie(),
-            name,
-            attr: node.attr(entry.ino()),
-        })),
-        Err(_) => Err(HostError::NoMemory),
-    }
+    let name = Vec::from_slice(alloc, entry.name())?;
+    Ok(Some(Entry {
+        cookie: entry.cookie(),
+        name,
+        attr: node.attr(entry.ino()),
+    }))
 }
 
 /// The first entry of a directory above a cookie.

@@ -1,7 +1,9 @@
 //! What is told of a file, and the bounds of a tree.
-ghost use Rattle.std.specs.Prelude.{Some};
+ghost use Rattle.std.specs.Prelude.{◌≡◌, Some};
 ghost use Rattle.tree_model.specs.Attributes.{host_error_text};
+ghost use Rattle.tree_model.specs.declared.attributes.HostError.TheVariants.{NoMemory};
 
+use std::alloc::{AllocError, AllocFailed};
 use std::fmt;
 
 /// The inode number of the top directory.
@@ -105,5 +107,21 @@ impl fmt::Display for HostError {
             HostError::Fault => f.write_str("the host failed"),
             HostError::NoMemory => f.write_str("out of memory"),
         }
+    }
+}
+
+impl From<AllocError> for HostError {
+    ghost from_gives = { λ _ e. e ≡ NoMemory };
+
+    fn from(_error: AllocError) -> HostError {
+        HostError::NoMemory
+    }
+}
+
+impl<T: Drop> From<AllocFailed<T>> for HostError {
+    ghost from_gives = { λ _ e. e ≡ NoMemory };
+
+    fn from(_error: AllocFailed<T>) -> HostError {
+        HostError::NoMemory
     }
 }

@@ -46,13 +46,9 @@ impl TreeHost {
         ensures rest { KeepsRest self.old self.new }
     {
         let ino = self.next;
-        match add_node(self.alloc, &mut self.nodes, dir, name, ino, node) {
-            Ok(()) => {
-                self.next = ino + 1;
-                Ok(ino)
-            }
-            Err(_) => Err(HostError::NoMemory),
-        }
+        add_node(self.alloc, &mut self.nodes, dir, name, ino, node)?;
+        self.next = ino + 1;
+        Ok(ino)
     }
 
     // Adds a record with an entry for it, or tells the first refusal of the name.
@@ -115,9 +111,7 @@ impl TreeHost {
         if bytes.len() as u64 > self.limits.file {
             return Err(HostError::Errno(EFBIG));
         }
-        let Ok(node) = Node::file(self.alloc, mode, uid, gid, bytes, self.born) else {
-            return Err(HostError::NoMemory);
-        };
+        let node = Node::file(self.alloc, mode, uid, gid, bytes, self.born)?;
         self.place(dir, name, node)
     }
 
@@ -136,9 +130,7 @@ impl TreeHost {
         ensures fault { result ≢ Err HostError.Fault }
         ensures rest { KeepsRest self.old self.new }
     {
-        let Ok(node) = Node::link(self.alloc, uid, gid, target, self.born) else {
-            return Err(HostError::NoMemory);
-        };
+        let node = Node::link(self.alloc, uid, gid, target, self.born)?;
         self.add_record(dir, name, node)
     }
 
@@ -161,9 +153,7 @@ impl TreeHost {
         if let Some(errno) = self.name_refusal(dir, name, ino) {
             return Err(HostError::Errno(errno));
         }
-        match add_name(self.alloc, &mut self.nodes, dir, name, ino) {
-            Ok(()) => Ok(ino),
-            Err(_) => Err(HostError::NoMemory),
-        }
+        add_name(self.alloc, &mut self.nodes, dir, name, ino)?;
+        Ok(ino)
     }
 }

@@ -32,13 +32,9 @@ impl TreeHost {
             ino,
             moment: self.moment,
         };
-        match create_node(self.alloc, &mut self.nodes, &mut self.holds, new, node) {
-            Ok(()) => {
-                self.next = ino + 1;
-                Ok(ino)
-            }
-            Err(_) => Err(HostError::NoMemory),
-        }
+        create_node(self.alloc, &mut self.nodes, &mut self.holds, new, node)?;
+        self.next = ino + 1;
+        Ok(ino)
     }
 
     pub(super) fn make_directory(
@@ -65,13 +61,9 @@ impl TreeHost {
             ino,
             moment: self.moment,
         };
-        match make_node(self.alloc, &mut self.nodes, new, node) {
-            Ok(()) => {
-                self.next = ino + 1;
-                Ok(attr)
-            }
-            Err(_) => Err(HostError::NoMemory),
-        }
+        make_node(self.alloc, &mut self.nodes, new, node)?;
+        self.next = ino + 1;
+        Ok(attr)
     }
 
     pub(super) fn link_name(&mut self, ino: u64, dir: u64, name: &[u8]) -> Result<(), HostError>
@@ -90,9 +82,7 @@ impl TreeHost {
             ino,
             moment: self.moment,
         };
-        match link_node(self.alloc, &mut self.nodes, new) {
-            Ok(()) => Ok(()),
-            Err(_) => Err(HostError::NoMemory),
-        }
+        link_node(self.alloc, &mut self.nodes, new)?;
+        Ok(())
     }
 }

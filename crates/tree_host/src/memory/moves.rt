@@ -53,14 +53,10 @@ impl TreeHost {
             (tree self.new ≡ tree self.old)) }
         ensures rest { KeepsRest self.old self.new }
     {
-        match move_entry(self.alloc, &mut self.nodes, moved, self.moment) {
-            Ok(()) => {
-                let holds = &self.holds;
-                sweep_replaced(&mut self.nodes, holds, moved.there);
-                Ok(())
-            }
-            Err(_) => Err(HostError::NoMemory),
-        }
+        move_entry(self.alloc, &mut self.nodes, moved, self.moment)?;
+        let holds = &self.holds;
+        sweep_replaced(&mut self.nodes, holds, moved.there);
+        Ok(())
     }
 
     // Moves an entry, or tells why it can't be moved.

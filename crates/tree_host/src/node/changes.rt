@@ -178,10 +178,8 @@ impl Node {
         if let Some(errno) = self.change_refusal(change, limit) {
             return Err(HostError::Errno(errno));
         }
-        match self.make(change, moment) {
-            Ok(()) => Ok(()),
-            Err(_) => Err(HostError::NoMemory),
-        }
+        self.make(change, moment)?;
+        Ok(())
     }
 
     // Bytes that are written, where there are some.
@@ -216,9 +214,7 @@ impl Node {
         if let Some(errno) = self.bytes_refusal(end_refusal(new, offset, limit)) {
             return Err(HostError::Errno(errno));
         }
-        match self.overwrite(offset as usize, fitting(new, offset, limit), moment) {
-            Ok(()) => Ok(()),
-            Err(_) => Err(HostError::NoMemory),
-        }
+        self.overwrite(offset as usize, fitting(new, offset, limit), moment)?;
+        Ok(())
     }
 }

@@ -82,10 +82,7 @@ impl Node {
         let Stored::Target(target) = &self.body else {
             return Err(HostError::Errno(EINVAL));
         };
-        match Vec::from_slice(alloc, target) {
-            Ok(target) => Ok(target),
-            Err(_) => Err(HostError::NoMemory),
-        }
+        Ok(Vec::from_slice(alloc, target)?)
     }
 
     /// The target of a link, none of what is no link.

@@ -7,8 +7,8 @@ use Rattle.tree_host.specs.Kept.{tree_from}
 use Rattle.tree_host.proofs.Adding.{with_new_it_good, with_new_it_held}
 use Rattle.tree_host.proofs.memory.TreeHost.create_file.Goals as goal
 
-pub invariant_of-self : goal.invariant_of-self
-invariant_of-self c =
+pub invariant_of-self-2 : goal.invariant_of-self-2
+invariant_of-self-2 c =
     let a = c.args in
     let s = a.self.now in
     let t = tree_from s.nodes s.next s.limits s.moment in
@@ -16,12 +16,12 @@ invariant_of-self c =
     let free = sym c.create_refusal.ensures ∙ c.in_default.is in
     let r = empty_file s.moment a.mode in
     let new = new_file s.moment a.mode a.dir s.good.moment in
-    let made = c.in-Ok.ensures.ok ∙ ap (λ (r : Record). (with_new t a.dir n r).records)
+    let made = c.in_ok-create_node.ensures.ok ∙ ap (λ (r : Record). (with_new t a.dir n r).records)
     c.empty_file-node.ensures in
     record {
       good = with_new_it_good t s.holds s.good s.stored a.dir n free r new c.requires
           c.create_node.new.nodes made;
       stored = with_new_it_held t s.holds s.good s.stored a.dir n free r new c.requires
-          c.create_node.new.nodes made c.create_node.new.holds c.in-Ok.ensures.held;
+          c.create_node.new.nodes made c.create_node.new.holds c.in_ok-create_node.ensures.held;
       timed = s.timed;
     }

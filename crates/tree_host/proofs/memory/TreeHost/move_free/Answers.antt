@@ -6,14 +6,14 @@ use Rattle.tree_host.specs.Kept.{tree_from, swept_of}
 use Rattle.tree_host.proofs.Moving.{moves}
 use Rattle.tree_host.proofs.memory.TreeHost.move_free.Goals as goal
 
-pub invariant_of-self : goal.invariant_of-self
-invariant_of-self c =
+pub invariant_of-self-2 : goal.invariant_of-self-2
+invariant_of-self-2 c =
     let a = c.args in
     let s = a.self.now in
     let q = c.requires in
     let made = c.sweep_replaced.ensures ∙ ap (λ (rs : Records). swept_of (is_held s.holds)
     a.moved.there
-    rs) c.in-Ok.ensures.ok in
+    rs) c.in_ok-move_entry.ensures.ok in
     let is = moves (tree_from s.nodes s.next s.limits s.moment) s.holds s.good s.stored
     a.moved.from.dir
     a.moved.from.name.now a.moved.to.dir a.moved.to.name.now a.moved.ino q.named q.old q.directory
@@ -21,14 +21,14 @@ invariant_of-self c =
     q.other q.free c.sweep_replaced.new.nodes made in
     record { good = is.good; stored = is.held; timed = s.timed }
 
-pub returns-in-Ok-clause-ok : goal.returns-in-Ok-clause-ok
-returns-in-Ok-clause-ok c =
+pub returns-clause-ok : goal.returns-clause-ok
+returns-clause-ok c =
     let a = c.args in
     let s = a.self.now in
     let q = c.requires in
     let made = c.sweep_replaced.ensures ∙ ap (λ (rs : Records). swept_of (is_held s.holds)
     a.moved.there
-    rs) c.in-Ok.ensures.ok in
+    rs) c.in_ok-move_entry.ensures.ok in
     (moves (tree_from s.nodes s.next s.limits s.moment) s.holds s.good s.stored a.moved.from.dir
     a.moved.from.name.now a.moved.to.dir a.moved.to.name.now a.moved.ino q.named q.old q.directory
     q.live a.moved.there q.new
