@@ -1,6 +1,7 @@
 -- A good tree with a record more, and an entry for it, is good.
 use Rattle.std.proofs.Common.{◌≡◌, ◌≢◌, ℕ, zero, suc, ◌+◌, ◌-◌, ◌^◌, ◌<◌, ◌≤◌, Bool, true, false}
-use Rattle.std.proofs.Common.{cond, ◌||◌, List, [], ◌∷◌, ◌++◌, length, refl, sym, ap, ◌∙◌, subst, Option, Some}
+use Rattle.std.proofs.Common.{cond, ◌||◌, List, [], ◌∷◌, ◌++◌, length, refl, sym, ap, ◌∙◌, subst}
+use Rattle.std.proofs.Common.{Option, Some}
 use Rattle.std.proofs.Common.{None, inl, inr, ⊎_elim, arith, IsSome, IsTrue, nat_lt, get_or}
 use Rattle.std.specs.Prelude.{◌==◌, option_map, IfSome, Contains}
 use Rattle.std.proofs.Math.Logic.{∥∥₁_map}

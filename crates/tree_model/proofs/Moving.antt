@@ -1,6 +1,7 @@
 -- A good tree in which an entry moves is good.
 use Rattle.std.proofs.Common.{◌≡◌, ◌≢◌, ℕ, zero, suc, ◌+◌, ◌-◌, ◌^◌, ◌<◌, ◌≤◌, Bool, true, false}
-use Rattle.std.proofs.Common.{cond, ◌||◌, List, [], ◌∷◌, ◌++◌, length, refl, sym, ap, ◌∙◌, subst, Option, Some}
+use Rattle.std.proofs.Common.{cond, ◌||◌, List, [], ◌∷◌, ◌++◌, length, refl, sym, ap, ◌∙◌, subst}
+use Rattle.std.proofs.Common.{Option, Some}
 use Rattle.std.proofs.Common.{None, inl, inr, ⊎_elim, arith, IsSome, IsTrue, nat_lt, bytes_eq}
 use Rattle.std.proofs.Common.{get_or, unwrap_or}
 use Rattle.std.specs.Prelude.{◌==◌, option_map, IfSome, Contains}
@@ -526,7 +527,8 @@ module _ (t : Tree) (g : IsGoodTree t) (olddir : ℕ) (oldname : List ℕ) (newd
     above = λ q x es n up at is live ne. ⊎_elim
         (λ eq.
         let low = moved_above x (sym (ap (get made) eq) ∙ at) es n up is in
-        subst (λ up. IsSome (get made up) × IfSome (get made up) (λ d. 1 ≤ names_in q d)) (sym low) (
+        subst (λ up. IsSome (get made up)
+        × IfSome (get made up) (λ d. 1 ≤ names_in q d)) (sym low) (
           stored newdir (subst IsSome (sym w.there) refl),
           subst
               (λ q. IfSome (get made newdir) (λ d. 1 ≤ names_in q d)) (sym eq)

@@ -1,11 +1,11 @@
 -- Pages of a directory: an entry after a cookie is the first of those above it, the entries above
 -- the last of a page are those that it left, and a page of a page's rest goes on where it ended.
-use Rattle.std.proofs.Common.{◌≡◌, ◌≢◌, ℕ, ◌+◌, ◌-◌, ◌<◌, ◌≤◌, Bool, true, false, cond}
-use Rattle.std.proofs.Common.{List, [], ◌∷◌, ◌++◌, refl, sym, ap, ◌∙◌, subst, Option, Some}
-use Rattle.std.proofs.Common.{None, Result, Ok, ⊎_elim, arith, nat_lt, IsSome}
+use Rattle.std.proofs.Common.{◌≡◌, ◌≢◌, ℕ, zero, suc, ◌+◌, ◌-◌, ◌^◌, ◌<◌, ◌≤◌, Bool, true, false}
+use Rattle.std.proofs.Common.{cond, List, [], ◌∷◌, ◌++◌, length, get_or, refl, sym, ap, ◌∙◌, subst}
+use Rattle.std.proofs.Common.{Option, Some, None, Result, Ok, ⊎_elim, arith, nat_lt, IsSome}
 use Rattle.std.specs.Prelude.{All, nat_le, filter, Contains, option_map}
 use Rattle.std.specs.Prelude.{option_and_then, sum_by}
-use Rattle.std.specs.List.{filter_map, cons_option}
+use Rattle.std.specs.List.{AllByRecursion, filter_map, cons_option}
 use Rattle.std.proofs.lemmas.Bool.{false≢true, cases_lt}
 use Rattle.std.proofs.lemmas.Bool.Decides.{nat_tests}
 use Rattle.std.proofs.lemmas.List.Elements.{Contains-append_right, All-contains}
@@ -21,7 +21,7 @@ use Rattle.tree_model.specs.Reading.{Entry, shown_entry, entry_above, entry_afte
 use Rattle.tree_model.specs.Reading.{entry_after_of}
 use Rattle.tree_model.specs.Pages.{entries_past, entries_past_of, front_within, last_cookie}
 use Rattle.tree_model.specs.Pages.{page_of}
-use Rattle.tree_model.specs.Pages.{CookiesAscend}
+use Rattle.tree_model.specs.Pages.{CookiesAscend, IsGoodEntry}
 
 -- ---- the entries above a cookie
 
@@ -96,21 +96,26 @@ first_past c from (e ∷ es) end d rise is =
 
 -- ---- with what is told of what they name
 
+-- what is told of an entry of a directory
+record Shows (d : DirEntry) (e : Entry) : Type 0 where
+  cookie : d.cookie ≡ e.cookie
+  name : d.name ≡ e.name
+  ino : d.ino ≡ e.attr.ino
+
 -- what a directory of a good tree has above a cookie
 record BeginsAbove (rs : Records) (es : List DirEntry) (c : ℕ) (e : Entry) : Type 0 where
   splits : entries_past rs c (Some es) ≡ e ∷ entries_past rs e.cookie (Some es)
   above : c < e.cookie
-  named : (d : DirEntry) × Contains es d × (d.name ≡ e.name)
+  of : (d : DirEntry) × Contains es d × Shows d e
 
 shown : (rs : Records) (d : DirEntry) (o : Option Record) → get rs d.ino ≡ o → IsSome o
-    → (e : Entry) × (shown_entry rs d ≡ Some e) × (e.cookie ≡ d.cookie) × (d.name ≡ e.name)
+    → (e : Entry) × (shown_entry rs d ≡ Some e) × Shows d e
 shown rs d None at some = absurd (false≢true some)
 shown rs d (Some r) at some = (
   record { cookie = d.cookie; name = d.name; attr = attr_of d.ino r },
   ap (option_map (λ (r : Record). let e : Entry =
       record { cookie = d.cookie; name = d.name; attr = attr_of d.ino r } in e)) at,
-  refl,
-  refl,
+  record { cookie = refl; name = refl; ino = refl },
 )
 
 begins_above : (rs : Records) (es : List DirEntry) (end c : ℕ) (d : DirEntry)
@@ -125,13 +130,31 @@ begins_above rs es end c d stored rise is =
       record {
         splits = ap (filter_map (shown_entry rs)) first.splits
             ∙ ap (λ o. cons_option o (filter_map (shown_entry rs) (past d.cookie es))) e.1
-            ∙ ap (λ k. e.0 ∷ filter_map (shown_entry rs) (past k es)) (sym e.2);
-        above = subst (λ k. c < k) (sym e.2) first.above;
-        named = (d, first.among, e.3);
+            ∙ ap (λ k. e.0 ∷ filter_map (shown_entry rs) (past k es)) (e.2).cookie;
+        above = subst (λ k. c < k) (e.2).cookie first.above;
+        of = (d, first.among, e.2);
       },
     )
 
 -- ---- a directory of a good tree
+
+rise_end : (from : ℕ) (es : List DirEntry) (end : ℕ) → CookiesRise from es end → from ≤ end
+rise_end from [] end rise = rise
+rise_end from (e ∷ es) end rise =
+    let first = rise.0 in
+    let later = rise_end (e.cookie + 1) es end rise.1 in
+    omega arith
+
+-- a cookie is below the directory's next one
+cookie_below : (from : ℕ) (es : List DirEntry) (end : ℕ) (d : DirEntry) → CookiesRise from es end
+    → (k : ℕ) → k < length es → get_or es k d ≡ d → d.cookie < end
+cookie_below from [] end d rise k low is = absurd (omega arith)
+cookie_below from (e ∷ es) end d rise zero low is =
+    let later = rise_end (e.cookie + 1) es end rise.1 in
+    let same = ap (λ (d : DirEntry). d.cookie) is in
+    omega arith
+cookie_below from (e ∷ es) end d rise (suc k) low is =
+    cookie_below (e.cookie + 1) es end d rise.1 k (omega arith) is
 
 abbrev answered : Option Entry → Result (Option Entry) ℕ
 answered o = Ok o
@@ -146,6 +169,7 @@ module _ (t : Tree) (g : IsGoodTree t) (dir : ℕ) where
     rise : CookiesRise 1 es end
     stored : (f : DirEntry) → Contains es f → IsSome (get rs f.ino)
     named : (f : DirEntry) → Contains es f → name_fault f.name ≡ None
+    low : end < 2 ^ 64
 
   holds_in : (r : Record) → IsAt rs dir r → (b : Body) → r.body ≡ b → (es : List DirEntry)
       → entries_of b ≡ Some es → Holds es
@@ -161,6 +185,7 @@ module _ (t : Tree) (g : IsGoodTree t) (dir : ℕ) where
             (subst (λ es. Contains es f) (sym same) has))).0;
         named = λ f has. All-contains (λ e. name_fault e.name ≡ None) es f
             (subst (λ es. All (λ e. name_fault e.name ≡ None) es) same good.1) has;
+        low = good.3;
       }
 
   holds : (es : List DirEntry) → entries_at rs dir ≡ Some es → Holds es
@@ -170,13 +195,32 @@ module _ (t : Tree) (g : IsGoodTree t) (dir : ℕ) where
     by_record None at is = absurd (cc)
     by_record (Some r) at is = holds_in r at r.body refl es is
 
+  number_fits : (i : ℕ) → IsSome (get rs i) → i < 2 ^ 64
+  number_fits i some = by_record (get rs i) refl some where
+    by_record : (o : Option Record) → get rs i ≡ o → IsSome o → i < 2 ^ 64
+    by_record None at some = absurd (false≢true some)
+    by_record (Some r) at some =
+        let below = (g.numbers i r at).1 in
+        let fits = g.next in
+        omega arith
+
+  good_entry : (es : List DirEntry) → Holds es → (d : DirEntry) → Contains es d → (e : Entry)
+      → Shows d e → IsGoodEntry e
+  good_entry es has d among e shows = record {
+    named = subst (λ n. name_fault n ≡ None) shows.name (has.named d among);
+    cookie = subst (λ k. k < 2 ^ 64) shows.cookie
+        (let below = cookie_below 1 es has.end d has.rise among.0 among.1 among.2 in
+        let low = has.low in omega arith);
+    ino = subst (λ k. k < 2 ^ 64) shows.ino (number_fits d.ino (has.stored d among));
+  }
+
   -- what comes after a cookie, by what the directory has above it
   data Comes (c : ℕ) : Type 0 where
     none_there : entries_past_of t dir c ≡ [] → ((e : Entry) → entry_after_of t dir c ≢ Ok (Some e))
         → Comes c
     one_there : (e : Entry) → entry_after_of t dir c ≡ Ok (Some e)
         → entries_past_of t dir c ≡ e ∷ entries_past_of t dir e.cookie → c < e.cookie
-        → name_fault e.name ≡ None → Comes c
+        → IsGoodEntry e → Comes c
 
   comes : (c : ℕ) → Comes c
   comes c = by_entries (entries_at rs dir) refl where
@@ -199,8 +243,7 @@ module _ (t : Tree) (g : IsGoodTree t) (dir : ℕ) where
           (ap (entries_past rs c) is ∙ (first.2).splits
           ∙ ap (λ xs. first.0 ∷ xs) (sym (ap (entries_past rs (first.0).cookie) is)))
           (first.2).above
-          (let named = (first.2).named in subst (λ n. name_fault n ≡ None) named.2
-          (has.named named.0 named.1))
+          (let of = (first.2).of in good_entry es has of.0 of.1 first.0 of.2)
 
   -- where none comes after a cookie, there are none above it
   pub none_after : (c : ℕ) → entry_after_of t dir c ≡ Ok None → entries_past_of t dir c ≡ []
@@ -221,14 +264,17 @@ module _ (t : Tree) (g : IsGoodTree t) (dir : ℕ) where
         subst (λ (e : Entry). (entries_past_of t dir c ≡ e ∷ entries_past_of t dir e.cookie)
         × (c < e.cookie)) same (splits, above)
 
-  -- its name has no fault
-  pub named_after : (c : ℕ) (e : Entry) → entry_after_of t dir c ≡ Ok (Some e)
-      → name_fault e.name ≡ None
-  named_after c e is = by_cases (comes c) where
-    by_cases : Comes c → name_fault e.name ≡ None
+  -- its name has no fault, and its numbers fit
+  good_after : (c : ℕ) (e : Entry) → entry_after_of t dir c ≡ Ok (Some e) → IsGoodEntry e
+  good_after c e is = by_cases (comes c) where
+    by_cases : Comes c → IsGoodEntry e
     by_cases (none_there none never) = absurd (never e is)
     by_cases (one_there f there splits above fine) =
-        let same : f ≡ e = cc in subst (λ (e : Entry). name_fault e.name ≡ None) same fine
+        let same : f ≡ e = cc in subst IsGoodEntry same fine
+
+  pub named_after : (c : ℕ) (e : Entry) → entry_after_of t dir c ≡ Ok (Some e)
+      → name_fault e.name ≡ None
+  named_after c e is = (good_after c e is).named
 
   abbrev pub Rests : ℕ → List Entry → Entry → Type 0
   Rests c more e = (entry_after_of t dir c ≡ Ok (Some e)) × (entries_past_of t dir e.cookie ≡ more)
@@ -261,6 +307,17 @@ module _ (t : Tree) (g : IsGoodTree t) (dir : ℕ) where
   pub past_ascends : (c : ℕ) → CookiesAscend c (entries_past_of t dir c)
   past_ascends c = ascends c (entries_past_of t dir c) refl
 
+  -- each entry of a listing is good
+  all_good : (c : ℕ) (es : List Entry) → entries_past_of t dir c ≡ es
+      → AllByRecursion IsGoodEntry es
+  all_good c [] is = tt
+  all_good c (e ∷ es) is =
+      let first = rest_after c e es is in
+      (good_after c e first.0, all_good e.cookie es first.1)
+
+  pub past_good : (c : ℕ) → AllByRecursion IsGoodEntry (entries_past_of t dir c)
+  past_good c = all_good c (entries_past_of t dir c) refl
+
 -- ---- what has room
 
 module _ {A : Type 0} (size : A → ℕ) where
@@ -269,6 +326,17 @@ module _ {A : Type 0} (size : A → ℕ) where
 
   abbrev total : List A → ℕ
   total xs = sum_by size xs
+
+  -- what holds of all holds of what is given
+  pub within-all : (P : A → Type 0) (room : ℕ) (xs : List A) → AllByRecursion P xs
+      → AllByRecursion P (within room xs)
+  within-all P room [] all = tt
+  within-all P room (x ∷ xs) all =
+      by_test (nat_le (size x) room) (within-all P (room - size x) xs all.1) where
+        by_test : (b : Bool) → AllByRecursion P (within (room - size x) xs)
+            → AllByRecursion P (cond b (x ∷ within (room - size x) xs) [])
+        by_test true later = (all.0, later)
+        by_test false later = tt
 
   -- what is given, and what is left
   pub record SplitsWithin (room : ℕ) (xs : List A) : Type 0 where
@@ -362,6 +430,10 @@ module _ {A : Type 0} (size : A → ℕ) where
 -- ---- a page, entry by entry
 
 module _ (size : Entry → ℕ) (t : Tree) (g : IsGoodTree t) (dir room c : ℕ) where
+  -- each entry of a page is good
+  pub page_good : AllByRecursion IsGoodEntry (page_of size room t dir c)
+  page_good = within-all size IsGoodEntry room (entries_past_of t dir c) (past_good t g dir c)
+
   pub page_ends : entry_after_of t dir c ≡ Ok None → page_of size room t dir c ≡ []
   page_ends none = ap (front_within size room) (none_after t g dir c none)
 

@@ -1,7 +1,7 @@
 -- Trees as they are at every moment.
 use Rattle.std.specs.Prelude.{◌≡◌, ◌≢◌, ◌⊎◌, ℕ, zero, suc, ◌+◌, ◌^◌, ◌<◌, ◌≤◌, Bool, false, not}
-use Rattle.std.specs.Prelude.{List, [], ◌∷◌, length, All, AllPairs, Contains, Some, None, if◌then◌else◌}
-use Rattle.std.specs.Prelude.{◌==◌, IsTrue, IsSome, IfSome}
+use Rattle.std.specs.Prelude.{List, [], ◌∷◌, length, All, AllPairs, Contains, Some, None}
+use Rattle.std.specs.Prelude.{if◌then◌else◌, ◌==◌, IsTrue, IsSome, IfSome}
 use Rattle.std.specs.List.{list_any}
 use Rattle.std.specs.Str.{is_utf8}
 use Rattle.std.specs.FinMap as map

@@ -1,7 +1,8 @@
 -- A directory's entries by pages.
-use Rattle.std.specs.Prelude.{ℕ, ◌-◌, ◌<◌, List, [], ◌∷◌, filter, Option, Some, None}
+use Rattle.std.specs.Prelude.{◌≡◌, ℕ, ◌-◌, ◌^◌, ◌<◌, List, [], ◌∷◌, filter, Option, Some, None}
 use Rattle.std.specs.Prelude.{if◌then◌else◌, nat_le, nat_lt}
 use Rattle.std.specs.List.{filter_map}
+use Rattle.port_base.specs.Names.{name_fault}
 use Rattle.tree_model.specs.Tree.{Tree, Records, DirEntry}
 use Rattle.tree_model.specs.Finding.{entries_at}
 use Rattle.tree_model.specs.Reading.{Entry, shown_entry}
@@ -29,6 +30,12 @@ page_of size room t dir cookie = front_within size room (entries_past_of t dir c
 abbrev pub last_cookie : ℕ → List Entry → ℕ
 last_cookie cookie [] = cookie
 last_cookie cookie (e ∷ es) = last_cookie e.cookie es
+
+-- an entry as a good tree lists it: its name has no fault, and its numbers fit 64 bits
+pub record IsGoodEntry (e : Entry) : Type 0 where
+  pub named : name_fault e.name ≡ None
+  pub cookie : e.cookie < 2 ^ 64
+  pub ino : e.attr.ino < 2 ^ 64
 
 -- each cookie is above the one before it, and the first above the given one
 abbrev pub CookiesAscend : ℕ → List Entry → Type 0
