@@ -34,10 +34,10 @@ listed s f room o es = told_answer s r_readdir
     (cond (is_open f.open_state) (Ok (entries_spelling (front_within entry_size room es)))
     (Err EBADF)))
 
-abbrev open_top : Fid
+abbrev pub open_top : Fid
 open_top = record { ino = 1; open_state = Opened 0 false }
 
-eight_listing : get with_listing.fids 8 ≡ Some open_top
+pub eight_listing : get with_listing.fids 8 ≡ Some open_top
 eight_listing = inserted server.fids 8 open_top
 
 eight_closed : get with_closed.fids 8 ≡ Some (closed 2)

@@ -33,12 +33,16 @@ page_room count msize = min count (msize - RREAD_HEADER_SIZE)
 abbrev pub listed_page : Tree → ℕ → ℕ → ℕ → List ℕ
 listed_page t dir offset room = entries_spelling (page_of entry_size room t dir offset)
 
--- a page of a directory that a fid has open
+-- what is told of a directory that a fid has open
+abbrev pub listed_by : {A : Type 0} → ServerState → Fid → A → Result A ℕ
+listed_by s f listing =
+    if not (is_directory_at (body_at s.tree.records f.ino)) then Err ENOTDIR else
+    if is_open f.open_state then Ok listing else Err EBADF
+
+-- a page of it
 abbrev pub page_by : ServerState → ℕ → ℕ → Fid → Result (List ℕ) ℕ
 page_by s offset count f =
-    if not (is_directory_at (body_at s.tree.records f.ino)) then Err ENOTDIR else
-    if is_open f.open_state then Ok (listed_page s.tree f.ino offset (page_room count s.msize))
-    else Err EBADF
+    listed_by s f (listed_page s.tree f.ino offset (page_room count s.msize))
 
 abbrev pub readdir_told : ServerState → ℕ → ℕ → ℕ → Result (List ℕ) ℕ
 readdir_told s fid offset count = by_fid (page_by s offset count) (map.get s.fids fid)
