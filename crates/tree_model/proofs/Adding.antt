@@ -16,6 +16,7 @@ use Rattle.tree_model.specs.Tree.Body.{File, Directory, Link}
 use Rattle.tree_model.specs.Good.{IsAt, IsGoodRecord, IsGoodTree, Climbs, links_of}
 use Rattle.tree_model.specs.Sound.{IsKept, AreStored}
 use Rattle.tree_model.specs.Making.{with_entries, next_cookie, joined_by}
+use Rattle.tree_model.proofs.TwoPlaces as two
 use Rattle.tree_model.proofs.Maps.{inserted, insert_keeps}
 use Rattle.tree_model.proofs.Counting.{weigh-insert}
 use Rattle.tree_model.proofs.Naming.{named_is_stored}
@@ -128,28 +129,15 @@ module _ (t : Tree) (g : IsGoodTree t) (dir : ℕ) (name : List ℕ) (d d' f : R
   live_next = ap (λ n. (next == TOP) || nat_lt 0 n) one_name ∙ or_true (next == TOP)
 
   by_place : (P : ℕ → Record → Type 0) → P next f → P dir d'
-      → ((q : ℕ) (x : Record) → q ≢ next → q ≢ dir → IsAt rs q x → P q x) → (q : ℕ) (x : Record)
-      → IsAt made q x → P q x
-  by_place P here there other q x is = ⊎_elim
-      (λ eq. let same = same_some f x (sym at_next ∙ sym (ap (get made) eq) ∙ is) in subst
-      (λ q. P q x) (sym eq) (subst (P next) same here))
-      (λ ne. ⊎_elim
-      (λ eq. let same = same_some d' x (sym at_dir ∙ sym (ap (get made) eq) ∙ is) in subst
-      (λ q. P q x) (sym eq) (subst (P dir) same there))
-      (λ nd. other q x ne nd (sym (at_other q ne nd) ∙ is))
-      (cases_eq q dir))
-      (cases_eq q next)
+      → ((q : ℕ) (r : Record) → q ≢ next → q ≢ dir → IsAt rs q r → P q r) → (q : ℕ) (r : Record)
+      → IsAt made q r → P q r
+  by_place = two.by_place rs made next dir f d' at_next at_dir at_other
 
   stored : (q : ℕ) → IsSome (get rs q) → IsSome (get made q)
-  stored q had = ⊎_elim
-      (λ eq. subst IsSome (sym (ap (get made) eq ∙ at_next)) refl)
-      (λ ne. ⊎_elim (λ eq. subst IsSome (sym (ap (get made) eq ∙ at_dir)) refl)
-      (λ nd. subst IsSome (sym (at_other q ne nd)) had) (cases_eq q dir))
-      (cases_eq q next)
+  stored = two.stored rs made next dir f d' at_next at_dir at_other
 
   was_stored : (q : ℕ) → q ≢ next → IsSome (get made q) → IsSome (get rs q)
-  was_stored q ne had = ⊎_elim (λ eq. subst IsSome (sym (ap (get rs) eq ∙ w.at)) refl)
-      (λ nd. subst IsSome (at_other q ne nd) had) (cases_eq q dir)
+  was_stored = two.was_stored_but rs made next dir f d' at_next at_dir at_other d w.at
 
   not_new : (q : ℕ) (x : Record) → IsAt rs q x → q ≢ next
   not_new q x at is = let none : get rs q ≡ None = ap (get rs) is ∙ free in cc

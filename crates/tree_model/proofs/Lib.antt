@@ -5,6 +5,7 @@ pub mod Naming
 pub mod Sweeping
 pub mod Keeping
 pub mod Bodies
+mod TwoPlaces
 pub mod Adding
 pub mod Files
 pub mod Placing

@@ -16,6 +16,7 @@ use Rattle.tree_model.specs.Finding.{entry_named}
 use Rattle.tree_model.specs.Sound.{IsKept, IsKeptBut, AreStored}
 use Rattle.tree_model.specs.Making.{with_entries, next_cookie}
 use Rattle.tree_model.specs.Unlinking.{without, links_left}
+use Rattle.tree_model.proofs.TwoPlaces as two
 use Rattle.tree_model.proofs.Maps.{inserted, insert_keeps}
 use Rattle.tree_model.proofs.Counting.{weigh-insert}
 use Rattle.tree_model.proofs.Naming.{names_in-le, top_is_unnamed}
@@ -136,29 +137,13 @@ module _ (t : Tree) (g : IsGoodTree t) (dir ino : ℕ) (name : List ℕ) (e : Di
   by_place : (P : ℕ → Record → Type 0) → P ino x' → P dir d'
       → ((q : ℕ) (r : Record) → q ≢ ino → q ≢ dir → IsAt rs q r → P q r) → (q : ℕ) (r : Record)
       → IsAt made q r → P q r
-  by_place P here there other q r is = ⊎_elim
-      (λ eq. let same = same_some x' r (sym at_ino ∙ sym (ap (get made) eq) ∙ is) in subst
-      (λ q. P q r) (sym eq) (subst (P ino) same here))
-      (λ ne. ⊎_elim
-      (λ eq. let same = same_some d' r (sym at_dir ∙ sym (ap (get made) eq) ∙ is) in subst
-      (λ q. P q r) (sym eq) (subst (P dir) same there))
-      (λ nd. other q r ne nd (sym (at_other q ne nd) ∙ is))
-      (cases_eq q dir))
-      (cases_eq q ino)
+  by_place = two.by_place rs made ino dir x' d' at_ino at_dir at_other
 
   stored : (q : ℕ) → IsSome (get rs q) → IsSome (get made q)
-  stored q had = ⊎_elim
-      (λ eq. subst IsSome (sym (ap (get made) eq ∙ at_ino)) refl)
-      (λ ne. ⊎_elim (λ eq. subst IsSome (sym (ap (get made) eq ∙ at_dir)) refl)
-      (λ nd. subst IsSome (sym (at_other q ne nd)) had) (cases_eq q dir))
-      (cases_eq q ino)
+  stored = two.stored rs made ino dir x' d' at_ino at_dir at_other
 
   was_stored : (q : ℕ) → IsSome (get made q) → IsSome (get rs q)
-  was_stored q had = ⊎_elim
-      (λ eq. subst IsSome (sym (ap (get rs) eq ∙ w.there)) refl)
-      (λ ne. ⊎_elim (λ eq. subst IsSome (sym (ap (get rs) eq ∙ w.at)) refl)
-      (λ nd. subst IsSome (at_other q ne nd) had) (cases_eq q dir))
-      (cases_eq q ino)
+  was_stored = two.was_stored rs made ino dir x' d' at_ino at_dir at_other x d w.there w.at
 
   same_above : (es : List DirEntry) (n up : ℕ) → d'.body ≡ Directory es n up → (gs : List DirEntry)
       × (m : ℕ) × (d.body ≡ Directory gs m up)
