@@ -6,10 +6,11 @@ use Rattle.port_base.specs.Escapes.{escaped}
 use Rattle.port_base.specs.Paths.{components, names, path_starts_with, same_path}
 use Rattle.libmount.specs.MountOptions.{option_names}
 use Rattle.libmount.specs.MountTables.{cover, mount, print_row, print_table, umount}
-use Rattle.libmount.specs.WorkedTables.{call, places, printed, then_step, two_mounts}
+use Rattle.libmount.specs.WorkedTables.{call, lines_of_bind, lines_of_change, lines_of_first}
+use Rattle.libmount.specs.WorkedTables.{lines_of_mounts, lines_of_move, places, printed, then_step}
+use Rattle.libmount.specs.WorkedTables.{two_mounts}
 
-pub mounted : printed two_mounts ≡ codes
-    "1 1 0:1 / / rw - rootfs rootfs rw\n2 1 0:2 / /a rw,nosuid,nodev - tmpfs t rw,size=1\n3 2 0:3 / /a/x rw - tmpfs u rw,size=1\n"
+pub mounted : printed two_mounts ≡ lines_of_mounts
 unfolding mount umount cover print_row print_table option_names escaped components names
     path_starts_with same_path digits
 mounted = refl
@@ -24,26 +25,25 @@ unfolding mount umount cover print_row print_table option_names escaped componen
     path_starts_with same_path digits
 busy = refl
 
-pub unmounted : printed (then_step two_mounts (umount (codes "/a/x/"))) ≡ codes
-    "1 1 0:1 / / rw - rootfs rootfs rw\n2 1 0:2 / /a rw,nosuid,nodev - tmpfs t rw,size=1\n"
+pub unmounted : printed (then_step two_mounts (umount (codes "/a/x/"))) ≡ lines_of_first
 unfolding mount umount cover print_row print_table option_names escaped components names
     path_starts_with same_path digits
 unmounted = refl
 
 pub bound_with_all : printed (then_step two_mounts (mount (call 20480 (codes "/a") (codes "/b c"))))
-    ≡ codes "1 1 0:1 / / rw - rootfs rootfs rw\n2 1 0:2 / /a rw,nosuid,nodev - tmpfs t rw,size=1\n3 2 0:3 / /a/x rw - tmpfs u rw,size=1\n4 1 0:2 / /b\\040c rw,nosuid,nodev - tmpfs t rw,size=1\n5 4 0:3 / /b\\040c/x rw - tmpfs u rw,size=1\n"
+    ≡ lines_of_bind
 unfolding mount umount cover print_row print_table option_names escaped components names
     path_starts_with same_path digits
 bound_with_all = refl
 
-pub moved : printed (then_step two_mounts (mount (call 8192 (codes "/a") (codes "/b c")))) ≡ codes
-    "1 1 0:1 / / rw - rootfs rootfs rw\n2 1 0:2 / /b\\040c rw,nosuid,nodev - tmpfs t rw,size=1\n3 2 0:3 / /b\\040c/x rw - tmpfs u rw,size=1\n"
+pub moved : printed (then_step two_mounts (mount (call 8192 (codes "/a") (codes "/b c"))))
+    ≡ lines_of_move
 unfolding mount umount cover print_row print_table option_names escaped components names
     path_starts_with same_path digits
 moved = refl
 
-pub changed : printed (then_step two_mounts (mount (call 41 (codes "none") (codes "/a")))) ≡ codes
-    "1 1 0:1 / / rw - rootfs rootfs rw\n2 1 0:2 / /a ro,noexec - tmpfs t rw,size=1\n3 2 0:3 / /a/x rw - tmpfs u rw,size=1\n"
+pub changed : printed (then_step two_mounts (mount (call 41 (codes "none") (codes "/a"))))
+    ≡ lines_of_change
 unfolding mount umount cover print_row print_table option_names escaped components names
     path_starts_with same_path digits
 changed = refl

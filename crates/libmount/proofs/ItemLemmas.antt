@@ -4,7 +4,7 @@ use Rattle.std.proofs.Common.{Result, Ok, Err, refl, ap, ◌∙◌, arith}
 use Rattle.std.specs.List.{cons_option, filter_map}
 use Rattle.libmount.specs.declared.mountinfo.errors.ParseError.{ParseError}
 use Rattle.libmount.specs.declared.mountinfo.errors.ParseError.TheVariants.{Row as ErrorRow}
-use Rattle.libmount.specs.declared.mountinfo.errors.ParseError.TheVariants.{NoMemory as NoErrorMemory}
+use Rattle.libmount.specs.declared.mountinfo.errors.ParseError.TheVariants.{NoMemory as OutOfMemory}
 use Rattle.libmount.specs.declared.mountinfo.errors.RowFault.{RowFault}
 use Rattle.libmount.specs.declared.mountinfo.errors.RowFault.TheVariants.{Row as RefusedRow}
 use Rattle.libmount.specs.declared.mountinfo.errors.RowFault.TheVariants.{NoMemory as NoRowMemory}
@@ -36,9 +36,9 @@ module _ (number : ℕ) (line : Placed) where
       → IsRefused fault number line.1 e → GivesItem (Some (Err e)) (item_of (number, line))
   unfolding item_of
   item-err (RefusedRow error) (ErrorRow e) h is = rw (h, is) refl
-  item-err (RefusedRow error) NoErrorMemory h is = rw h refl
+  item-err (RefusedRow error) OutOfMemory h is = rw h refl
   item-err NoRowMemory (ErrorRow e) h is = absurd is
-  item-err NoRowMemory NoErrorMemory h is = not-none (row line) h
+  item-err NoRowMemory OutOfMemory h is = not-none (row line) h
 
 module _ (all : List Item) (ls : List Line) (line : Line) (rest : List Line)
     (so : all ≡ filter_map item_of ls) (first : ls ≡ line ∷ rest) where
@@ -62,7 +62,7 @@ module _ (all : List Item) (ls : List Line) (line : Line) (rest : List Line)
       → TakesItem all (Some item) (filter_map item_of rest)
   takes-line (Ok m) h = by_item _ h
   takes-line (Err (ErrorRow e)) h = by_item _ h
-  takes-line (Err NoErrorMemory) h = rw by_first (some-left (item_of line) h)
+  takes-line (Err OutOfMemory) h = rw by_first (some-left (item_of line) h)
 
 pub takes-none : (all : List Item) (ls ms : List Line) → all ≡ filter_map item_of ls → ls ≡ []
     → ms ≡ [] → (all ≡ []) × (filter_map item_of ms ≡ [])

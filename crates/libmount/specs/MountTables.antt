@@ -135,26 +135,36 @@ remount call table =
     })
     else Err EINVAL
 
+-- the row of a bind, which has no number of its own yet
+abbrev pub bound_row : List ℕ → List ℕ → MountTable → Mount
+bound_row source target table =
+    let row = cover source table.rows in
+    record row { root = moved_path row.point row.root source; point = target }
+
 -- the part of the tree at one place, shown at another too
 abbrev pub bound : List ℕ → List ℕ → MountTable → MountTable
-bound source target table =
-    let row = cover source table.rows in
-    add_row (record row { root = moved_path row.point row.root source; point = target }) table
+bound source target table = add_row (bound_row source target table) table
+
+-- the row with a place below one path put below another
+abbrev pub moved_row : List ℕ → List ℕ → Mount → Mount
+moved_row source target row = record row { point = moved_path source target row.point }
 
 -- a mount below one place, shown below another too
 abbrev pub copy_row : List ℕ → List ℕ → MountTable → Mount → MountTable
-copy_row source target table row =
-    add_row (record row { point = moved_path source target row.point }) table
+copy_row source target table row = add_row (moved_row source target row) table
 
 abbrev pub is_below : List ℕ → Mount → Bool
 is_below path row = path_starts_with row.point path && not (is_at path row)
 
+-- the same, with the mounts below the one place
+abbrev pub bound_all : List ℕ → List ℕ → MountTable → MountTable
+bound_all source target table = fold (copy_row source target) (bound source target table)
+    (filter (is_below source) table.rows)
+
 abbrev pub bind : List ℕ → MountCall → MountTable → Result MountTable ℕ
 bind source call table =
     if not (is_there table source) then Err ENOENT else
-    if has call.flags (bits_of MS_REC)
-    then Ok (fold (copy_row source call.target) (bound source call.target table)
-    (filter (is_below source) table.rows))
+    if has call.flags (bits_of MS_REC) then Ok (bound_all source call.target table)
     else Ok (bound source call.target table)
 
 -- the numbers of a mount and of those below it, by their parents
@@ -164,24 +174,28 @@ with_child ids row = if list_any (λ id. id == row.parent) ids then row.id ∷ i
 abbrev pub is_among : List ℕ → Mount → Bool
 is_among ids row = list_any (λ id. id == row.id) ids
 
+-- a row whose number isn't among these
+abbrev pub stays_among : List ℕ → Mount → Bool
+stays_among ids row = not (is_among ids row)
+
 abbrev pub with_parent : ℕ → List Mount → List Mount
 with_parent parent [] = []
 with_parent parent (row ∷ rows) = record row { parent = parent } ∷ rows
 
--- the mount and those below it go to the end, below the target
-abbrev pub relocated : List ℕ → List ℕ → Mount → MountTable → MountTable
-relocated source target top table =
-    let ids = fold with_child (top.id ∷ []) table.rows in
-    let others = filter (λ row. not (is_among ids row)) table.rows in
-    let moved = map (λ (row : Mount). record row { point = moved_path source target row.point })
-    (filter (is_among ids) table.rows) in
-    record table { rows = others ++ with_parent (cover target others).id moved }
+-- the mount with a number and those below it go to the end, below the target
+abbrev pub relocated : List ℕ → List ℕ → ℕ → List Mount → List Mount
+relocated source target top rows =
+    let ids = fold with_child (top ∷ []) rows in
+    let others = filter (stays_among ids) rows in
+    let moved = map (moved_row source target) (filter (is_among ids) rows) in
+    others ++ with_parent (cover target others).id moved
 
 abbrev pub move_mount : List ℕ → MountCall → MountTable → Result MountTable ℕ
 move_mount source call table = elim (last_at source table.rows) [
   | None ↦ Err EINVAL
   | Some top ↦ if same_path source (codes "/") || path_starts_with call.target source
-      then Err EINVAL else Ok (relocated source call.target top table)
+      then Err EINVAL
+      else Ok (record table { rows = relocated source call.target top.id table.rows })
 ]
 
 abbrev pub or_default : List ℕ → Option (List ℕ) → List ℕ
@@ -196,8 +210,9 @@ abbrev pub super_options_of : ℕ → List ℕ → List ℕ
 super_options_of flags [] = read_or_write flags
 super_options_of flags (byte ∷ bytes) = read_or_write flags ++ (codes "," ++ byte ∷ bytes)
 
-abbrev pub new_mount : List ℕ → MountCall → MountTable → Result MountTable ℕ
-new_mount fstype call table = Ok (record (add_row (record {
+-- the row of a new file system, which has no number of its own yet
+abbrev pub new_row : List ℕ → MountCall → MountTable → Mount
+new_row fstype call table = record {
   id = 0;
   parent = 0;
   minor = table.next_minor;
@@ -207,7 +222,11 @@ new_mount fstype call table = Ok (record (add_row (record {
   fstype = fstype;
   source = or_default (codes "none") call.source;
   super_options = super_options_of call.flags (or_default [] call.options);
-}) table) { next_minor = table.next_minor + 1 })
+}
+
+abbrev pub new_mount : List ℕ → MountCall → MountTable → Result MountTable ℕ
+new_mount fstype call table =
+    Ok (record (add_row (new_row fstype call table) table) { next_minor = table.next_minor + 1 })
 
 -- a text that is given, or EINVAL
 abbrev pub given : {A : Type 0} → Option (List ℕ) → (List ℕ → Result A ℕ) → Result A ℕ

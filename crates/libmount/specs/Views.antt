@@ -5,7 +5,7 @@ use Rattle.port_base.specs.declared.flags.MsFlags.{MsFlags}
 use Rattle.port_base.specs.Flags.{bits_of}
 use Rattle.libmount.specs.declared.mountinfo.errors.ParseError.{ParseError}
 use Rattle.libmount.specs.declared.mountinfo.errors.ParseError.TheVariants.{Row as ErrorRow}
-use Rattle.libmount.specs.declared.mountinfo.errors.ParseError.TheVariants.{NoMemory as NoErrorMemory}
+use Rattle.libmount.specs.declared.mountinfo.errors.ParseError.TheVariants.{NoMemory as OutOfMemory}
 use Rattle.libmount.specs.declared.mountinfo.errors.RowError.{RowError}
 use Rattle.libmount.specs.declared.mountinfo.errors.RowFault.{RowFault}
 use Rattle.libmount.specs.declared.mountinfo.errors.RowFault.TheVariants.{Row as RefusedRow}
@@ -72,7 +72,7 @@ refused_view e = record { message = e.message.items; number = e.row_num; row = e
 
 -- the row that a fault refuses, unless memory ran out
 abbrev pub IsRefused : RowFault → ℕ → List ℕ → ParseError → Type 0
-IsRefused fault number line NoErrorMemory = Unit {0}
+IsRefused fault number line OutOfMemory = Unit {0}
 IsRefused (RefusedRow error) number line (ErrorRow e) =
     refused_view e ≡ record { message = error.0.items; number = number; row = line }
 IsRefused NoRowMemory number line (ErrorRow e) = ⊥
@@ -82,7 +82,7 @@ abbrev pub GivesItem : Option (Result MountPoint ParseError) → Option Item →
 GivesItem None wanted = wanted ≡ None
 GivesItem (Some (Ok m)) wanted = wanted ≡ Some (Ok (row_view m))
 GivesItem (Some (Err (ErrorRow e))) wanted = wanted ≡ Some (Err (refused_view e))
-GivesItem (Some (Err NoErrorMemory)) wanted = IsSome wanted
+GivesItem (Some (Err OutOfMemory)) wanted = IsSome wanted
 
 -- what a line says of the flags of a path, unless memory ran out
 abbrev pub GivesVerdict : Result (Option MsFlags) RemountError → Option (Result ℕ Message) → Type 0

@@ -4,8 +4,8 @@ use Rattle.libmount.specs.Rows.{Row, borrowed, owned}
 
 abbrev pub worked_line : List ℕ
 worked_line =
-    codes
-    "76 24 8:6 / /home/my\\040super\\011name\\012\\134 rw,relatime shared:29 - ext4 /dev/sda1 rw,data=ordered"
+    codes "76 24 8:6 / /home/my\\040super\\011name\\012\\134 rw,relatime shared:29 "
+    ++ codes "- ext4 /dev/sda1 rw,data=ordered"
 
 abbrev pub worked_fields : Row
 worked_fields = record {
@@ -71,8 +71,8 @@ small_table = codes "# Test\n" ++ returned_line ++ codes "\nbad"
 -- two mounts at one place
 abbrev pub mounted_twice : List ℕ
 mounted_twice =
-    codes
-    "11 18 0:4 / /tmp rw shared:28 - tmpfs tmpfs rw\n12 18 0:6 / /tmp rw,nosuid,nodev shared:29 - tmpfs tmpfs rw\n"
+    codes "11 18 0:4 / /tmp rw shared:28 - tmpfs tmpfs rw\n"
+    ++ codes "12 18 0:6 / /tmp rw,nosuid,nodev shared:29 - tmpfs tmpfs rw\n"
 
 -- the options that name a flag, and all of them with two that name none
 abbrev pub option_words : List (List ℕ)

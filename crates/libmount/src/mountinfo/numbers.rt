@@ -1,12 +1,13 @@
 // Numbers as text.
-ghost use Rattle.std.specs.Prelude.{◌≡◌, IfOk};
+ghost use Rattle.std.specs.Prelude.{◌≡◌, IfOk, Some};
 ghost use Rattle.libmount.specs.Numbers.{digits_value, number_at, number_field, number_of};
 ghost use Rattle.libmount.specs.Numbers.{unsigned, with_digit, Goes};
-ghost use Rattle.libmount.specs.Reading.{Gives};
+ghost use Rattle.libmount.specs.Reading.{Gives, fault_text};
 ghost use Rattle.libmount.specs.Slices.{LiesIn, placed};
 
 use crate::mountinfo::cuts::field;
 use crate::mountinfo::refusals::Refusal;
+use std::fmt;
 
 /// What is wrong with a number.
 #[derive(Clone, Copy, Debug, PartialEq, Eq)]
@@ -15,6 +16,29 @@ pub enum NumberFault {
     InvalidDigit,
     TooLarge,
 }
+
+impl NumberFault {
+    /// What is wrong, in words.
+    pub(crate) fn text(self) -> &'static str
+        ensures { result.now ≡ fault_text self }
+    {
+        match self {
+            NumberFault::Empty => "empty",
+            NumberFault::InvalidDigit => "invalid digit",
+            NumberFault::TooLarge => "number too large",
+        }
+    }
+}
+
+impl fmt::Display for NumberFault {
+    ghost output = { λ e. Some (fault_text e) };
+
+    fn fmt<W: fmt::Write>(&self, f: &mut fmt::Formatter<W>) -> fmt::Result {
+        f.write_str(self.text())
+    }
+}
+
+impl std::error::Error for NumberFault {}
 
 // The number that a digit goes on to.
 fn with_digit(number: u64, digit: u8) -> Result<u64, NumberFault>
@@ -40,10 +64,7 @@ fn digits_value(digits: &[u8]) -> Result<u64, NumberFault>
     }
     let mut number = 0;
     for digit in digits {
-        match with_digit(number, *digit) {
-            Ok(more) => number = more,
-            Err(fault) => return Err(fault),
-        }
+        number = with_digit(number, *digit)?;
     }
     Ok(number)
 }

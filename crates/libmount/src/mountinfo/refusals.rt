@@ -1,6 +1,6 @@
 // Why a row is refused, before its message is written.
 ghost use Rattle.std.specs.Prelude.{◌≡◌, IfOk};
-ghost use Rattle.libmount.specs.Reading.{bad_number, fault_text, more_fields};
+ghost use Rattle.libmount.specs.Reading.{bad_number, more_fields};
 ghost use Rattle.libmount.specs.Views.{Tells};
 
 use crate::mountinfo::errors::{ParseRowError, RowFault};
@@ -18,16 +18,6 @@ pub(crate) enum Refusal<'a> {
     NoMemory,
 }
 
-fn fault_text(fault: NumberFault) -> &'static [u8]
-    ensures { result.now ≡ fault_text fault }
-{
-    match fault {
-        NumberFault::Empty => b"empty",
-        NumberFault::InvalidDigit => b"invalid digit",
-        NumberFault::TooLarge => b"number too large",
-    }
-}
-
 #[tactic(auto, unfolding(crate::specs::Reading::bad_number))]
 fn bad_number(alloc: Global, field: &[u8], fault: NumberFault) -> Result<Vec<u8>, NoMemory>
     ensures { IfOk result (λ message. message.items ≡ bad_number field.now fault) }
@@ -37,7 +27,7 @@ fn bad_number(alloc: Global, field: &[u8], fault: NumberFault) -> Result<Vec<u8>
     push(&mut message, b"Cannot parse integer ")?;
     push(&mut message, &field)?;
     push(&mut message, b": ")?;
-    push(&mut message, fault_text(fault))?;
+    push(&mut message, fault.text().as_bytes())?;
     Ok(message)
 }
 
