@@ -9,3 +9,4 @@ mod Only
 pub mod Sampling
 mod Changing
 mod Told
+mod Listed

@@ -3,7 +3,7 @@ use Rattle.std.proofs.Common.{◌≡◌, ⊎_elim, ℕ, Bool, true, false, cond,
 use Rattle.std.proofs.Common.{Err, Some, None, refl, ap, ◌∙◌}
 use Rattle.std.specs.declared.option.Option.{Option}
 use Rattle.std.specs.FinMap as map
-use Rattle.port_base.specs.declared.errno.TheConstants.{EBADF, EINVAL, ENFILE, EOPNOTSUPP}
+use Rattle.port_base.specs.declared.errno.TheConstants.{EBADF, EINVAL, ENFILE}
 use Rattle.tree_model.specs.Tree.{Tree}
 use Rattle.tree_model.specs.Attributes.{qid_of}
 use Rattle.tree_model.specs.Finding.{root_of}

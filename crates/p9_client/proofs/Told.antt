@@ -1,16 +1,17 @@
 -- What each call is told by the machine, and the reply that it reads.
-use Rattle.std.proofs.Common.{◌≡◌, ℕ, ◌≤◌, List, Result, Ok, Err, Some, None, Option, refl, ap}
-use Rattle.port_base.specs.declared.errno.TheConstants.{EACCES, EIO}
+use Rattle.std.proofs.Common.{◌≡◌, ℕ, List, Result, Ok, Err, Some, refl, ap}
+use Rattle.port_base.specs.declared.errno.TheConstants.{EACCES}
 use Rattle.tree_model.specs.Attributes.{Qid, qid_of}
 use Rattle.tree_model.specs.declared.attributes.Statfs.{Statfs}
 use Rattle.p9_tmsg.specs.Messages.Message.{fsync as t_fsync, link as t_link, mkdir as t_mkdir}
-use Rattle.p9_tmsg.specs.Messages.Message.{mknod as t_mknod, readdir as t_readdir, readlink as t_readlink}
+use Rattle.p9_tmsg.specs.Messages.Message.{mknod as t_mknod, readdir as t_readdir}
+use Rattle.p9_tmsg.specs.Messages.Message.{readlink as t_readlink}
 use Rattle.p9_tmsg.specs.Messages.Message.{renameat as t_renameat, statfs as t_statfs}
 use Rattle.p9_tmsg.specs.Messages.Message.{symlink as t_symlink, unlinkat as t_unlinkat}
 use Rattle.p9_tmsg.specs.Messages.Message.{write as t_write}
-use Rattle.p9_rmsg.specs.Replies.{Reply}
 use Rattle.p9_rmsg.specs.Replies.Reply.{fsync as r_fsync, link as r_link, mkdir as r_mkdir}
-use Rattle.p9_rmsg.specs.Replies.Reply.{mknod as r_mknod, readdir as r_readdir, readlink as r_readlink}
+use Rattle.p9_rmsg.specs.Replies.Reply.{mknod as r_mknod, readdir as r_readdir}
+use Rattle.p9_rmsg.specs.Replies.Reply.{readlink as r_readlink}
 use Rattle.p9_rmsg.specs.Replies.Reply.{renameat as r_renameat, symlink as r_symlink}
 use Rattle.p9_rmsg.specs.Replies.Reply.{unlinkat as r_unlinkat, write as r_write}
 use Rattle.fid_model.specs.Fids.{ServerState, IsGoodServer}
@@ -93,7 +94,8 @@ module _ (s : ServerState) (g : IsGoodServer s) (fid : ℕ) where
   page_seen (Err e) = refl
 
   pub page_tells : (offset count : ℕ)
-      → Tells page_view s (t_readdir fid offset count) (readdir_told s fid offset count, s) Untouched
+      → Tells page_view s (t_readdir fid offset count)
+      (readdir_told s fid offset count, s) Untouched
   page_tells offset count = show_tells s g (t_readdir fid offset count) r_readdir
       (readdir_told s fid offset count) refl page_view (λ r. r) page_seen (λ r h. ap page_view h)
       (λ t h. h)

@@ -6,7 +6,6 @@ ghost use Rattle.p9_wire.specs.declared.protocol.TheConstants.{TWRITE_HEADER_SIZ
 ghost use Rattle.p9_tmsg.specs.Messages.{message_of};
 ghost use Rattle.p9_tmsg.specs.Messages.Message.{write as t_write};
 ghost use Rattle.fid_model.specs.Files.{fsync_told, readlink_told, statfs_told, write_told};
-ghost use Rattle.fid_model.specs.Listings.{readdir_told};
 ghost use Rattle.fid_model.specs.Moments.{FidAnswered, Keeps, SameTree, Untouched};
 ghost use Rattle.p9_client.specs.Views.{IsRoomy, attributes_answer, attributes_told, bytes_answer};
 ghost use Rattle.p9_client.specs.Views.{sizes_answer, sizes_told};
@@ -17,7 +16,7 @@ ghost use Rattle.p9_client.specs.Changing.{changes_of, set_told};
 use crate::exchange::{done, exchange};
 use fid_model::Nine;
 use p9_rmsg::{Rgetattr, Rmessage, Rstatfs};
-use p9_tmsg::{Tfsync, Tgetattr, Tmessage, Tread, Treaddir, Treadlink, Tsetattr, Tstatfs, Twrite};
+use p9_tmsg::{Tfsync, Tgetattr, Tmessage, Tread, Treadlink, Tsetattr, Tstatfs, Twrite};
 use p9_wire::data::Data;
 use p9_wire::protocol::P9_GETATTR_BASIC;
 use p9_wire::text::P9String;
@@ -152,29 +151,6 @@ pub fn fsync<N: Nine>(alloc: Global, nine: &mut N, fid: u32) -> Result<Result<()
     let message = Tmessage::Fsync(Tfsync { fid, datasync: 0 });
     let reply = exchange(alloc, nine, &message)?;
     Ok(done(reply))
-}
-
-/// The entries of a directory that a fid has open, above an offset, one after another as
-/// `p9_rmsg::Dirent` spells them: as many as together have at most `count` bytes and fit a frame,
-/// each of them whole. An entry's own offset is where to read on behind it.
-pub fn read_dir<N: Nine>(
-    alloc: Global,
-    nine: &mut N,
-    fid: u32,
-    offset: u64,
-    count: u32,
-) -> Result<Result<Data, u32>, NoMemory>
-    requires roomy { IsRoomy (N.at nine.old).state }
-    requires few { count ≤ MAX_DATA_LENGTH }
-    ensures { Shows bytes_answer (λ s. readdir_told s fid offset count) result
-        (N.at nine.old) (N.at nine.new) }
-{
-    let message = Tmessage::Readdir(Treaddir { fid, offset, count });
-    match exchange(alloc, nine, &message)? {
-        Rmessage::Readdir(reply) => Ok(Ok(reply.payload)),
-        Rmessage::Lerror(reply) => Ok(Err(reply.ecode)),
-        _ => unreachable!(),
-    }
 }
 
 /// The target of the symbolic link that a fid names.

@@ -6,10 +6,12 @@ mod examples;
 mod exchange;
 mod fids;
 mod inodes;
+mod listing;
 mod specials;
 mod texts;
 
 pub use directories::{link, mkdir, rename_at, unlink_at};
 pub use fids::{attach, clunk, copy_fid, create, open, walk_one};
-pub use inodes::{fsync, get_attr, read, read_dir, read_link, set_attr, stat_fs, write};
+pub use inodes::{fsync, get_attr, read, read_link, set_attr, stat_fs, write};
+pub use listing::read_entries;
 pub use specials::{Device, mknod, symlink};

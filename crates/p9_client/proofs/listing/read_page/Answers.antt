@@ -1,15 +1,13 @@
 -- A page of a directory, by the machine.
-use Rattle.std.proofs.Common.{inl, refl, ap, subst, sym}
+use Rattle.std.proofs.Common.{refl, ap}
 use Rattle.std.proofs.lemmas.Result.{err_from_is_err_and}
-use Rattle.p9_tmsg.specs.Messages.{Message}
 use Rattle.p9_rmsg.specs.Replies.{reply_of}
-use Rattle.p9_client.specs.Asking.{IsAskable, IsExchanged}
 use Rattle.p9_client.specs.Views.{page_view}
-use Rattle.p9_client.proofs.Changing.{gives_answer, gives_nothing, gives_unfinished}
+use Rattle.p9_client.proofs.Changing.{gives_answer, gives_unfinished}
 use Rattle.p9_client.proofs.Only.{only_page}
 use Rattle.p9_client.proofs.Telling.{no_other}
 use Rattle.p9_client.proofs.Told.{page_tells}
-use Rattle.p9_client.proofs.inodes.read_dir.Goals as goal
+use Rattle.p9_client.proofs.listing.read_page.Goals as goal
 
 pub returns-in_err-reply : goal.returns-in_err-reply
 returns-in_err-reply g c =

@@ -1,6 +1,6 @@
 -- A name without a fault is a text.
 use Rattle.std.proofs.Common.{arith}
-use Rattle.p9_client.proofs.Names.{name_is_text}
+use Rattle.fid_model.proofs.Names.{name_is_text}
 use Rattle.p9_pair.proofs.changes.of_a_link.Goals as goal
 
 pub symlink-requires-clause-text : goal.symlink-requires-clause-text
