@@ -14,8 +14,8 @@ decimal; a name stands as it is, or as `\\xHH` for a byte.
     GETATTR NODE [HANDLE]           FORGET NODE COUNT
     OPEN NODE FLAGS                 BATCH_FORGET NODE COUNT [NODE COUNT ..]
     READ HANDLE OFFSET SIZE         UNLINK NODE NAME
-    OPENDIR NODE                    RELEASEDIR HANDLE
-    FRAME OPCODE NODE HEX
+    OPENDIR NODE FLAGS              READDIR HANDLE OFFSET SIZE
+    RELEASEDIR HANDLE               FRAME OPCODE NODE HEX
     BYTES HEX                       (bytes that need be no frame)
 
 FRAME is any request: the body in hex, or - for none. The unique numbers are 1, 2 and so on.
@@ -26,9 +26,9 @@ import struct
 import subprocess
 import sys
 
-OPCODES = {"LOOKUP": 1, "FORGET": 2, "GETATTR": 3, "UNLINK": 10, "OPEN": 14, "READ": 15,
-           "RELEASE": 18, "FLUSH": 25, "INIT": 26, "OPENDIR": 27, "RELEASEDIR": 29,
-           "BATCH_FORGET": 42}
+OPCODES = {"LOOKUP": 1, "FORGET": 2, "GETATTR": 3, "OPEN": 14, "READ": 15, "RELEASE": 18,
+           "FLUSH": 25, "INIT": 26, "BATCH_FORGET": 42, "UNLINK": 10, "OPENDIR": 27, "READDIR": 28,
+           "RELEASEDIR": 29}
 SILENT = {2, 36, 42}
 ERRORS = {1: "EPERM", 2: "ENOENT", 5: "EIO", 9: "EBADF", 13: "EACCES", 17: "EEXIST", 20: "ENOTDIR",
           21: "EISDIR", 22: "EINVAL", 23: "ENFILE", 27: "EFBIG", 28: "ENOSPC", 31: "EMLINK",
@@ -57,13 +57,11 @@ def body_of(request, words):
     if request == "GETATTR":
         given = len(numbers) > 1
         return numbers[0], struct.pack("<IIQ", int(given), 0, numbers[1] if given else 0)
-    if request == "OPEN":
+    if request in ("OPEN", "OPENDIR"):
         return numbers[0], struct.pack("<II", numbers[1], 0)
-    if request == "READ":
+    if request in ("READ", "READDIR"):
         handle, offset, size = numbers
         return 0, struct.pack("<QQIIQII", handle, offset, size, 0, 0, 0, 0)
-    if request == "OPENDIR":
-        return numbers[0], struct.pack("<II", 0, 0)
     if request in ("FLUSH", "RELEASE", "RELEASEDIR"):
         return 0, struct.pack("<Q", numbers[0]) + bytes(16)
     if request == "FORGET":
@@ -118,6 +116,17 @@ def attributes(body):
     return "ino=%(ino)d size=%(size)d mode=0%(mode)o nlink=%(nlink)d uid=%(uid)d gid=%(gid)d" % shown
 
 
+def entries(body):
+    """The entries of a listing: inode number, cookie, type and name each."""
+    out, at = [], 0
+    while at < len(body):
+        ino, cookie, size, kind = struct.unpack("<QQII", body[at:at + 24])
+        name = repr(body[at + 24:at + 24 + size])[1:]
+        out.append("ino=%d cookie=%d type=%d %s" % (ino, cookie, kind, name))
+        at += (24 + size + 7) // 8 * 8
+    return ", ".join(out)
+
+
 def reply_in_words(opcode, error, body):
     if error:
         return "error " + ERRORS.get(error, str(error))
@@ -131,6 +140,8 @@ def reply_in_words(opcode, error, body):
         return "handle=%d" % struct.unpack("<Q", body[:8])
     if opcode == 15:
         return "%d bytes %s" % (len(body), repr(body[:64])[1:] + (" .." if len(body) > 64 else ""))
+    if opcode == 28:
+        return entries(body) or "no entry"
     return body.hex() if body else "done"
 
 

@@ -25,4 +25,8 @@ mod Telling
 mod Stored
 pub mod Replying
 pub mod Reading
+pub mod Paging
+pub mod Listings
+pub mod ListingPages
+pub mod ListingHandles
 pub mod Sampling

@@ -372,11 +372,11 @@ module _ {g : Gate} {s : ServerState} (st : IsInStep g s) (handle : ℕ) where
             (option_map (λ (r : Record). r.body) o)) (sym is)
             (by_body r.body (st.paired.handle_kinds handle h r at is) able)
 
-  directory_at : (h : Handle) → get g.handles handle ≡ Some h → h.kind ≡ 128
+  pub directory_at_handle : (h : Handle) → get g.handles handle ≡ Some h → h.kind ≡ 128
       → is_directory_at (body_at s.tree.records h.ino) ≡ true
-  directory_at h at kind = ⊎_elim (λ d. d.1) (λ f. absurd (f.0 kind)) (kind_is h at)
+  directory_at_handle h at kind = ⊎_elim (λ d. d.1) (λ f. absurd (f.0 kind)) (kind_is h at)
 
-  file_body : (h : Handle) → get g.handles handle ≡ Some h → h.kind ≢ 128 → (file : List ℕ)
+  pub file_body : (h : Handle) → get g.handles handle ≡ Some h → h.kind ≢ 128 → (file : List ℕ)
       × (body_at s.tree.records h.ino ≡ Some (File file))
   file_body h at kind = ⊎_elim (λ d. absurd (kind d.0)) (λ f. f.1) (kind_is h at)
 
@@ -405,7 +405,7 @@ module _ {g : Gate} (n : Moment) (st : IsInStep g n.state) (handle offset size :
         access
 
     pub read_directory : h.kind ≡ 128 → refusal ≡ Some EISDIR
-    read_directory kind = by_tests true (h.access == O_WRONLY) (directory_at st handle h at kind)
+    read_directory kind = by_tests true (h.access == O_WRONLY) (directory_at_handle st handle h at kind)
         refl
 
     plain : h.kind ≢ 128 → is_directory_at (body_at n.state.tree.records h.ino) ≡ false

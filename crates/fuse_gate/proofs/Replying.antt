@@ -11,7 +11,7 @@ use Rattle.tree_model.specs.Settings.{Settings}
 use Rattle.tree_model.specs.declared.attributes.Attr.{Attr}
 use Rattle.fuse_wire.specs.Head.{head_of}
 use Rattle.fuse_wire.specs.Request.{Request, init, lookup, getattr, unlink, open_file, read, opendir}
-use Rattle.fuse_wire.specs.Request.{releasedir, flush, release, forget, batch_forget}
+use Rattle.fuse_wire.specs.Request.{readdir, releasedir, flush, release, forget, batch_forget}
 use Rattle.fuse_wire.specs.Reply.{u32s, u64s, reply_head, reply, init_body, entry_body, attr_body}
 use Rattle.fuse_wire.specs.Reply.{opened_body}
 use Rattle.fuse_wire.specs.declared.protocol.TheConstants.{MAX_READ}
@@ -27,6 +27,7 @@ use Rattle.tree_machine.specs.Core.{looked_up, getattr_ino, attr_reply, opened, 
 use Rattle.tree_machine.specs.Core.{unlink_told, unlinked}
 use Rattle.tree_machine.specs.Requests.{refusal_before, effect_of, answer_of}
 use Rattle.tree_machine.specs.Step.{request_in_turn}
+use Rattle.tree_machine.proofs.Listing.{listing_short}
 use Rattle.fid_model.specs.Moments.{Moment}
 use Rattle.fuse_gate.specs.Steps.{ServesFrame, machine_at}
 use Rattle.fuse_gate.specs.Replies.{reply_of, IsShort}
@@ -132,6 +133,8 @@ effect_short s m node (read fh offset size flags lock) =
 effect_short s m node (unlink name) = unlinked_short m
     (unlink_told m (node_ino (get m.nodes node)) name)
 effect_short s m node (opendir flags) = tt
+effect_short s m node (readdir fh offset size flags lock) =
+    listing_short m.tree (handle_ino (get m.handles fh)) offset size
 effect_short s m node (releasedir fh) = tt
 effect_short s m node (flush fh) = tt
 effect_short s m node (release fh) = tt

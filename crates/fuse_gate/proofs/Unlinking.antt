@@ -68,10 +68,11 @@ removed_keeps : (t u : Tree) (held : ℕ → Bool) (dir : ℕ) (name : List ℕ)
 removed_keeps t u held dir name (Err e) is = absurd cc
 removed_keeps t u held dir name (Ok ino) is =
     subst (λ (v : Tree). KeepsKinds t (keep held v)) (ap (tree_in u) is)
-    (unlinked_kinds t held dir name ino) where
-      tree_in : Tree → Result (Unit {0} × Tree) ℕ → Tree
-      tree_in u (Ok x) = x.1
-      tree_in u (Err e) = u
+    (unlinked_kinds t held dir name ino)
+  where
+    tree_in : Tree → Result (Unit {0} × Tree) ℕ → Tree
+    tree_in u (Ok x) = x.1
+    tree_in u (Err e) = u
 
 -- ---- the refusals, in order
 

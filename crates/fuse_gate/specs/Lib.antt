@@ -7,4 +7,5 @@ pub mod Changes
 pub mod Pump
 pub mod Playing
 pub mod Files
+pub mod Listings
 pub mod Samples

@@ -14,6 +14,7 @@ mod lookup;
 mod open;
 mod opendir;
 mod read;
+mod readdir;
 mod release;
 pub mod reply;
 mod serve;

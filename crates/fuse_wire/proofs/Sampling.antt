@@ -5,7 +5,7 @@ use Rattle.fuse_wire.specs.Request.{request_of, request_in, name_at, only_name, 
 use Rattle.fuse_wire.specs.Request.{getattr_of, flags_of, read_in_of, handle_of, forget_of}
 use Rattle.fuse_wire.specs.Request.{batch_forget_of}
 use Rattle.fuse_wire.specs.Request.Request.{init, lookup, getattr, open_file, read, flush, release}
-use Rattle.fuse_wire.specs.Request.Request.{forget, batch_forget, unlink, opendir}
+use Rattle.fuse_wire.specs.Request.Request.{forget, batch_forget, unlink, opendir, readdir}
 use Rattle.fuse_wire.specs.Request.Request.{releasedir}
 use Rattle.fuse_wire.specs.Reply.{u32s, u64s, reply, reply_head, attr_bytes, entry_body, attr_body}
 use Rattle.fuse_wire.specs.Reply.{init_body, opened_body}
@@ -106,14 +106,20 @@ pub asks_opendir : request_of (framed 27 (u32s (65536 ∷ 0 ∷ []))) ≡ Ok (op
 unfolding framed request_of request_in flags_of u32_at u64_at u32s u64s
 asks_opendir = refl
 
+pub asks_readdir : request_of (framed 28 (u64s (2 ∷ 4 ∷ [])
+    ++ (u32s (4096 ∷ 0 ∷ []) ++ (u64s (7 ∷ []) ++ u32s (65536 ∷ 0 ∷ [])))))
+    ≡ Ok (readdir 2 4 4096 65536 None)
+unfolding framed request_of request_in read_in_of u32_at u64_at u32s u64s
+asks_readdir = refl
+
 pub asks_releasedir : request_of (framed 29 (u64s (2 ∷ 0 ∷ 0 ∷ []))) ≡ Ok (releasedir 2)
 unfolding framed request_of request_in handle_of u32_at u64_at u32s u64s
 asks_releasedir = refl
 
 -- a body that is a byte short, and one that is a byte long
-pub releasedir_too_short : request_of (framed 29 (replicate 23 0)) ≡ Err 22
-unfolding framed request_of request_in handle_of u32_at u64_at u32s u64s
-releasedir_too_short = refl
+pub readdir_too_short : request_of (framed 28 (replicate 39 0)) ≡ Err 22
+unfolding framed request_of request_in read_in_of u32_at u64_at u32s u64s
+readdir_too_short = refl
 
 pub opendir_too_long : request_of (framed 27 (replicate 9 0)) ≡ Err 22
 unfolding framed request_of request_in flags_of u32_at u64_at u32s u64s

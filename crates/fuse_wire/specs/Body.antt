@@ -2,7 +2,7 @@
 use Rattle.std.specs.Prelude.{◌≡◌, ℕ, List, Result, Ok, Err}
 use Rattle.fuse_wire.specs.Head.{head_of}
 use Rattle.fuse_wire.specs.Request.{Request, init, lookup, getattr, unlink, open_file, read, opendir}
-use Rattle.fuse_wire.specs.Request.{releasedir, flush, release, forget, batch_forget}
+use Rattle.fuse_wire.specs.Request.{readdir, releasedir, flush, release, forget, batch_forget}
 use Rattle.fuse_wire.specs.Request.{request_of}
 use Rattle.fuse_wire.specs.declared.ids.Errno.{Errno}
 use Rattle.fuse_wire.specs.declared.request.Body.{Body}
@@ -17,6 +17,7 @@ plain (body.Unlink name) = unlink name.now
 plain (body.OpenFile flags) = open_file flags
 plain (body.Read fh offset size flags lock) = read fh offset size flags lock
 plain (body.OpenDir flags) = opendir flags
+plain (body.ReadDir fh offset size flags lock) = readdir fh offset size flags lock
 plain (body.ReleaseDir fh) = releasedir fh
 plain (body.Flush fh) = flush fh
 plain (body.Release fh) = release fh

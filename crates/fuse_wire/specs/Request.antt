@@ -10,7 +10,7 @@ use Rattle.fuse_wire.specs.declared.opcode.TheConstants.{FUSE_OPEN, FUSE_READ, F
 use Rattle.fuse_wire.specs.declared.opcode.TheConstants.{FUSE_RELEASE, FUSE_FORGET}
 use Rattle.fuse_wire.specs.declared.opcode.TheConstants.{FUSE_BATCH_FORGET, FUSE_GETATTR_FH}
 use Rattle.fuse_wire.specs.declared.opcode.TheConstants.{FUSE_READ_LOCKOWNER, FUSE_UNLINK}
-use Rattle.fuse_wire.specs.declared.opcode.TheConstants.{FUSE_OPENDIR}
+use Rattle.fuse_wire.specs.declared.opcode.TheConstants.{FUSE_OPENDIR, FUSE_READDIR}
 use Rattle.fuse_wire.specs.declared.opcode.TheConstants.{FUSE_RELEASEDIR}
 use Rattle.fuse_wire.specs.declared.request.ReadIn.{ReadIn}
 use Rattle.fuse_wire.specs.declared.request.TheConstants.{INIT_IN_SIZE, GETATTR_IN_SIZE}
@@ -29,6 +29,7 @@ pub data Request : Type 0 where
   open_file : (flags : ℕ) → Request
   read : (fh offset size flags : ℕ) (lock : Option ℕ) → Request
   opendir : (flags : ℕ) → Request
+  readdir : (fh offset size flags : ℕ) (lock : Option ℕ) → Request
   releasedir : (fh : ℕ) → Request
   flush : (fh : ℕ) → Request
   release : (fh : ℕ) → Request
@@ -86,6 +87,9 @@ read_in_of body = if length body == READ_IN_SIZE then Some (record {
 abbrev pub asks_read : ReadIn → Request
 asks_read r = read r.fh r.offset r.size r.flags r.lock
 
+abbrev pub asks_readdir : ReadIn → Request
+asks_readdir r = readdir r.fh r.offset r.size r.flags r.lock
+
 -- a handle of 8 bytes, and 16 bytes that are ignored
 unfoldable pub handle_of : List ℕ → Option ℕ
 handle_of body = if length body == RELEASE_IN_SIZE then Some (u64_at body 0) else None
@@ -114,6 +118,7 @@ request_in opcode body =
     if opcode == FUSE_RELEASE then ok_or (option_map release (handle_of body)) EINVAL else
     if opcode == FUSE_UNLINK then ok_or (option_map unlink (only_name body)) EINVAL else
     if opcode == FUSE_OPENDIR then ok_or (option_map opendir (flags_of body)) EINVAL else
+    if opcode == FUSE_READDIR then ok_or (option_map asks_readdir (read_in_of body)) EINVAL else
     if opcode == FUSE_RELEASEDIR then ok_or (option_map releasedir (handle_of body)) EINVAL else
     if opcode == FUSE_FORGET then ok_or (forget_of body) EINVAL else
     if opcode == FUSE_BATCH_FORGET then ok_or (batch_forget_of body) EINVAL else

@@ -4,7 +4,7 @@ ghost use Rattle.std.specs.Prelude.{◌≡◌, ◌++◌, [], ◌∷◌, replicat
 ghost use Rattle.fuse_wire.specs.Request.{request_of};
 ghost use Rattle.fuse_wire.specs.Request.Request.{init, lookup, getattr, open_file, read, flush};
 ghost use Rattle.fuse_wire.specs.Request.Request.{release, forget, batch_forget, unlink, opendir};
-ghost use Rattle.fuse_wire.specs.Request.Request.{releasedir};
+ghost use Rattle.fuse_wire.specs.Request.Request.{readdir, releasedir};
 ghost use Rattle.fuse_wire.specs.Listing.{dirent_bytes};
 ghost use Rattle.fuse_wire.specs.Reply.{u32s, u64s, reply, entry_body, attr_body, init_body};
 ghost use Rattle.fuse_wire.specs.Reply.{opened_body};
@@ -54,13 +54,16 @@ pub fn files_and_forgets()
 {}
 
 /// What frames ask of directories, by bodies of exactly their length.
-#[tactic(auto, using(crate::proofs::Sampling::asks_unlink, crate::proofs::Sampling::asks_opendir, crate::proofs::Sampling::asks_releasedir, crate::proofs::Sampling::releasedir_too_short, crate::proofs::Sampling::opendir_too_long))]
+#[tactic(auto, using(crate::proofs::Sampling::asks_unlink, crate::proofs::Sampling::asks_opendir, crate::proofs::Sampling::asks_readdir, crate::proofs::Sampling::asks_releasedir, crate::proofs::Sampling::readdir_too_short, crate::proofs::Sampling::opendir_too_long))]
 pub fn directories()
     ensures unlink { request_of (framed 10 (codes "hello" ++ 0 ∷ []))
         ≡ Ok (unlink (codes "hello")) }
     ensures opendir { request_of (framed 27 (u32s (65536 ∷ 0 ∷ []))) ≡ Ok (opendir 65536) }
+    ensures readdir { request_of (framed 28 (u64s (2 ∷ 4 ∷ [])
+        ++ (u32s (4096 ∷ 0 ∷ []) ++ (u64s (7 ∷ []) ++ u32s (65536 ∷ 0 ∷ [])))))
+        ≡ Ok (readdir 2 4 4096 65536 None) }
     ensures releasedir { request_of (framed 29 (u64s (2 ∷ 0 ∷ 0 ∷ []))) ≡ Ok (releasedir 2) }
-    ensures short { request_of (framed 29 (replicate 23 0)) ≡ Err 22 }
+    ensures short { request_of (framed 28 (replicate 39 0)) ≡ Err 22 }
     ensures long { request_of (framed 27 (replicate 9 0)) ≡ Err 22 }
 {}
 

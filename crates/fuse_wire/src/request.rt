@@ -6,7 +6,7 @@ ghost use Rattle.fuse_wire.specs.Fields.{u64_at};
 ghost use Rattle.fuse_wire.specs.Head.{head_of};
 ghost use Rattle.fuse_wire.specs.Request.{is_zero, name_at, only_name, init_of, getattr_of};
 ghost use Rattle.fuse_wire.specs.Request.{flags_of, read_in_of, handle_of, forget_of};
-ghost use Rattle.fuse_wire.specs.Request.{batch_forget_of, asks_read};
+ghost use Rattle.fuse_wire.specs.Request.{batch_forget_of, asks_read, asks_readdir};
 ghost use Rattle.fuse_wire.specs.Request.{lookup, unlink, open_file, opendir, flush, release};
 ghost use Rattle.fuse_wire.specs.Request.{releasedir, request_in, request_of};
 
@@ -15,8 +15,8 @@ use crate::head::{Head, IN_HEADER_SIZE};
 use crate::ids::Errno;
 use crate::opcode::{
     FUSE_BATCH_FORGET, FUSE_FLUSH, FUSE_FORGET, FUSE_GETATTR, FUSE_GETATTR_FH, FUSE_INIT,
-    FUSE_LOOKUP, FUSE_OPEN, FUSE_OPENDIR, FUSE_READ, FUSE_READ_LOCKOWNER, FUSE_RELEASE,
-    FUSE_RELEASEDIR, FUSE_UNLINK,
+    FUSE_LOOKUP, FUSE_OPEN, FUSE_OPENDIR, FUSE_READ, FUSE_READ_LOCKOWNER, FUSE_READDIR,
+    FUSE_RELEASE, FUSE_RELEASEDIR, FUSE_UNLINK,
 };
 use port_base::errno::{EINVAL, ENOSYS};
 
@@ -27,7 +27,7 @@ pub const GETATTR_IN_SIZE: usize = 16;
 
 /// The size of OPEN's and of OPENDIR's body (`fuse_open_in` of `fuse.h`), in bytes.
 pub const OPEN_IN_SIZE: usize = 8;
-/// The size of READ's body (`fuse_read_in` of `fuse.h`), in bytes.
+/// The size of READ's and of READDIR's body (`fuse_read_in` of `fuse.h`), in bytes.
 pub const READ_IN_SIZE: usize = 40;
 /// The size of the body of RELEASE, RELEASEDIR and FLUSH (`fuse_release_in`, `fuse_flush_in` of
 /// `fuse.h`), in bytes.
@@ -77,6 +77,15 @@ pub enum Body<'a> {
     OpenDir {
         flags: u32,
     },
+    /// Lists the entries above the cookie `offset` of a handle's directory, in at most `size`
+    /// bytes.
+    ReadDir {
+        fh: u64,
+        offset: u64,
+        size: u32,
+        flags: u32,
+        lock: Option<u64>,
+    },
     /// Ends the handle of a directory.
     ReleaseDir {
         fh: u64,
@@ -106,7 +115,7 @@ pub struct FuseRequest<'a> {
     pub body: Body<'a>,
 }
 
-// What READ asks (`fuse_read_in` of `fuse.h`).
+// What READ and READDIR ask (`fuse_read_in` of `fuse.h`).
 #[derive(Clone, Copy)]
 struct ReadIn {
     fh: u64,
@@ -231,7 +240,7 @@ fn opendir_of(body: &[u8]) -> Option<Body<'_>>
     Some(Body::OpenDir { flags })
 }
 
-// What a body of READ tells.
+// What a body of READ or of READDIR tells.
 #[tactic(auto, unfolding(crate::specs::Request::read_in_of))]
 fn read_in_of(body: &[u8]) -> Option<ReadIn>
     ensures { result ≡ read_in_of body.now }
@@ -254,6 +263,19 @@ fn read_of(body: &[u8]) -> Option<Body<'_>>
 {
     let asked = read_in_of(body)?;
     Some(Body::Read {
+        fh: asked.fh,
+        offset: asked.offset,
+        size: asked.size,
+        flags: asked.flags,
+        lock: asked.lock,
+    })
+}
+
+fn readdir_of(body: &[u8]) -> Option<Body<'_>>
+    ensures { option_map plain result ≡ option_map asks_readdir (read_in_of body.now) }
+{
+    let asked = read_in_of(body)?;
+    Some(Body::ReadDir {
         fh: asked.fh,
         offset: asked.offset,
         size: asked.size,
@@ -336,6 +358,7 @@ fn body_of(opcode: u32, body: &[u8]) -> Result<Body<'_>, Errno>
         FUSE_RELEASE => release_of(body).ok_or(Errno(EINVAL)),
         FUSE_UNLINK => unlink_of(body).ok_or(Errno(EINVAL)),
         FUSE_OPENDIR => opendir_of(body).ok_or(Errno(EINVAL)),
+        FUSE_READDIR => readdir_of(body).ok_or(Errno(EINVAL)),
         FUSE_RELEASEDIR => releasedir_of(body).ok_or(Errno(EINVAL)),
         FUSE_FORGET => forget_of(body).ok_or(Errno(EINVAL)),
         FUSE_BATCH_FORGET => batch_forget_of(body).ok_or(Errno(EINVAL)),

@@ -125,12 +125,23 @@ fn what_files_and_forgets_ask(rt: HostRuntime) -> Result<(), Fail> {
         flags: 1,
         lock,
     };
-    let cases: [(u8, &[u8], Body<'_>); 11] = [
+    let cases: [(u8, &[u8], Body<'_>); 12] = [
         (10, b"hello\0", Body::Unlink { name: b"hello" }),
         (
             27,
             b"\0\0\x01\0\x09\x09\x09\x09",
             Body::OpenDir { flags: 65536 },
+        ),
+        (
+            28,
+            &READ,
+            Body::ReadDir {
+                fh: 2,
+                offset: 4,
+                size: 9,
+                flags: 1,
+                lock: Some(7),
+            },
         ),
         (29, &HANDLE[..24], Body::ReleaseDir { fh: 259 }),
         (
@@ -167,11 +178,13 @@ fn what_files_and_forgets_ask(rt: HostRuntime) -> Result<(), Fail> {
 
 #[test]
 fn bodies_of_another_length_are_refused(rt: HostRuntime) -> Result<(), Fail> {
-    let cases: [(u8, &[u8]); 22] = [
+    let cases: [(u8, &[u8]); 24] = [
         (10, b"hello"),
         (10, b"hello\0\0"),
         (27, &HANDLE[..7]),
         (27, &HANDLE[..9]),
+        (28, &READ[..39]),
+        (28, &BATCH),
         (29, &HANDLE[..23]),
         (29, &HANDLE),
         (14, &HANDLE[..7]),

@@ -8,7 +8,7 @@ use Rattle.tree_model.specs.Tree.{Tree, body_at}
 use Rattle.tree_model.specs.Settings.{Settings}
 use Rattle.fuse_wire.specs.Head.{head_of}
 use Rattle.fuse_wire.specs.Request.{Request, request_of, init, lookup, getattr, unlink, open_file}
-use Rattle.fuse_wire.specs.Request.{read, opendir, releasedir, flush, release, forget}
+use Rattle.fuse_wire.specs.Request.{read, opendir, readdir, releasedir, flush, release, forget}
 use Rattle.fuse_wire.specs.Request.{batch_forget}
 use Rattle.tree_machine.specs.State.{MachineState, Node, begun}
 use Rattle.tree_machine.specs.Refusals.{refused_if, first_refusal, refused_or}
@@ -45,6 +45,7 @@ module _ (s : Settings) (m : MachineState) (node : ℕ) where
   core_alike (read fh offset size flags lock) h = refl
   core_alike (unlink name) h = refl
   core_alike (opendir flags) h = refl
+  core_alike (readdir fh offset size flags lock) h = refl
   core_alike (releasedir fh) h = refl
   core_alike (flush fh) h = refl
   core_alike (release fh) h = refl

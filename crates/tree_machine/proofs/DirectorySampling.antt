@@ -1,28 +1,38 @@
--- The first example's directory is opened, and its one name goes.
+-- The first example's directory is opened, listed and closed, and its one name goes.
 use Rattle.std.proofs.Common.{◌≡◌, ℕ, ◌+◌, Bool, true, false, cond, List, [], ◌∷◌, ◌++◌, refl, sym, ap}
 use Rattle.std.proofs.Common.{◌∙◌, Option, Some, None, Result, Ok, Err, arith, length}
 use Rattle.std.specs.Prelude.{codes, drop, min, not, option_map, option_and_then}
+use Rattle.std.specs.List.{cons_option}
 use Rattle.std.specs.FinMap.{get, insert, remove}
 use Rattle.port_base.specs.declared.errno.TheConstants.{EBADF, ENFILE, ENOENT, ENOTDIR, ESTALE}
 use Rattle.port_base.specs.declared.oflag.TheConstants.{O_RDONLY}
 use Rattle.tree_model.specs.Tree.{Tree, Record, body_at, is_directory_at}
+use Rattle.tree_model.specs.Attributes.{attr_of}
 use Rattle.tree_model.specs.Finding.{entries_of, ino_among, lookup_of}
+use Rattle.tree_model.specs.Reading.{Entry}
+use Rattle.tree_model.specs.Pages.{entries_past, entries_past_of, front_within, last_cookie}
 use Rattle.tree_model.specs.Making.{change}
 use Rattle.tree_model.specs.Unlinking.{removed_at, unless_directory, without_entry, parted_by}
 use Rattle.tree_model.specs.Unlinking.{one_name_less, unlink_of}
 use Rattle.tree_model.proofs.Maps.{inserted}
 use Rattle.tree_model.proofs.Changing.{change_at, change_keeps}
-use Rattle.fuse_wire.specs.Request.{unlink, opendir}
+use Rattle.fuse_wire.specs.Reply.{u32s, u64s}
+use Rattle.fuse_wire.specs.Listing.{dirent_bytes}
+use Rattle.fuse_wire.specs.Request.{unlink, opendir, readdir, releasedir}
+use Rattle.fuse_wire.specs.declared.protocol.TheConstants.{MAX_READ}
 use Rattle.tree_machine.specs.State.{MachineState, Node, Handle, is_at_limit, is_named}
 use Rattle.tree_machine.specs.Replies.{Reply}
-use Rattle.tree_machine.specs.Replies.Reply.{Refused, Opened, Done}
+use Rattle.tree_machine.specs.Replies.Reply.{Refused, Opened, Bytes, Done}
 use Rattle.tree_machine.specs.Refusals.{refused_if, refused_unknown, first_refusal, refused_or}
 use Rattle.tree_machine.specs.Refusals.{none_or}
-use Rattle.tree_machine.specs.Core.{node_ino, opendir_refusal, unlink_refusal}
-use Rattle.tree_machine.specs.Core.{with_handle, unlink_told, unlinked}
+use Rattle.tree_machine.specs.Core.{node_ino, opendir_refusal, readdir_refusal, unlink_refusal}
+use Rattle.tree_machine.specs.Core.{with_handle, listed, unlink_told, unlinked}
+use Rattle.tree_machine.specs.Listing.{entry_size, listing_bytes, listed_page}
 use Rattle.tree_machine.specs.Requests.{answer_of}
+use Rattle.tree_machine.specs.Messages.{dirent_size, is_last, listing_messages, readdir_messages}
+use Rattle.tree_machine.specs.Messages.{request_messages}
 use Rattle.tree_machine.specs.Samples.{tree, settings, started, with_hello}
-use Rattle.tree_machine.specs.DirectorySamples.{with_root_open}
+use Rattle.tree_machine.specs.DirectorySamples.{with_root_open, hello_listed}
 use Rattle.tree_machine.proofs.KeptStates.{kept_at, node_is_named}
 use Rattle.tree_machine.proofs.Sampling.{file, file_at, top_at, root_node, found, hello_has_no_fault}
 use Rattle.tree_machine.proofs.FileSampling.{hello_node, hello_known, root_known, open_limit}
@@ -49,6 +59,95 @@ pub file_not_opened : answer_of settings with_hello 2 (Ok (opendir 0))
 unfolding opens opens_at
 file_not_opened = ap opens hello_known ∙ ap (λ b. opens_at 2 b (get tree.records 2)) open_limit
     ∙ ap (opens_at 2 false) file_at
+
+-- ---- READDIR
+
+abbrev root_handle : Handle
+root_handle = record { ino = 1; access = 0; append = false }
+
+is_open : get with_root_open.handles 3 ≡ Some root_handle
+is_open = inserted with_hello.handles 3 root_handle
+
+-- the one entry
+abbrev first : Entry
+first = record { cookie = 1; name = codes "hello"; attr = attr_of 2 file }
+
+abbrev past_in : ℕ → Option Record → List Entry
+past_in c o = entries_past tree.records c
+    (option_and_then entries_of (option_map (λ (r : Record). r.body) o))
+
+abbrev shown : Option Record → List Entry
+shown o = cons_option (option_map (λ (r : Record). let e : Entry =
+    record { cookie = 1; name = codes "hello"; attr = attr_of 2 r } in e) o) []
+
+past_none : entries_past_of tree 1 0 ≡ first ∷ []
+past_none = ap (past_in 0) top_at ∙ ap shown file_at
+
+past_first : entries_past_of tree 1 1 ≡ []
+past_first = ap (past_in 1) top_at
+
+lists : ℕ → ℕ → Option Handle → Reply × MachineState
+lists offset size o = refused_or with_root_open (readdir_refusal with_root_open o)
+    (listed with_root_open offset size o, with_root_open)
+
+lists_at : ℕ → ℕ → Option Record → Reply × MachineState
+lists_at offset size o = refused_or with_root_open (first_refusal
+    (refused_if (not (is_directory_at (option_map (λ (r : Record). r.body) o))) ENOTDIR ∷ []))
+    (Bytes (listing_bytes (listed_page tree 1 offset size)), with_root_open)
+
+root_lists : (offset size : ℕ) → lists offset size (get with_root_open.handles 3)
+    ≡ (Bytes (listing_bytes (listed_page tree 1 offset size)), with_root_open)
+unfolding lists lists_at
+root_lists offset size = ap (lists offset size) is_open ∙ ap (lists_at offset size) top_at
+
+-- the bytes of as many entries as have room
+abbrev fitting : ℕ → List Entry → Reply
+fitting room es = Bytes (listing_bytes (front_within entry_size room es))
+
+spelled : fitting 4096 (first ∷ []) ≡ Bytes hello_listed
+unfolding dirent_bytes u32s u64s
+spelled = refl
+
+pub root_listed : (answer_of settings with_root_open 1 (Ok (readdir 3 0 4096 0 None))).0
+    ≡ Bytes hello_listed
+unfolding lists
+root_listed = ap (λ (x : Reply × MachineState). x.0) (root_lists 0 4096)
+    ∙ ap (fitting 4096) past_none ∙ spelled
+
+pub listed_past_first : (answer_of settings with_root_open 1 (Ok (readdir 3 1 4096 0 None))).0
+    ≡ Bytes []
+unfolding lists
+listed_past_first = ap (λ (x : Reply × MachineState). x.0) (root_lists 1 4096)
+    ∙ ap (fitting 4096) past_first
+
+pub listed_without_room : (answer_of settings with_root_open 1 (Ok (readdir 3 0 31 0 None))).0
+    ≡ Bytes []
+unfolding lists
+listed_without_room = ap (λ (x : Reply × MachineState). x.0) (root_lists 0 31)
+    ∙ ap (fitting 31) past_none
+
+-- ---- its messages: the entry, and then nothing; nothing; an entry that has no room
+
+abbrev counted : ℕ → ℕ → List Entry → List Entry → ℕ
+counted steps cookie page es =
+    let run = front_within dirent_size 4341 es in
+    cond (is_last run page) 1
+    (1 + listing_messages steps 4341 tree 1 (last_cookie cookie run) (drop (length run) page))
+
+abbrev counted_all : ℕ → ℕ → List Entry → ℕ
+counted_all cookie room es =
+    let page = front_within entry_size room es in
+    listing_messages (length page + 1) 4341 tree 1 cookie page
+
+pub two_messages : readdir_messages 4341 tree 1 0 4096 ≡ 2
+two_messages = ap (counted_all 0 4096) past_none ∙ ap (counted 1 0 (first ∷ [])) past_none
+    ∙ ap (λ es. 1 + counted 0 1 [] es) past_first
+
+pub one_message : readdir_messages 4341 tree 1 1 4096 ≡ 1
+one_message = ap (counted_all 1 4096) past_first ∙ ap (counted 0 1 []) past_first
+
+pub one_full_message : readdir_messages 4341 tree 1 0 31 ≡ 1
+one_full_message = ap (counted_all 0 31) past_none ∙ ap (counted 0 0 []) past_none
 
 -- ---- UNLINK
 

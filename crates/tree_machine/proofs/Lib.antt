@@ -5,6 +5,7 @@ pub mod Handles
 pub mod Opening
 pub mod Refusals
 pub mod Directories
+pub mod Listing
 pub mod Cores
 pub mod Forgetting
 pub mod Steps

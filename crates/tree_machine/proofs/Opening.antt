@@ -148,7 +148,8 @@ module _ (s : Settings) (m : MachineState) (g : IsGoodMachine s m) where
       (fails (is_at_limit s m) ENFILE below.0)
       (λ is. absurd (false≢true (sym (fails (is_directory_at (body_at m.tree.records (node_ino o)))
       EISDIR plain.0) ∙ is)))
-      (open_check_of m.tree (node_ino o) flags) refl where
-        is_true : (b : Bool) → not b ≡ false → b ≡ true
-        is_true true h = refl
-        is_true false h = absurd cc
+      (open_check_of m.tree (node_ino o) flags) refl
+    where
+      is_true : (b : Bool) → not b ≡ false → b ≡ true
+      is_true true h = refl
+      is_true false h = absurd cc

@@ -4,7 +4,7 @@ use Rattle.std.specs.FinMap.{get, remove}
 use Rattle.tree_model.specs.Settings.{Settings}
 use Rattle.fuse_wire.specs.Head.{head_of}
 use Rattle.fuse_wire.specs.Request.{Request, init, lookup, getattr, unlink, open_file, read, opendir}
-use Rattle.fuse_wire.specs.Request.{releasedir, flush, release, forget, batch_forget}
+use Rattle.fuse_wire.specs.Request.{readdir, releasedir, flush, release, forget, batch_forget}
 use Rattle.tree_machine.specs.State.{MachineState}
 use Rattle.tree_machine.specs.State.Phase.{Started}
 use Rattle.tree_machine.specs.Requests.{refusal_before, effect_of, answer_of}
@@ -57,6 +57,7 @@ module _ (s : Settings) where
     effect_good node (read fh offset size flags lock) none = kept_good s m g
     effect_good node (unlink name) none = unlink_good s m g name (get m.nodes node)
     effect_good node (opendir flags) none = opendir_good s m g (get m.nodes node) none
+    effect_good node (readdir fh offset size flags lock) none = kept_good s m g
     effect_good node (releasedir fh) none = kept_good s (record m { handles = remove m.handles fh })
         (handle_gone s m g fh)
     effect_good node (flush fh) none = kept_good s m g

@@ -17,7 +17,7 @@ use Rattle.tree_model.specs.Unlinking.{unlink_of}
 use Rattle.tree_model.specs.Settings.{Settings, shown_told}
 use Rattle.tree_model.specs.declared.attributes.Attr.{Attr}
 use Rattle.fuse_wire.specs.Request.{Request, init, lookup, getattr, unlink, open_file, read}
-use Rattle.fuse_wire.specs.Request.{opendir, releasedir, flush, release, forget}
+use Rattle.fuse_wire.specs.Request.{opendir, readdir, releasedir, flush, release, forget}
 use Rattle.fuse_wire.specs.Request.{batch_forget}
 use Rattle.fuse_wire.specs.declared.protocol.TheConstants.{FUSE_KERNEL_VERSION, FUSE_LEAST_MINOR}
 use Rattle.fuse_wire.specs.declared.protocol.TheConstants.{FUSE_KERNEL_MINOR_VERSION, MAX_READ}
@@ -29,6 +29,7 @@ use Rattle.tree_machine.specs.Replies.Reply.{Refused, Granted, Entry, Attributes
 use Rattle.tree_machine.specs.Replies.Reply.{Done}
 use Rattle.tree_machine.specs.Refusals.{refused_if, refused_unknown, first_refusal, refused_or}
 use Rattle.tree_machine.specs.Forgetting.{forgotten, all_forgotten, pairs_of}
+use Rattle.tree_machine.specs.Listing.{listing_bytes, listed_page}
 
 -- the inode that a node or a handle names, 0 where there is none
 abbrev pub node_ino : Option Node → ℕ
@@ -161,7 +162,7 @@ abbrev pub bytes_reply : Result (List ℕ) ℕ → Reply
 bytes_reply (Ok bytes) = Bytes bytes
 bytes_reply (Err e) = Refused e
 
--- ---- OPENDIR and UNLINK
+-- ---- OPENDIR, READDIR and UNLINK
 
 abbrev pub opendir_refusal : Settings → MachineState → Option Node → Option ℕ
 opendir_refusal s m node = first_refusal (
@@ -169,6 +170,17 @@ opendir_refusal s m node = first_refusal (
     ∷ refused_if (is_at_limit s m) ENFILE
     ∷ refused_if (not (is_directory_at (body_at m.tree.records (node_ino node)))) ENOTDIR
     ∷ [])
+
+abbrev pub readdir_refusal : MachineState → Option Handle → Option ℕ
+readdir_refusal m handle = first_refusal (
+    refused_unknown handle EBADF
+    ∷ refused_if (not (is_directory_at (body_at m.tree.records (handle_ino handle)))) ENOTDIR
+    ∷ [])
+
+-- the entries above a cookie, as many as there is room for
+abbrev pub listed : MachineState → ℕ → ℕ → Option Handle → Reply
+listed m offset size handle =
+    Bytes (listing_bytes (listed_page m.tree (handle_ino handle) offset size))
 
 abbrev pub unlink_refusal : List ℕ → Option Node → Option ℕ
 unlink_refusal name node = first_refusal (refused_unknown node ESTALE ∷ name_fault name ∷ [])
@@ -191,6 +203,8 @@ core_refusal s m node (open_file flags) = open_refusal s m (map.get m.nodes node
 core_refusal s m node (read fh offset size flags lock) = read_refusal m (map.get m.handles fh)
 core_refusal s m node (unlink name) = unlink_refusal name (map.get m.nodes node)
 core_refusal s m node (opendir flags) = opendir_refusal s m (map.get m.nodes node)
+core_refusal s m node (readdir fh offset size flags lock) =
+    readdir_refusal m (map.get m.handles fh)
 core_refusal s m node (releasedir fh) = refused_unknown (map.get m.handles fh) EBADF
 core_refusal s m node (flush fh) = refused_unknown (map.get m.handles fh) EBADF
 core_refusal s m node (release fh) = refused_unknown (map.get m.handles fh) EBADF
@@ -212,6 +226,8 @@ core_effect s m node (unlink name) =
     unlinked m (unlink_told m (node_ino (map.get m.nodes node)) name)
 core_effect s m node (opendir flags) =
     (Opened m.next, with_handle m (node_ino (map.get m.nodes node)) O_RDONLY)
+core_effect s m node (readdir fh offset size flags lock) =
+    (listed m offset size (map.get m.handles fh), m)
 core_effect s m node (releasedir fh) = (Done, record m { handles = map.remove m.handles fh })
 core_effect s m node (flush fh) = (Done, m)
 core_effect s m node (release fh) = (Done, record m { handles = map.remove m.handles fh })

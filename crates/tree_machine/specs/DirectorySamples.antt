@@ -15,6 +15,12 @@ with_root_open =
       next = 4;
     }
 
+-- the entry of `hello`: inode 2, cookie 1, a name of 5 bytes of a regular file, and 3 zero bytes
+abbrev pub hello_listed : List ℕ
+hello_listed =
+    2 ∷ 0 ∷ 0 ∷ 0 ∷ 0 ∷ 0 ∷ 0 ∷ 0 ∷ 1 ∷ 0 ∷ 0 ∷ 0 ∷ 0 ∷ 0 ∷ 0 ∷ 0 ∷ 5 ∷ 0 ∷ 0 ∷ 0 ∷ 8 ∷ 0 ∷ 0 ∷ 0
+    ∷ 104 ∷ 101 ∷ 108 ∷ 108 ∷ 111 ∷ 0 ∷ 0 ∷ 0 ∷ []
+
 -- the file when its one name went
 abbrev pub hello_without_name : Record
 hello_without_name = one_name_less tree.moment (file_record (record { sec = 1600000000; nsec = 0 })

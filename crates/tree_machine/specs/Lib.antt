@@ -2,6 +2,7 @@ pub mod State
 pub mod Forgetting
 pub mod Replies
 pub mod Refusals
+pub mod Listing
 pub mod Core
 pub mod Requests
 pub mod Step

@@ -8,15 +8,18 @@ use Rattle.std.specs.Int.{div_ceil}
 use Rattle.tree_model.specs.Tree.{Tree}
 use Rattle.tree_model.specs.Finding.{find}
 use Rattle.tree_model.specs.Opening.{open_check_of}
+use Rattle.tree_model.specs.Reading.{Entry}
+use Rattle.tree_model.specs.Pages.{page_of, last_cookie}
 use Rattle.tree_model.specs.Settings.{Settings}
 use Rattle.fuse_wire.specs.Head.{head_of}
 use Rattle.fuse_wire.specs.Request.{Request, init, lookup, getattr, unlink, open_file, read}
-use Rattle.fuse_wire.specs.Request.{opendir, releasedir, flush, release, forget}
+use Rattle.fuse_wire.specs.Request.{opendir, readdir, releasedir, flush, release, forget}
 use Rattle.fuse_wire.specs.Request.{batch_forget}
 use Rattle.fuse_wire.specs.declared.protocol.TheConstants.{MAX_READ}
 use Rattle.tree_machine.specs.State.{MachineState, Node, begun}
 use Rattle.tree_machine.specs.Refusals.{none_or}
 use Rattle.tree_machine.specs.Core.{node_ino, handle_ino, node_of, bytes_read}
+use Rattle.tree_machine.specs.Listing.{listed_page}
 use Rattle.tree_machine.specs.Requests.{refusal_before}
 use Rattle.tree_machine.specs.Forgetting.{forgotten, all_forgotten, pairs_of}
 use Rattle.tree_machine.specs.Step.{request_in_turn, step}
@@ -46,6 +49,28 @@ abbrev pub read_messages : ℕ → ℕ → Result (List ℕ) ℕ → ℕ
 read_messages piece size (Ok bytes) = pieces piece size (length bytes)
 read_messages piece size (Err e) = 1
 
+-- how many bytes an entry has in a message: a qid, a cookie, a type, and the name with its length
+abbrev pub dirent_size : Entry → ℕ
+dirent_size e = 24 + length e.name
+
+-- a message that brings no entry, or one that isn't in the page, is the last
+abbrev pub is_last : List Entry → List Entry → Bool
+is_last run page = length run == 0 || nat_lt (length page) (length run)
+
+-- from a cookie on a directory is read until the page is full or nothing more comes. Each message
+-- but the last brings an entry of the page, so as many steps as it has entries and one are enough
+abbrev pub listing_messages : ℕ → ℕ → Tree → ℕ → ℕ → List Entry → ℕ
+listing_messages zero piece t dir cookie page = 0
+listing_messages (suc steps) piece t dir cookie page =
+    let run = page_of dirent_size piece t dir cookie in
+    if is_last run page then 1 else
+    1 + listing_messages steps piece t dir (last_cookie cookie run) (drop (length run) page)
+
+abbrev pub readdir_messages : ℕ → Tree → ℕ → ℕ → ℕ → ℕ
+readdir_messages piece t dir cookie size =
+    let page = listed_page t dir cookie size in
+    listing_messages (length page + 1) piece t dir cookie page
+
 -- one for each node that went
 abbrev pub gone : MachineState → MachineState → ℕ
 gone before after = map.len before.nodes - map.len after.nodes
@@ -63,6 +88,8 @@ effect_messages piece s m node (read fh offset size flags lock) =
     read_messages piece (min size MAX_READ) (bytes_read m offset size (map.get m.handles fh))
 effect_messages piece s m node (unlink name) = 1
 effect_messages piece s m node (opendir flags) = 2
+effect_messages piece s m node (readdir fh offset size flags lock) =
+    readdir_messages piece m.tree (handle_ino (map.get m.handles fh)) offset size
 effect_messages piece s m node (releasedir fh) = 1
 effect_messages piece s m node (flush fh) = 0
 effect_messages piece s m node (release fh) = 1

@@ -4,7 +4,7 @@ ghost use Rattle.std.specs.FinMap as map;
 ghost use Rattle.port_base.specs.declared.errno.TheConstants.{EBADF, EISDIR, ENOSYS, ENOTDIR};
 ghost use Rattle.port_base.specs.declared.errno.TheConstants.{ESTALE};
 ghost use Rattle.tree_machine.specs.State.{begun};
-ghost use Rattle.fuse_wire.specs.Request.{unlink, open_file, read, opendir, flush};
+ghost use Rattle.fuse_wire.specs.Request.{unlink, open_file, read, opendir, readdir, flush};
 ghost use Rattle.fuse_wire.specs.Request.{release};
 ghost use Rattle.tree_machine.specs.Replies.Reply.{Refused, Opened, Bytes, Done};
 ghost use Rattle.tree_machine.specs.Requests.{answer_of, is_core};
@@ -13,8 +13,8 @@ ghost use Rattle.tree_machine.specs.FileSamples.{open_frame, open_reply, with_op
 ghost use Rattle.tree_machine.specs.FileSamples.{read_reply, release_frame, release_reply};
 ghost use Rattle.tree_machine.specs.FileSamples.{with_closed, forget_frame, with_none};
 ghost use Rattle.tree_machine.specs.FileSamples.{thrice_given, batch_frame};
-ghost use Rattle.tree_machine.specs.Messages.{messages, pieces};
-ghost use Rattle.tree_machine.specs.DirectorySamples.{with_root_open};
+ghost use Rattle.tree_machine.specs.Messages.{messages, pieces, readdir_messages};
+ghost use Rattle.tree_machine.specs.DirectorySamples.{with_root_open, hello_listed};
 ghost use Rattle.tree_machine.specs.DirectorySamples.{hello_without_name};
 ghost use Rattle.tree_machine.specs.Step.{step, frame_answer};
 ghost use Rattle.tree_machine.specs.Samples.{tree, settings, init_frame, init_reply, started};
@@ -102,6 +102,27 @@ fn hello_is_forgotten()
 fn the_root_is_opened()
     ensures root { answer_of settings with_hello 1 (Ok (opendir 0)) ≡ (Opened 3, with_root_open) }
     ensures file { answer_of settings with_hello 2 (Ok (opendir 0)) ≡ (Refused ENOTDIR, with_hello) }
+{}
+
+/// READDIR of the handle gives the entry of `hello`; past its cookie, or with too little room,
+/// nothing.
+#[tactic(auto, using(crate::proofs::DirectorySampling::root_listed, crate::proofs::DirectorySampling::listed_past_first, crate::proofs::DirectorySampling::listed_without_room))]
+fn the_root_is_listed()
+    ensures all { (answer_of settings with_root_open 1 (Ok (readdir 3 0 4096 0 None))).0
+        ≡ Bytes hello_listed }
+    ensures past { (answer_of settings with_root_open 1 (Ok (readdir 3 1 4096 0 None))).0
+        ≡ Bytes [] }
+    ensures small { (answer_of settings with_root_open 1 (Ok (readdir 3 0 31 0 None))).0
+        ≡ Bytes [] }
+{}
+
+/// How many messages a listing takes: one for the entry and one that brings nothing; one that
+/// brings nothing; one whose entry has no room.
+#[tactic(auto, using(crate::proofs::DirectorySampling::two_messages, crate::proofs::DirectorySampling::one_message, crate::proofs::DirectorySampling::one_full_message))]
+fn listings_are_counted()
+    ensures all { readdir_messages 4341 tree 1 0 4096 ≡ 2 }
+    ensures past { readdir_messages 4341 tree 1 1 4096 ≡ 1 }
+    ensures small { readdir_messages 4341 tree 1 0 31 ≡ 1 }
 {}
 
 /// UNLINK of `hello` is done, and its file stays, which node 2 names; in a file there is no name.

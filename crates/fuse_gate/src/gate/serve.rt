@@ -58,6 +58,12 @@ impl Gate {
             Body::OpenDir { .. } => self.opendir(nine, node),
             Body::ReleaseDir { fh } => self.release(nine, fh),
             Body::Unlink { name } => self.unlink(nine, node, name),
+            Body::ReadDir {
+                fh,
+                offset,
+                size,
+                ..
+            } => self.readdir(nine, fh, offset, size),
             Body::Flush { fh } => Ok(self.flush(fh)),
             Body::Release { fh } => self.release(nine, fh),
             Body::Forget { nlookup } => {

@@ -1,0 +1,211 @@
+-- READDIR, message by message.
+use Rattle.std.proofs.Common.{◌≡◌, ◌≢◌, ℕ, zero, suc, ◌+◌, ◌-◌, ◌<◌, ◌≤◌, Bool, true, false, cond}
+use Rattle.std.proofs.Common.{List, [], ◌∷◌, ◌++◌, length, refl, sym, ap, ◌∙◌, subst, Option, Some}
+use Rattle.std.proofs.Common.{None, Result, Ok, Err, arith, append_assoc, append-nil, ⊎_elim, nat_lt}
+use Rattle.std.proofs.Common.{get_or, take, add-one, drop-cons}
+use Rattle.std.specs.Prelude.{map as each, drop, ◌==◌}
+use Rattle.std.specs.List.{flat_map}
+use Rattle.std.proofs.lemmas.Bool.{cases_lt}
+use Rattle.std.proofs.lemmas.Bool.Decides.{nat_tests}
+use Rattle.std.proofs.lemmas.List.{length-append, map-append, take_more}
+use Rattle.std.proofs.lemmas.List.Concat.{flat_map-append, flat_map-cons}
+use Rattle.std.proofs.lemmas.List.Sums.{sum_by-cons}
+use Rattle.std.proofs.Math.Seq.{drop-append_seam}
+use Rattle.tree_model.specs.declared.attributes.Kind.{Kind}
+use Rattle.tree_model.specs.declared.attributes.Kind.TheVariants as kind
+use Rattle.tree_model.specs.Tree.{Tree}
+use Rattle.tree_model.specs.Good.{IsGoodTree}
+use Rattle.tree_model.specs.Reading.{Entry}
+use Rattle.tree_model.specs.Pages.{entries_past_of, front_within, page_of, last_cookie}
+use Rattle.tree_model.proofs.Pages.{splits_within, taken, stopped, within-append, within-whole}
+use Rattle.tree_model.proofs.Pages.{within-cut, past_last}
+use Rattle.fuse_wire.specs.Adding.{Adds}
+use Rattle.fuse_wire.specs.Listing.{dirent_bytes}
+use Rattle.fuse_wire.specs.declared.listing.ReplyDirectory.{ReplyDirectory}
+use Rattle.fuse_wire.proofs.Sizes.{length-dirent_bytes}
+use Rattle.fuse_wire.specs.declared.attr.FileType.{FileType}
+use Rattle.p9_rmsg.specs.Dirents.{Entry as Dirent, dirent_of}
+use Rattle.p9_rmsg.specs.declared.dirent.Dirent.{Dirent as DirentStruct}
+use Rattle.tree_model.specs.Attributes.{entry_type}
+use Rattle.fid_model.specs.Listings.{entry_told}
+use Rattle.tree_machine.specs.Listing.{entry_size, entry_bytes, file_type, listing_bytes}
+use Rattle.tree_machine.specs.Messages.{dirent_size, is_last, listing_messages}
+use Rattle.tree_machine.proofs.Listing.{length-listing_bytes}
+use Rattle.fuse_gate.specs.Listings.{type_by, told_size, told_bytes, last_told, next_told}
+use Rattle.fuse_gate.specs.Listings.{AddsFront}
+
+-- ---- entries that are added, one after another
+
+pub record Adding (old new : ReplyDirectory) (ds so_far rest : List Dirent) (next : ℕ) : Type
+    0 where
+  pub all : ds ≡ so_far ++ rest
+  pub items : new.bytes.items ≡ old.bytes.items ++ flat_map told_bytes so_far
+  pub size : new.size ≡ old.size
+  pub front : front_within told_size (old.size - length old.bytes.items) ds
+      ≡ so_far ++ front_within told_size (new.size - length new.bytes.items) rest
+  pub cookie : next ≡ last_told 0 so_far
+
+told_long : (d : Dirent) → length (told_bytes d) ≡ told_size d
+told_long d = length-dirent_bytes d.0.1.1 d.1.0 (type_by d.1.1.0) d.1.1.1
+
+last_of_more : (c : ℕ) (ds : List Dirent) (d : Dirent) → last_told c (ds ++ d ∷ []) ≡ d.1.0
+last_of_more c [] d = refl
+last_of_more c (e ∷ ds) d = last_of_more e.1.0 ds d
+
+more_bytes : (xs : List Dirent) (d : Dirent) → flat_map told_bytes (xs ++ d ∷ [])
+    ≡ flat_map told_bytes xs ++ told_bytes d
+more_bytes xs d = flat_map-append told_bytes xs (d ∷ [])
+    ∙ ap (λ (ys : List ℕ). flat_map told_bytes xs ++ ys)
+    (flat_map-cons told_bytes d [] ∙ append-nil (told_bytes d))
+
+pub adds_none : (old : ReplyDirectory) (ds : List Dirent) → Adding old old ds [] ds 0
+adds_none old ds = record {
+  all = refl;
+  items = sym (append-nil old.bytes.items);
+  size = refl;
+  front = refl;
+  cookie = refl;
+}
+
+module _ {old mid : ReplyDirectory} {ds so_far : List Dirent} {cookie : ℕ} where
+  pub adds_one : (d : Dirent) (rest : List Dirent) → Adding old mid ds so_far (d ∷ rest) cookie
+      → (new : ReplyDirectory) → Adds (told_bytes d) mid new false
+      → Adding old new ds (so_far ++ d ∷ []) rest d.1.0
+  adds_one d rest a new adds =
+      let long = told_long d in
+      let room : told_size d ≤ mid.size - length mid.bytes.items =
+      (let fits = adds.0 in omega arith) in
+      let grown : length new.bytes.items ≡ length mid.bytes.items + length (told_bytes d) =
+      ap length adds.1 ∙ length-append mid.bytes.items (told_bytes d) in
+      let left : (mid.size - length mid.bytes.items) - told_size d
+      ≡ new.size - length new.bytes.items =
+      (let same = adds.2 in omega arith) in
+      record {
+        all = a.all ∙ sym (append_assoc so_far (d ∷ []) rest);
+        items = adds.1 ∙ ap (λ (xs : List ℕ). xs ++ told_bytes d) a.items
+            ∙ append_assoc old.bytes.items (flat_map told_bytes so_far) (told_bytes d)
+            ∙ ap (λ (xs : List ℕ). old.bytes.items ++ xs) (sym (more_bytes so_far d));
+        size = adds.2 ∙ a.size;
+        front = a.front
+            ∙ ap (λ (xs : List Dirent). so_far ++ xs) (taken told_size
+            (mid.size - length mid.bytes.items) d rest room
+            ∙ ap (λ n. d ∷ front_within told_size n rest) left)
+            ∙ sym (append_assoc so_far (d ∷ []) (front_within told_size
+            (new.size - length new.bytes.items) rest));
+        cookie = sym (last_of_more 0 so_far d);
+      }
+
+  pub adds_full : (d : Dirent) (rest : List Dirent) → Adding old mid ds so_far (d ∷ rest) cookie
+      → (new : ReplyDirectory) → Adds (told_bytes d) mid new true → AddsFront old new ds None
+  adds_full d rest a new adds =
+      let long = told_long d in
+      let none : front_within told_size (mid.size - length mid.bytes.items) (d ∷ rest) ≡ [] =
+      stopped told_size (mid.size - length mid.bytes.items) d rest
+      (let over = adds.0 in omega arith) in
+      let run : front_within told_size (old.size - length old.bytes.items) ds ≡ so_far =
+      a.front ∙ ap (λ (xs : List Dirent). so_far ++ xs) none ∙ append-nil so_far in
+      let less : nat_lt (length so_far) (length ds) ≡ true =
+      (let whole = ap length a.all in let both = length-append so_far (d ∷ rest) in
+      let short : length so_far < length ds = omega arith in grind (arith, nat_tests)) in
+      record {
+        items = ap (λ (x : ReplyDirectory). x.bytes.items) adds.1 ∙ a.items
+            ∙ ap (λ (xs : List Dirent). old.bytes.items ++ flat_map told_bytes xs) (sym run);
+        size = ap (λ (x : ReplyDirectory). x.size) adds.1 ∙ a.size;
+        told = sym (ap (λ (xs : List Dirent). next_told xs ds) run
+            ∙ ap (λ (b : Bool). cond b None (Some (last_told 0 ds))) less);
+      }
+
+  pub adds_all : Adding old mid ds so_far [] cookie → AddsFront old mid ds (Some cookie)
+  adds_all a =
+      let whole : ds ≡ so_far = a.all ∙ append-nil so_far in
+      let run : front_within told_size (old.size - length old.bytes.items) ds ≡ so_far =
+      a.front ∙ append-nil so_far in
+      let less : nat_lt (length so_far) (length ds) ≡ false =
+      (let long = ap length whole in grind (arith, nat_tests)) in
+      record {
+        items = a.items ∙ ap (λ (xs : List Dirent). old.bytes.items ++ flat_map told_bytes xs)
+            (sym run);
+        size = a.size;
+        told = ap (λ (k : ℕ). Some k) (a.cookie ∙ ap (last_told 0) (sym whole))
+            ∙ sym (ap (λ (xs : List Dirent). next_told xs ds) run
+            ∙ ap (λ (b : Bool). cond b None (Some (last_told 0 ds))) less);
+      }
+
+-- ---- what was told, and what is told of it
+
+type_is : (k : Kind) → type_by (entry_type k) ≡ file_type k
+type_is kind.File = refl
+type_is kind.Directory = refl
+type_is kind.Link = refl
+
+bytes_are : (e : Entry) → told_bytes (entry_told e) ≡ entry_bytes e
+bytes_are e = ap (λ t. dirent_bytes e.attr.ino e.cookie t e.name)
+    (type_is e.attr.kind)
+
+pub listing_is : (es : List Entry) → flat_map told_bytes (each entry_told es) ≡ listing_bytes es
+listing_is [] = refl
+listing_is (e ∷ es) = flat_map-cons told_bytes (entry_told e) (each entry_told es)
+    ∙ ap (λ (xs : List ℕ). xs ++ flat_map told_bytes (each entry_told es)) (bytes_are e)
+    ∙ ap (λ (xs : List ℕ). entry_bytes e ++ xs) (listing_is es)
+    ∙ sym (flat_map-cons entry_bytes e es)
+
+pub front_is : (room : ℕ) (es : List Entry) → front_within told_size room (each entry_told es)
+    ≡ each entry_told (front_within entry_size room es)
+front_is room [] = refl
+front_is room (e ∷ es) = ⊎_elim
+    (λ high. stopped told_size room (entry_told e) (each entry_told es) high
+    ∙ ap (each entry_told) (sym (stopped entry_size room e es high)))
+    (λ low. taken told_size room (entry_told e) (each entry_told es) low
+    ∙ ap (λ (xs : List Dirent). entry_told e ∷ xs) (front_is (room - entry_size e) es)
+    ∙ ap (each entry_told) (sym (taken entry_size room e es low)))
+    (cases_lt room (entry_size e))
+
+pub length_is : (es : List Entry) → length (each entry_told es) ≡ length es
+length_is [] = refl
+length_is (e ∷ es) = ap (λ n. suc n) (length_is es)
+
+pub last_is : (c : ℕ) (es : List Entry) → last_told c (each entry_told es) ≡ last_cookie c es
+last_is c [] = refl
+last_is c (e ∷ es) = last_is e.cookie es
+
+-- ---- the entries of a slice
+
+module _ (xs : List DirentStruct) (i : ℕ) (x : DirentStruct) (low : i < length xs)
+    (is : x ≡ get_or xs i x) where
+  pub rest_at : each dirent_of (drop i xs) ≡ dirent_of x ∷ each dirent_of (drop (i + 1) xs)
+  rest_at =
+      let one : drop i xs ≡ x ∷ drop (i + 1) xs = rw add-one (drop-cons xs i x low
+      ∙ ap (λ (y : DirentStruct). y ∷ drop (suc i) xs) (sym is)) in
+      ap (λ (ds : List DirentStruct). each dirent_of ds) one
+
+  pub front_at : each dirent_of (take (i + 1) xs)
+      ≡ each dirent_of (take i xs) ++ dirent_of x ∷ []
+  front_at = ap (λ (ds : List DirentStruct). each dirent_of ds) (take_more xs i x low
+      ∙ ap (λ (y : DirentStruct). take i xs ++ y ∷ []) (sym is))
+      ∙ map-append dirent_of (take i xs) (x ∷ [])
+
+pub adds_as : (old new : ReplyDirectory) (full : Bool) (ino offset ty : ℕ) (name told : List ℕ)
+    (kind : FileType) → kind ≡ type_by ty → told ≡ name
+    → Adds (dirent_bytes ino offset kind told) old new full
+    → Adds (dirent_bytes ino offset (type_by ty) name) old new full
+adds_as old new full ino offset ty name told kind is same adds =
+    subst (λ (k : FileType). Adds (dirent_bytes ino offset k name) old new full) is
+    (subst (λ (b : List ℕ). Adds (dirent_bytes ino offset kind b) old new full) same adds)
+
+-- ---- whether there is an entry
+
+no_number : (n : ℕ) → true ≡ (n == 0) → n ≡ 0
+no_number n is = grind (arith, nat_tests)
+
+a_number : (n : ℕ) → false ≡ (n == 0) → n ≡ 0 → ⊥
+a_number n is none = grind (arith, nat_tests)
+
+pub none_of : (ds : List DirentStruct) (n : ℕ) → true ≡ (n == 0) → length ds ≡ n
+    → each dirent_of ds ≡ []
+none_of [] n is long = refl
+none_of (d ∷ ds) n is long = absurd (let none = no_number n is in omega arith)
+
+pub some_of : (ds : List DirentStruct) (n : ℕ) → false ≡ (n == 0) → length ds ≡ n
+    → each dirent_of ds ≢ []
+some_of [] n is long none = a_number n is (sym long)
+some_of (d ∷ ds) n is long none = cc
