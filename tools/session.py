@@ -14,9 +14,14 @@ decimal; a name stands as it is, or as `\\xHH` for a byte.
     GETATTR NODE [HANDLE]           FORGET NODE COUNT
     OPEN NODE FLAGS                 BATCH_FORGET NODE COUNT [NODE COUNT ..]
     READ HANDLE OFFSET SIZE         UNLINK NODE NAME
-    OPENDIR NODE FLAGS              READDIR HANDLE OFFSET SIZE
-    RELEASEDIR HANDLE               FRAME OPCODE NODE HEX
-    BYTES HEX                       (bytes that need be no frame)
+    OPENDIR NODE [FLAGS]            READDIR HANDLE OFFSET SIZE
+    RELEASEDIR HANDLE               RMDIR NODE NAME
+    RENAME NODE NEWDIR OLD NEW      RENAME2 NODE NEWDIR FLAGS OLD NEW
+    SYMLINK NODE NAME TARGET        MKNOD NODE MODE RDEV NAME
+    READLINK NODE                   STATFS NODE
+    FSYNC HANDLE [FLAGS]            FSYNCDIR HANDLE [FLAGS]
+    INTERRUPT UNIQUE                DESTROY
+    FRAME OPCODE NODE HEX           BYTES HEX  (bytes that need be no frame)
 
 FRAME is any request: the body in hex, or - for none. The unique numbers are 1, 2 and so on.
 It needs Python 3.8 or later, and nothing else.
@@ -28,7 +33,8 @@ import sys
 
 OPCODES = {"LOOKUP": 1, "FORGET": 2, "GETATTR": 3, "OPEN": 14, "READ": 15, "RELEASE": 18,
            "FLUSH": 25, "INIT": 26, "BATCH_FORGET": 42, "UNLINK": 10, "OPENDIR": 27, "READDIR": 28,
-           "RELEASEDIR": 29}
+           "RELEASEDIR": 29, "READLINK": 5, "SYMLINK": 6, "MKNOD": 8, "RMDIR": 11, "RENAME": 12,
+           "STATFS": 17, "FSYNC": 20, "FSYNCDIR": 30, "INTERRUPT": 36, "DESTROY": 38, "RENAME2": 45}
 SILENT = {2, 36, 42}
 ERRORS = {1: "EPERM", 2: "ENOENT", 5: "EIO", 9: "EBADF", 13: "EACCES", 17: "EEXIST", 20: "ENOTDIR",
           21: "EISDIR", 22: "EINVAL", 23: "ENFILE", 27: "EFBIG", 28: "ENOSPC", 31: "EMLINK",
@@ -47,18 +53,41 @@ def name_bytes(word):
     return out
 
 
+def names_bytes(words):
+    """Names, each with its zero byte."""
+    return b"".join(name_bytes(word) + b"\0" for word in words)
+
+
 def body_of(request, words):
     """The node and the body of a request."""
     numbers = [int(word) for word in words if re.fullmatch(r"[0-9]+", word)]
     if request == "INIT":
         return 0, struct.pack("<IIII", 7, numbers[0] if numbers else 31, 131072, 0) + bytes(48)
-    if request in ("LOOKUP", "UNLINK"):
+    if request in ("LOOKUP", "UNLINK", "RMDIR"):
         return int(words[0]), name_bytes(words[1] if len(words) > 1 else "") + b"\0"
     if request == "GETATTR":
         given = len(numbers) > 1
         return numbers[0], struct.pack("<IIQ", int(given), 0, numbers[1] if given else 0)
     if request in ("OPEN", "OPENDIR"):
-        return numbers[0], struct.pack("<II", numbers[1], 0)
+        return numbers[0], struct.pack("<II", numbers[1] if len(numbers) > 1 else 0, 0)
+    if request == "RENAME":
+        return int(words[0]), struct.pack("<Q", int(words[1])) + names_bytes(words[2:4])
+    if request == "RENAME2":
+        newdir, flags = int(words[1]), int(words[2])
+        return int(words[0]), struct.pack("<QII", newdir, flags, 0) + names_bytes(words[3:5])
+    if request == "SYMLINK":
+        return int(words[0]), names_bytes(words[1:3])
+    if request == "MKNOD":
+        mode, rdev = int(words[1]), int(words[2])
+        return int(words[0]), struct.pack("<IIII", mode, rdev, 0, 0) + names_bytes(words[3:4])
+    if request in ("READLINK", "STATFS"):
+        return numbers[0], b""
+    if request in ("FSYNC", "FSYNCDIR"):
+        return 0, struct.pack("<QII", numbers[0], numbers[1] if len(numbers) > 1 else 0, 0)
+    if request == "INTERRUPT":
+        return 0, struct.pack("<Q", numbers[0])
+    if request == "DESTROY":
+        return 0, b""
     if request in ("READ", "READDIR"):
         handle, offset, size = numbers
         return 0, struct.pack("<QQIIQII", handle, offset, size, 0, 0, 0, 0)
@@ -138,7 +167,9 @@ def reply_in_words(opcode, error, body):
         return attributes(body[16:])
     if opcode in (14, 27):
         return "handle=%d" % struct.unpack("<Q", body[:8])
-    if opcode == 15:
+    if opcode == 17:
+        return "blocks=%d/%d/%d files=%d/%d bsize=%d namelen=%d" % struct.unpack("<QQQQQII", body[:48])
+    if opcode in (5, 15):
         return "%d bytes %s" % (len(body), repr(body[:64])[1:] + (" .." if len(body) > 64 else ""))
     if opcode == 28:
         return entries(body) or "no entry"

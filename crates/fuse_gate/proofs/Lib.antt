@@ -9,7 +9,10 @@ pub mod LettingGo
 pub mod Batching
 pub mod Opening
 pub mod OpeningDirectories
-pub mod Unlinking
+pub mod TreeChanging
+pub mod NameChanges
+pub mod Querying
+pub mod Specials
 pub mod Known
 pub mod Showing
 pub mod Beginning

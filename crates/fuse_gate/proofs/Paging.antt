@@ -13,8 +13,7 @@ use Rattle.tree_model.specs.Reading.{Entry}
 use Rattle.tree_model.specs.Pages.{entries_past_of, front_within, page_of, last_cookie}
 use Rattle.tree_model.proofs.Pages.{splits_within, taken, within-append, within-whole, within-cut}
 use Rattle.tree_model.proofs.Pages.{past_last, rest_after, named_after}
-use Rattle.port_base.specs.Names.{name_fault, is_misspelled}
-use Rattle.port_base.specs.declared.errno.TheConstants.{EINVAL, ENAMETOOLONG, ENOENT}
+use Rattle.p9_client.proofs.Names.{name_is_text}
 use Rattle.tree_machine.specs.Listing.{entry_size}
 use Rattle.tree_machine.specs.Messages.{dirent_size, is_last}
 
@@ -121,23 +120,7 @@ module _ (t : Tree) (good : IsGoodTree t) (dir piece : ℕ) (short : ShortNames 
     all_not_last more = let long = left_length in
         not_last (length run) (length left) more (omega arith)
 
-cond_none : (b : Bool) (x : ℕ) (o : Option ℕ) → cond b (Some x) o ≡ None → (b ≡ false) × (o ≡ None)
-cond_none true x o h = absurd cc
-cond_none false x o h = (refl, h)
-
-at_most : (n : ℕ) → nat_lt 255 n ≡ false → n ≤ 255
-at_most n h = grind (arith, nat_tests)
-
-fine_is_short : (name : List ℕ) → name_fault name ≡ None → length name ≤ 255
-fine_is_short name h =
-    let rest : Option ℕ = cond (is_misspelled name) (Some EINVAL) None in
-    let more : Option ℕ = cond (nat_lt 255 (length name)) (Some ENAMETOOLONG) rest in
-    let some = cond_none (length name == 0) ENOENT more h in
-    let test : nat_lt 255 (length name) ≡ false =
-    (cond_none (nat_lt 255 (length name)) ENAMETOOLONG rest some.1).0 in
-    at_most (length name) test
-
 -- the names of a good tree are short
 pub names_short : (t : Tree) → IsGoodTree t → (dir : ℕ) → ShortNames t dir
 names_short t good dir c e more is =
-    fine_is_short e.name (named_after t good dir c e (rest_after t good dir c e more is).0)
+    (name_is_text e.name (named_after t good dir c e (rest_after t good dir c e more is).0)).0

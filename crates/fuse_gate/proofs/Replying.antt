@@ -1,34 +1,41 @@
 -- How long replies are, and that they are short.
 use Rattle.std.proofs.Common.{◌≡◌, ℕ, ◌+◌, ◌≤◌, [], length, List, take, drop, min, Option, Some}
 use Rattle.std.proofs.Common.{None, Result, Ok, Err, sym, ap, ◌∙◌, subst, arith, refl, ⊎_elim}
+use Rattle.std.specs.Prelude.{option_map}
 use Rattle.std.specs.FinMap.{get}
 use Rattle.std.proofs.lemmas.List.{length-append, length-take}
-use Rattle.tree_model.specs.Tree.{Tree, Body, body_at}
+use Rattle.tree_model.specs.Tree.{Tree, Record, Body, body_at}
 use Rattle.tree_model.specs.Tree.Body.{File, Directory, Link}
 use Rattle.tree_model.specs.Finding.{find}
-use Rattle.tree_model.specs.Opening.{body_answer, open_check_of, read_body}
+use Rattle.tree_model.specs.Opening.{body_answer, open_check_of, read_body, readlink_body}
 use Rattle.tree_model.specs.Settings.{Settings}
 use Rattle.tree_model.specs.declared.attributes.Attr.{Attr}
+use Rattle.tree_model.specs.declared.attributes.TheConstants.{BLOCK_SIZE}
+use Rattle.tree_model.specs.Good.{IsGoodTree, IsGoodBody}
 use Rattle.fuse_wire.specs.Head.{head_of}
 use Rattle.fuse_wire.specs.Request.{Request, init, lookup, getattr, unlink, open_file, read, opendir}
 use Rattle.fuse_wire.specs.Request.{readdir, releasedir, flush, release, forget, batch_forget}
+use Rattle.fuse_wire.specs.Request.{rmdir, rename, rename2, symlink, mknod, readlink, statfs, fsync}
+use Rattle.fuse_wire.specs.Request.{fsyncdir, interrupt, destroy}
 use Rattle.fuse_wire.specs.Reply.{u32s, u64s, reply_head, reply, init_body, entry_body, attr_body}
-use Rattle.fuse_wire.specs.Reply.{opened_body}
+use Rattle.fuse_wire.specs.Reply.{opened_body, statfs_body}
 use Rattle.fuse_wire.specs.declared.protocol.TheConstants.{MAX_READ}
 use Rattle.fuse_wire.proofs.Sizes.{length-init_body, length-entry_body, length-attr_body}
-use Rattle.fuse_wire.proofs.Sizes.{length-opened_body}
+use Rattle.fuse_wire.proofs.Sizes.{length-opened_body, length-statfs_body}
 use Rattle.tree_machine.specs.State.{MachineState}
 use Rattle.tree_machine.specs.Replies.{Reply, reply_bytes}
 use Rattle.tree_machine.specs.Replies.Reply.{Refused, Granted, Entry, Attributes, Opened, Bytes}
-use Rattle.tree_machine.specs.Replies.Reply.{Done}
+use Rattle.tree_machine.specs.Replies.Reply.{Sizes, Done}
 use Rattle.tree_machine.specs.Refusals.{refused_or}
 use Rattle.tree_machine.specs.Core.{node_ino, handle_ino, node_of, node_for, entry_reply, shown_at}
 use Rattle.tree_machine.specs.Core.{looked_up, getattr_ino, attr_reply, opened, bytes_reply}
-use Rattle.tree_machine.specs.Core.{unlink_told, unlinked}
+use Rattle.tree_machine.specs.Core.{unlink_told, changed_by}
+use Rattle.tree_machine.specs.Naming.{rmdir_told, rename_told}
 use Rattle.tree_machine.specs.Requests.{refusal_before, effect_of, answer_of}
 use Rattle.tree_machine.specs.Step.{request_in_turn}
 use Rattle.tree_machine.proofs.Listing.{listing_short}
 use Rattle.fid_model.specs.Moments.{Moment}
+use Rattle.fuse_gate.specs.Standing.{IsInStep}
 use Rattle.fuse_gate.specs.Steps.{ServesFrame, machine_at}
 use Rattle.fuse_gate.specs.Replies.{reply_of, IsShort}
 use Rattle.fuse_gate.specs.declared.gate.Gate.{Gate}
@@ -53,6 +60,7 @@ body_size (Entry node attr) = 128
 body_size (Attributes attr) = 104
 body_size (Opened handle) = 16
 body_size (Bytes bytes) = length bytes
+body_size (Sizes blocks files) = 80
 body_size Done = 0
 
 pub written_size : (unique : ℕ) (r : Reply) → length (reply_bytes unique r) ≡ 16 + body_size r
@@ -67,6 +75,9 @@ written_size unique (Attributes attr) = length-reply unique 0 (attr_body attr)
 written_size unique (Opened handle) = length-reply unique 0 (opened_body handle)
     ∙ ap (λ n. 16 + n) (length-opened_body handle)
 written_size unique (Bytes bytes) = length-reply unique 0 bytes
+written_size unique (Sizes blocks files) =
+    length-reply unique 0 (statfs_body BLOCK_SIZE blocks files)
+    ∙ ap (λ n. 16 + n) (length-statfs_body BLOCK_SIZE blocks files)
 written_size unique Done = length-reply unique 0 []
 
 pub sized : (r : Reply) (body : ℕ) → body ≡ body_size r → (unique : ℕ)
@@ -116,42 +127,69 @@ bytes_short offset size (Some (File bytes)) = part_short size (drop offset bytes
 bytes_short offset size (Some (Directory es next above)) = tt
 bytes_short offset size (Some (Link target)) = tt
 
-unlinked_short : (m : MachineState) (r : Result (Unit {0} × Tree) ℕ) → IsShort (unlinked m r).0
-unlinked_short m (Ok x) = tt
-unlinked_short m (Err e) = tt
+changed_short : (m : MachineState) (r : Result (Unit {0} × Tree) ℕ) → IsShort (changed_by m r).0
+changed_short m (Ok x) = tt
+changed_short m (Err e) = tt
 
-effect_short : (s : Settings) (m : MachineState) (node : ℕ) (r : Request)
-    → IsShort (effect_of s m node r).0
-effect_short s m node (init major minor max_readahead flags) = tt
-effect_short s m node (lookup name) = looked_up_short s m
-    (find s.casefold m.tree (node_ino (get m.nodes node)) name)
-effect_short s m node (getattr handle) = attr_short (shown_at s m.tree (getattr_ino m node handle))
-effect_short s m node (open_file flags) = let ino =
-    node_ino (get m.nodes node) in opened_short m ino flags (open_check_of m.tree ino flags)
-effect_short s m node (read fh offset size flags lock) =
-    bytes_short offset size (body_at m.tree.records (handle_ino (get m.handles fh)))
-effect_short s m node (unlink name) = unlinked_short m
-    (unlink_told m (node_ino (get m.nodes node)) name)
-effect_short s m node (opendir flags) = tt
-effect_short s m node (readdir fh offset size flags lock) =
-    listing_short m.tree (handle_ino (get m.handles fh)) offset size
-effect_short s m node (releasedir fh) = tt
-effect_short s m node (flush fh) = tt
-effect_short s m node (release fh) = tt
-effect_short s m node (forget number) = tt
-effect_short s m node (batch_forget pairs) = tt
+-- a link's target is short in a good tree
+target_short : (o : Option Record)
+    → ((r : Record) → o ≡ Some r → IsGoodBody r.body)
+    → IsShort (bytes_reply (body_answer readlink_body (option_map (λ (r : Record). r.body) o)))
+target_short None good = tt
+target_short (Some r) good = by_body r.body (good r refl)
+  where
+    by_body : (b : Body) → IsGoodBody b → IsShort (bytes_reply (readlink_body b))
+    by_body (File bytes) good = tt
+    by_body (Directory es next above) good = tt
+    by_body (Link target) good = let short = good.1 in omega (arith, short)
 
-answer_short : (s : Settings) (m : MachineState) (node : ℕ) (r : Result Request ℕ)
-    → IsShort (answer_of s m node r).0
-answer_short s m node (Err e) = tt
-answer_short s m node (Ok r) = refused_or_short m (refusal_before s m node r) (effect_of s m node r)
-    (effect_short s m node r)
+module _ (s : Settings) (m : MachineState) (good : IsGoodTree m.tree) where
+  effect_short : (node : ℕ) (r : Request) → IsShort (effect_of s m node r).0
+  effect_short node (init major minor max_readahead flags) = tt
+  effect_short node (lookup name) = looked_up_short s m
+      (find s.casefold m.tree (node_ino (get m.nodes node)) name)
+  effect_short node (getattr handle) = attr_short (shown_at s m.tree (getattr_ino m node handle))
+  effect_short node (open_file flags) = let ino =
+      node_ino (get m.nodes node) in opened_short m ino flags (open_check_of m.tree ino flags)
+  effect_short node (read fh offset size flags lock) =
+      bytes_short offset size (body_at m.tree.records (handle_ino (get m.handles fh)))
+  effect_short node (unlink name) = changed_short m
+      (unlink_told m (node_ino (get m.nodes node)) name)
+  effect_short node (rmdir name) = changed_short m
+      (rmdir_told m (node_ino (get m.nodes node)) name)
+  effect_short node (rename newdir old new) = changed_short m
+      (rename_told m (node_ino (get m.nodes node)) old (node_ino (get m.nodes newdir)) new)
+  effect_short node (rename2 newdir flags old new) = changed_short m
+      (rename_told m (node_ino (get m.nodes node)) old (node_ino (get m.nodes newdir)) new)
+  effect_short node (symlink name target) = tt
+  effect_short node (mknod mode rdev name) = tt
+  effect_short node readlink =
+      let ino = node_ino (get m.nodes node) in
+      target_short (get m.tree.records ino) (λ r at. (good.records ino r at).body)
+  effect_short node statfs = tt
+  effect_short node (opendir flags) = tt
+  effect_short node (readdir fh offset size flags lock) =
+      listing_short m.tree (handle_ino (get m.handles fh)) offset size
+  effect_short node (releasedir fh) = tt
+  effect_short node (flush fh) = tt
+  effect_short node (release fh) = tt
+  effect_short node (fsync fh flags) = tt
+  effect_short node (fsyncdir fh flags) = tt
+  effect_short node (forget number) = tt
+  effect_short node (batch_forget pairs) = tt
+  effect_short node interrupt = tt
+  effect_short node destroy = tt
+
+  answer_short : (node : ℕ) (r : Result Request ℕ) → IsShort (answer_of s m node r).0
+  answer_short node (Err e) = tt
+  answer_short node (Ok r) = refused_or_short m (refusal_before s m node r) (effect_of s m node r)
+      (effect_short node r)
 
 -- what a frame was answered
 pub served_short : (frame : List ℕ) (old new : Gate × Moment) (reply : Reply)
-    → ServesFrame frame old new reply → IsShort reply
-served_short frame old new reply served = ⊎_elim
-    (λ told. subst IsShort (sym told.0) (answer_short old.1.state.settings (machine_at old)
+    → IsInStep old.0 old.1.state → ServesFrame frame old new reply → IsShort reply
+served_short frame old new reply st served = ⊎_elim
+    (λ told. subst IsShort (sym told.0) (answer_short old.1.state.settings (machine_at old) st.good.tree
     (head_of frame).nodeid (request_in_turn (machine_at old).phase frame)))
     (λ hurt. subst IsShort (sym hurt.1) tt)
     served.outcome

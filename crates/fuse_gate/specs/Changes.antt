@@ -4,8 +4,8 @@ use Rattle.std.specs.Prelude.{None, IsSome, Result, Ok, Err}
 use Rattle.std.specs.FinMap as map
 use Rattle.port_base.specs.OpenFlags.{access, has_flag}
 use Rattle.port_base.specs.declared.oflag.TheConstants.{O_APPEND}
-use Rattle.tree_model.specs.Tree.{Tree, Record, body_at, is_directory_at}
-use Rattle.tree_model.specs.Attributes.{Qid, kind_of}
+use Rattle.tree_model.specs.Tree.{body_at, is_directory_at}
+use Rattle.tree_model.specs.Attributes.{Qid}
 use Rattle.tree_model.specs.Opening.{open_check_of}
 use Rattle.tree_model.specs.Reading.{part}
 use Rattle.tree_machine.specs.State.{is_at_limit, COUNT_LIMIT, Node as MachineNode}
@@ -23,12 +23,6 @@ use Rattle.fuse_gate.specs.Steps.{Serves, machine_at}
 use Rattle.fuse_gate.specs.declared.gate.Node.{Node}
 use Rattle.fuse_gate.specs.declared.gate.Handle.{Handle}
 use Rattle.fuse_gate.specs.declared.gate.Gate.{Gate}
-
--- what is stored before and after is of the same kind
-abbrev pub KeepsKinds : Tree → Tree → Type 0
-KeepsKinds t u = (i : ℕ) (q r : Record) → map.get t.records i ≡ Some q → map.get u.records i
-    ≡ Some r
-    → kind_of r.body ≡ kind_of q.body
 
 -- one more message was sent
 abbrev pub one_sent : Gate → Gate

@@ -13,12 +13,15 @@ mod init;
 mod lookup;
 mod open;
 mod opendir;
+mod query;
 mod read;
 mod readdir;
 mod release;
+mod rename;
 pub mod reply;
 mod serve;
 mod show;
+mod special;
 mod step;
 mod unlink;
 

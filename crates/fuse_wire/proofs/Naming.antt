@@ -13,7 +13,7 @@ use Rattle.std.proofs.lemmas.List.{length-take, length-drop, get_or-take, nil_fr
 use Rattle.std.proofs.lemmas.List.Quantifiers.{position-Some}
 use Rattle.std.proofs.lemmas.List.Sums.{position_or_len_is}
 use Rattle.std.proofs.lemmas.List.Elements.{All-from_get_or}
-use Rattle.fuse_wire.specs.Request.{is_zero, split_name, name_at, alone, only_name, IsName}
+use Rattle.fuse_wire.specs.Layouts.{is_zero, split_name, name_at, alone, only_name, IsName}
 
 some_if : (b : Bool) (x y : List ℕ) → cond b (Some x) None ≡ Some y → (b ≡ true) × (x ≡ y)
 some_if true x y e = (refl, cc)

@@ -1,12 +1,14 @@
 -- Worked examples: requests, replies and cuts, byte for byte.
 use Rattle.std.proofs.Common.{◌≡◌, [], ◌∷◌, ◌++◌, replicate, Some, None, Ok, Err, codes, refl}
 use Rattle.fuse_wire.specs.Fields.{u32_at, u64_at}
-use Rattle.fuse_wire.specs.Request.{request_of, request_in, name_at, only_name, init_of}
-use Rattle.fuse_wire.specs.Request.{getattr_of, flags_of, read_in_of, handle_of, forget_of}
-use Rattle.fuse_wire.specs.Request.{batch_forget_of}
+use Rattle.fuse_wire.specs.Layouts.{name_at, only_name, name_behind, two_names, two_names_behind}
+use Rattle.fuse_wire.specs.Layouts.{flags_of, read_in_of, handle_of, sync_in_of}
+use Rattle.fuse_wire.specs.Request.{request_of, request_in, init_of, getattr_of, rename_of}
+use Rattle.fuse_wire.specs.Request.{rename2_of, mknod_of, forget_of, batch_forget_of}
 use Rattle.fuse_wire.specs.Request.Request.{init, lookup, getattr, open_file, read, flush, release}
 use Rattle.fuse_wire.specs.Request.Request.{forget, batch_forget, unlink, opendir, readdir}
-use Rattle.fuse_wire.specs.Request.Request.{releasedir}
+use Rattle.fuse_wire.specs.Request.Request.{releasedir, rmdir, rename, rename2, symlink, mknod}
+use Rattle.fuse_wire.specs.Request.Request.{readlink, statfs, fsync, fsyncdir, interrupt, destroy}
 use Rattle.fuse_wire.specs.Reply.{u32s, u64s, reply, reply_head, attr_bytes, entry_body, attr_body}
 use Rattle.fuse_wire.specs.Reply.{init_body, opened_body}
 use Rattle.fuse_wire.specs.Listing.{dirent_bytes}
@@ -115,6 +117,64 @@ asks_readdir = refl
 pub asks_releasedir : request_of (framed 29 (u64s (2 ∷ 0 ∷ 0 ∷ []))) ≡ Ok (releasedir 2)
 unfolding framed request_of request_in handle_of u32_at u64_at u32s u64s
 asks_releasedir = refl
+
+pub asks_rmdir : request_of (framed 11 (codes "d" ++ 0 ∷ [])) ≡ Ok (rmdir (codes "d"))
+unfolding framed request_of request_in only_name name_at u32_at u64_at u32s u64s
+asks_rmdir = refl
+
+pub asks_rename : request_of (framed 12 (u64s (7 ∷ []) ++ (codes "a" ++ 0 ∷ codes "b" ++ 0 ∷ [])))
+    ≡ Ok (rename 7 (codes "a") (codes "b"))
+unfolding framed request_of request_in rename_of two_names_behind two_names only_name name_at u32_at
+    u64_at u32s u64s
+asks_rename = refl
+
+pub asks_rename2 :
+    request_of (framed 45
+    (u64s (7 ∷ []) ++ (u32s (1 ∷ 0 ∷ []) ++ (codes "a" ++ 0 ∷ codes "b" ++ 0 ∷ []))))
+    ≡ Ok (rename2 7 1 (codes "a") (codes "b"))
+unfolding framed request_of request_in rename2_of two_names_behind two_names only_name name_at u32_at
+    u64_at u32s u64s
+asks_rename2 = refl
+
+pub asks_symlink : request_of (framed 6 (codes "l" ++ 0 ∷ codes "a/b" ++ 0 ∷ []))
+    ≡ Ok (symlink (codes "l") (codes "a/b"))
+unfolding framed request_of request_in two_names only_name name_at u32_at u64_at u32s u64s
+asks_symlink = refl
+
+pub asks_mknod :
+    request_of (framed 8 (u32s (4516 ∷ 259 ∷ 18 ∷ 0 ∷ []) ++ (codes "p" ++ 0 ∷ [])))
+    ≡ Ok (mknod 4516 259 (codes "p"))
+unfolding framed request_of request_in mknod_of name_behind only_name name_at u32_at u64_at u32s
+    u64s
+asks_mknod = refl
+
+pub asks_readlink : request_of (framed 5 []) ≡ Ok readlink
+unfolding framed request_of request_in u32_at u64_at u32s u64s
+asks_readlink = refl
+
+pub asks_statfs : request_of (framed 17 []) ≡ Ok statfs
+unfolding framed request_of request_in u32_at u64_at u32s u64s
+asks_statfs = refl
+
+pub statfs_too_long : request_of (framed 17 (0 ∷ [])) ≡ Err 22
+unfolding framed request_of request_in u32_at u64_at u32s u64s
+statfs_too_long = refl
+
+pub asks_fsync : request_of (framed 20 (u64s (2 ∷ []) ++ u32s (1 ∷ 0 ∷ []))) ≡ Ok (fsync 2 1)
+unfolding framed request_of request_in sync_in_of u32_at u64_at u32s u64s
+asks_fsync = refl
+
+pub asks_fsyncdir : request_of (framed 30 (u64s (2 ∷ []) ++ u32s (0 ∷ 0 ∷ []))) ≡ Ok (fsyncdir 2 0)
+unfolding framed request_of request_in sync_in_of u32_at u64_at u32s u64s
+asks_fsyncdir = refl
+
+pub asks_interrupt : request_of (framed 36 (u64s (2 ∷ []))) ≡ Ok interrupt
+unfolding framed request_of request_in u32_at u64_at u32s u64s
+asks_interrupt = refl
+
+pub asks_destroy : request_of (framed 38 []) ≡ Ok destroy
+unfolding framed request_of request_in u32_at u64_at u32s u64s
+asks_destroy = refl
 
 -- a body that is a byte short, and one that is a byte long
 pub readdir_too_short : request_of (framed 28 (replicate 39 0)) ≡ Err 22

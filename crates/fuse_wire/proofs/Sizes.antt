@@ -4,7 +4,7 @@ use Rattle.std.specs.Prelude.{replicate}
 use Rattle.std.proofs.lemmas.List.{length-replicate}
 use Rattle.fuse_wire.specs.declared.attr.FileAttr.{FileAttr}
 use Rattle.fuse_wire.specs.Reply.{u32s, u64s, attr_bytes, entry_body, attr_body, init_body}
-use Rattle.fuse_wire.specs.Reply.{opened_body}
+use Rattle.fuse_wire.specs.Reply.{opened_body, statfs_body}
 use Rattle.fuse_wire.specs.declared.attr.FileType.{FileType}
 use Rattle.fuse_wire.specs.Listing.{padded_size, padding, dirent_bytes}
 
@@ -27,6 +27,11 @@ length-init_body minor max_readahead = refl
 pub length-opened_body : (handle : ℕ) → length (opened_body handle) ≡ 16
 unfolding opened_body u32s u64s
 length-opened_body handle = refl
+
+pub length-statfs_body : (block_size blocks files : ℕ)
+    → length (statfs_body block_size blocks files) ≡ 80
+unfolding statfs_body u32s u64s
+length-statfs_body block_size blocks files = refl
 
 -- an entry of a listing is as long as it is counted
 pub length-dirent_bytes : (ino offset : ℕ) (kind : FileType) (name : List ℕ)

@@ -6,6 +6,7 @@ pub mod Listing
 pub mod Adding
 pub mod Opcode
 pub mod Reply
+pub mod Layouts
 pub mod Request
 pub mod Taking
 pub mod Samples

@@ -3,6 +3,7 @@ use Rattle.std.specs.Prelude.{ℕ, ◌+◌, ◌-◌, ◌^◌, ◌==◌, if◌the
 use Rattle.std.specs.Prelude.{replicate}
 use Rattle.std.specs.Int.{w16, w32, w64, to_le_bytes}
 use Rattle.std.specs.List.{flat_map}
+use Rattle.port_base.specs.declared.names.TheConstants.{NAME_LIMIT}
 use Rattle.fuse_wire.specs.declared.attr.FileAttr.{FileAttr}
 use Rattle.fuse_wire.specs.declared.protocol.TheConstants.{FUSE_KERNEL_VERSION}
 use Rattle.fuse_wire.specs.declared.reply.TheConstants.{OUT_HEADER_SIZE, MAX_BACKGROUND}
@@ -55,3 +56,10 @@ init_body minor max_readahead =
 -- `fuse_open_out`: the handle, no flags, and 4 bytes
 unfoldable pub opened_body : ℕ → List ℕ
 opened_body handle = u64s (handle ∷ []) ++ u32s (0 ∷ 0 ∷ [])
+
+-- `fuse_statfs_out`: the blocks, those that are free and those that may be taken; the files, and
+-- those that are free; the size of a block, the longest name, the size of a block again, and zeros
+unfoldable pub statfs_body : ℕ → ℕ → ℕ → List ℕ
+statfs_body block_size blocks files =
+    u64s (blocks ∷ blocks ∷ blocks ∷ files ∷ files ∷ [])
+    ++ (u32s (block_size ∷ NAME_LIMIT ∷ block_size ∷ 0 ∷ []) ++ replicate 24 0)

@@ -1,24 +1,30 @@
 -- What a frame asks, by the bodies that fuse.h (protocol 7) lays out.
-use Rattle.std.specs.Prelude.{◌≡◌, ◌≢◌, ℕ, ◌+◌, ◌*◌, All, List, [], ◌∷◌, ◌++◌, length, take, drop}
-use Rattle.std.specs.Prelude.{position, Option, Some, None, Result, Err, Bool, ◌==◌, nat_lt}
-use Rattle.std.specs.Prelude.{if◌then◌else◌}
-use Rattle.std.specs.Option.{option_map, option_and_then, ok_or}
+use Rattle.std.specs.Prelude.{ℕ, ◌*◌, List, length, drop, Option, Some, None, Result, Err, ◌==◌}
+use Rattle.std.specs.Prelude.{nat_lt, if◌then◌else◌}
+use Rattle.std.specs.Option.{option_map, ok_or}
 use Rattle.port_base.specs.declared.errno.TheConstants.{EINVAL, ENOSYS}
 use Rattle.fuse_wire.specs.declared.head.TheConstants.{IN_HEADER_SIZE}
 use Rattle.fuse_wire.specs.declared.opcode.TheConstants.{FUSE_LOOKUP, FUSE_GETATTR, FUSE_INIT}
 use Rattle.fuse_wire.specs.declared.opcode.TheConstants.{FUSE_OPEN, FUSE_READ, FUSE_FLUSH}
 use Rattle.fuse_wire.specs.declared.opcode.TheConstants.{FUSE_RELEASE, FUSE_FORGET}
 use Rattle.fuse_wire.specs.declared.opcode.TheConstants.{FUSE_BATCH_FORGET, FUSE_GETATTR_FH}
-use Rattle.fuse_wire.specs.declared.opcode.TheConstants.{FUSE_READ_LOCKOWNER, FUSE_UNLINK}
+use Rattle.fuse_wire.specs.declared.opcode.TheConstants.{FUSE_UNLINK, FUSE_RMDIR, FUSE_RENAME}
+use Rattle.fuse_wire.specs.declared.opcode.TheConstants.{FUSE_RENAME2, FUSE_SYMLINK, FUSE_MKNOD}
 use Rattle.fuse_wire.specs.declared.opcode.TheConstants.{FUSE_OPENDIR, FUSE_READDIR}
-use Rattle.fuse_wire.specs.declared.opcode.TheConstants.{FUSE_RELEASEDIR}
-use Rattle.fuse_wire.specs.declared.request.ReadIn.{ReadIn}
-use Rattle.fuse_wire.specs.declared.request.TheConstants.{INIT_IN_SIZE, GETATTR_IN_SIZE}
-use Rattle.fuse_wire.specs.declared.request.TheConstants.{OPEN_IN_SIZE, READ_IN_SIZE}
-use Rattle.fuse_wire.specs.declared.request.TheConstants.{RELEASE_IN_SIZE, FORGET_IN_SIZE}
-use Rattle.fuse_wire.specs.declared.request.TheConstants.{BATCH_FORGET_IN_SIZE, FORGET_ONE_SIZE}
+use Rattle.fuse_wire.specs.declared.opcode.TheConstants.{FUSE_RELEASEDIR, FUSE_READLINK}
+use Rattle.fuse_wire.specs.declared.opcode.TheConstants.{FUSE_STATFS, FUSE_FSYNC, FUSE_FSYNCDIR}
+use Rattle.fuse_wire.specs.declared.opcode.TheConstants.{FUSE_INTERRUPT, FUSE_DESTROY}
+use Rattle.fuse_wire.specs.declared.layouts.ReadIn.{ReadIn}
+use Rattle.fuse_wire.specs.declared.layouts.SyncIn.{SyncIn}
+use Rattle.fuse_wire.specs.declared.layouts.TheConstants.{INIT_IN_SIZE, GETATTR_IN_SIZE}
+use Rattle.fuse_wire.specs.declared.layouts.TheConstants.{FORGET_IN_SIZE, BATCH_FORGET_IN_SIZE}
+use Rattle.fuse_wire.specs.declared.layouts.TheConstants.{MKNOD_IN_SIZE, RENAME_IN_SIZE}
+use Rattle.fuse_wire.specs.declared.layouts.TheConstants.{RENAME2_IN_SIZE, INTERRUPT_IN_SIZE}
+use Rattle.fuse_wire.specs.declared.request.TheConstants.{FORGET_ONE_SIZE}
 use Rattle.fuse_wire.specs.Fields.{u32_at, u64_at, given}
 use Rattle.fuse_wire.specs.Head.{head_of}
+use Rattle.fuse_wire.specs.Layouts.{only_name, name_behind, two_names, two_names_behind}
+use Rattle.fuse_wire.specs.Layouts.{flags_of, read_in_of, handle_of, sync_in_of}
 
 -- what a request asks of the node in its head
 pub data Request : Type 0 where
@@ -26,6 +32,13 @@ pub data Request : Type 0 where
   lookup : (name : List ℕ) → Request
   getattr : (handle : Option ℕ) → Request
   unlink : (name : List ℕ) → Request
+  rmdir : (name : List ℕ) → Request
+  rename : (newdir : ℕ) (old new : List ℕ) → Request
+  rename2 : (newdir flags : ℕ) (old new : List ℕ) → Request
+  symlink : (name target : List ℕ) → Request
+  mknod : (mode rdev : ℕ) (name : List ℕ) → Request
+  readlink : Request
+  statfs : Request
   open_file : (flags : ℕ) → Request
   read : (fh offset size flags : ℕ) (lock : Option ℕ) → Request
   opendir : (flags : ℕ) → Request
@@ -33,31 +46,14 @@ pub data Request : Type 0 where
   releasedir : (fh : ℕ) → Request
   flush : (fh : ℕ) → Request
   release : (fh : ℕ) → Request
+  fsync : (fh flags : ℕ) → Request
+  fsyncdir : (fh flags : ℕ) → Request
   forget : (nlookup : ℕ) → Request
   batch_forget : (pairs : List ℕ) → Request
+  interrupt : Request
+  destroy : Request
 
-abbrev pub is_zero : ℕ → Bool
-is_zero byte = byte == 0
-
--- a name up to its zero byte, and what follows that
-abbrev pub split_name : List ℕ → ℕ → List ℕ × List ℕ
-split_name bytes zero_at = (take zero_at bytes, drop (zero_at + 1) bytes)
-
-unfoldable pub name_at : List ℕ → Option (List ℕ × List ℕ)
-name_at bytes = option_map (split_name bytes) (position is_zero bytes)
-
--- the name, where nothing follows it
-abbrev pub alone : List ℕ × List ℕ → Option (List ℕ)
-alone x = if length x.1 == 0 then Some x.0 else None
-
--- a body that is one name: it ends by a zero byte, and has none inside
-unfoldable pub only_name : List ℕ → Option (List ℕ)
-only_name body = option_and_then alone (name_at body)
-
--- the grammar of such a body
-pub record IsName (name body : List ℕ) : Type 0 where
-  pub ended : body ≡ name ++ 0 ∷ []
-  pub inside : All (λ byte. byte ≢ 0) name
+-- ---- the bodies, each exactly of its length
 
 -- four numbers of 4 bytes, and then any bytes
 unfoldable pub init_of : List ℕ → Option Request
@@ -69,30 +65,42 @@ unfoldable pub getattr_of : List ℕ → Option Request
 getattr_of body = if length body == GETATTR_IN_SIZE then Some
     (getattr (given (u32_at body 0) FUSE_GETATTR_FH (u64_at body 8))) else None
 
--- flags of 4 bytes, and 4 bytes that are ignored
-unfoldable pub flags_of : List ℕ → Option ℕ
-flags_of body = if length body == OPEN_IN_SIZE then Some (u32_at body 0) else None
-
--- a handle and an offset of 8 bytes each, a size and flags of 4, the owner of a lock of 8, the
--- file's flags of 4, and 4 bytes that are ignored
-unfoldable pub read_in_of : List ℕ → Option ReadIn
-read_in_of body = if length body == READ_IN_SIZE then Some (record {
-  fh = u64_at body 0;
-  offset = u64_at body 8;
-  size = u32_at body 16;
-  flags = u32_at body 32;
-  lock = given (u32_at body 20) FUSE_READ_LOCKOWNER (u64_at body 24);
-}) else None
-
 abbrev pub asks_read : ReadIn → Request
 asks_read r = read r.fh r.offset r.size r.flags r.lock
 
 abbrev pub asks_readdir : ReadIn → Request
 asks_readdir r = readdir r.fh r.offset r.size r.flags r.lock
 
--- a handle of 8 bytes, and 16 bytes that are ignored
-unfoldable pub handle_of : List ℕ → Option ℕ
-handle_of body = if length body == RELEASE_IN_SIZE then Some (u64_at body 0) else None
+abbrev pub asks_fsync : SyncIn → Request
+asks_fsync r = fsync r.fh r.flags
+
+abbrev pub asks_fsyncdir : SyncIn → Request
+asks_fsyncdir r = fsyncdir r.fh r.flags
+
+-- a directory of 8 bytes, and two names
+abbrev pub asks_rename : ℕ → List ℕ × List ℕ → Request
+asks_rename newdir names = rename newdir names.0 names.1
+
+unfoldable pub rename_of : List ℕ → Option Request
+rename_of body =
+    option_map (asks_rename (u64_at body 0)) (two_names_behind RENAME_IN_SIZE body)
+
+-- a directory of 8 bytes, flags of 4, 4 bytes that are ignored, and two names
+abbrev pub asks_rename2 : ℕ → ℕ → List ℕ × List ℕ → Request
+asks_rename2 newdir flags names = rename2 newdir flags names.0 names.1
+
+unfoldable pub rename2_of : List ℕ → Option Request
+rename2_of body = option_map (asks_rename2 (u64_at body 0) (u32_at body 8))
+    (two_names_behind RENAME2_IN_SIZE body)
+
+-- a name, and a target with a zero byte after it
+abbrev pub asks_symlink : List ℕ × List ℕ → Request
+asks_symlink names = symlink names.0 names.1
+
+-- a mode and a device of 4 bytes each, 8 bytes that are ignored, and a name
+unfoldable pub mknod_of : List ℕ → Option Request
+mknod_of body =
+    option_map (mknod (u32_at body 0) (u32_at body 4)) (name_behind MKNOD_IN_SIZE body)
 
 -- a number of 8 bytes
 unfoldable pub forget_of : List ℕ → Option Request
@@ -106,6 +114,12 @@ batch_forget_of body =
     if length (drop BATCH_FORGET_IN_SIZE body) == u32_at body 0 * FORGET_ONE_SIZE then Some
     (batch_forget (drop BATCH_FORGET_IN_SIZE body)) else None
 
+-- a body of so many bytes, which tell nothing
+abbrev pub sized : ℕ → Request → List ℕ → Option Request
+sized size r body = if length body == size then Some r else None
+
+-- ---- requests by their opcode
+
 -- ENOSYS for an opcode that isn't served, EINVAL for a body outside its grammar
 unfoldable pub request_in : ℕ → List ℕ → Result Request ℕ
 request_in opcode body =
@@ -117,11 +131,22 @@ request_in opcode body =
     if opcode == FUSE_FLUSH then ok_or (option_map flush (handle_of body)) EINVAL else
     if opcode == FUSE_RELEASE then ok_or (option_map release (handle_of body)) EINVAL else
     if opcode == FUSE_UNLINK then ok_or (option_map unlink (only_name body)) EINVAL else
+    if opcode == FUSE_RMDIR then ok_or (option_map rmdir (only_name body)) EINVAL else
+    if opcode == FUSE_RENAME then ok_or (rename_of body) EINVAL else
+    if opcode == FUSE_RENAME2 then ok_or (rename2_of body) EINVAL else
+    if opcode == FUSE_SYMLINK then ok_or (option_map asks_symlink (two_names body)) EINVAL else
+    if opcode == FUSE_MKNOD then ok_or (mknod_of body) EINVAL else
+    if opcode == FUSE_READLINK then ok_or (sized 0 readlink body) EINVAL else
+    if opcode == FUSE_STATFS then ok_or (sized 0 statfs body) EINVAL else
     if opcode == FUSE_OPENDIR then ok_or (option_map opendir (flags_of body)) EINVAL else
     if opcode == FUSE_READDIR then ok_or (option_map asks_readdir (read_in_of body)) EINVAL else
     if opcode == FUSE_RELEASEDIR then ok_or (option_map releasedir (handle_of body)) EINVAL else
+    if opcode == FUSE_FSYNC then ok_or (option_map asks_fsync (sync_in_of body)) EINVAL else
+    if opcode == FUSE_FSYNCDIR then ok_or (option_map asks_fsyncdir (sync_in_of body)) EINVAL else
     if opcode == FUSE_FORGET then ok_or (forget_of body) EINVAL else
     if opcode == FUSE_BATCH_FORGET then ok_or (batch_forget_of body) EINVAL else
+    if opcode == FUSE_INTERRUPT then ok_or (sized INTERRUPT_IN_SIZE interrupt body) EINVAL else
+    if opcode == FUSE_DESTROY then ok_or (sized 0 destroy body) EINVAL else
     Err ENOSYS
 
 -- what a frame asks

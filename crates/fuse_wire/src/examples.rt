@@ -4,7 +4,9 @@ ghost use Rattle.std.specs.Prelude.{◌≡◌, ◌++◌, [], ◌∷◌, replicat
 ghost use Rattle.fuse_wire.specs.Request.{request_of};
 ghost use Rattle.fuse_wire.specs.Request.Request.{init, lookup, getattr, open_file, read, flush};
 ghost use Rattle.fuse_wire.specs.Request.Request.{release, forget, batch_forget, unlink, opendir};
-ghost use Rattle.fuse_wire.specs.Request.Request.{readdir, releasedir};
+ghost use Rattle.fuse_wire.specs.Request.Request.{readdir, releasedir, rmdir, rename, rename2};
+ghost use Rattle.fuse_wire.specs.Request.Request.{symlink, mknod, readlink, statfs, fsync};
+ghost use Rattle.fuse_wire.specs.Request.Request.{fsyncdir, interrupt, destroy};
 ghost use Rattle.fuse_wire.specs.Listing.{dirent_bytes};
 ghost use Rattle.fuse_wire.specs.Reply.{u32s, u64s, reply, entry_body, attr_body, init_body};
 ghost use Rattle.fuse_wire.specs.Reply.{opened_body};
@@ -51,6 +53,36 @@ pub fn files_and_forgets()
     ensures short { request_of (framed 42 (u32s (2 ∷ 0 ∷ []) ++ u64s (2 ∷ 3 ∷ []))) ≡ Err 22 }
     ensures opened { reply 4 0 (opened_body 2) ≡ 32 ∷ 0 ∷ 0 ∷ 0 ∷ 0 ∷ 0 ∷ 0 ∷ 0 ∷ 4 ∷ 0 ∷ 0 ∷ 0 ∷ 0
         ∷ 0 ∷ 0 ∷ 0 ∷ 2 ∷ 0 ∷ 0 ∷ 0 ∷ 0 ∷ 0 ∷ 0 ∷ 0 ∷ 0 ∷ 0 ∷ 0 ∷ 0 ∷ 0 ∷ 0 ∷ 0 ∷ 0 ∷ [] }
+{}
+
+/// What frames ask of names that go, move or are made.
+#[tactic(auto, using(crate::proofs::Sampling::asks_rmdir, crate::proofs::Sampling::asks_rename, crate::proofs::Sampling::asks_rename2, crate::proofs::Sampling::asks_symlink, crate::proofs::Sampling::asks_mknod))]
+pub fn names()
+    ensures rmdir { request_of (framed 11 (codes "d" ++ 0 ∷ [])) ≡ Ok (rmdir (codes "d")) }
+    ensures rename { request_of (framed 12
+        (u64s (7 ∷ []) ++ (codes "a" ++ 0 ∷ codes "b" ++ 0 ∷ [])))
+        ≡ Ok (rename 7 (codes "a") (codes "b")) }
+    ensures rename2 { request_of (framed 45
+        (u64s (7 ∷ []) ++ (u32s (1 ∷ 0 ∷ []) ++ (codes "a" ++ 0 ∷ codes "b" ++ 0 ∷ []))))
+        ≡ Ok (rename2 7 1 (codes "a") (codes "b")) }
+    ensures symlink { request_of (framed 6 (codes "l" ++ 0 ∷ codes "a/b" ++ 0 ∷ []))
+        ≡ Ok (symlink (codes "l") (codes "a/b")) }
+    ensures mknod { request_of (framed 8
+        (u32s (4516 ∷ 259 ∷ 18 ∷ 0 ∷ []) ++ (codes "p" ++ 0 ∷ [])))
+        ≡ Ok (mknod 4516 259 (codes "p")) }
+{}
+
+/// What frames ask that change no tree.
+#[tactic(auto, using(crate::proofs::Sampling::asks_readlink, crate::proofs::Sampling::asks_statfs, crate::proofs::Sampling::statfs_too_long, crate::proofs::Sampling::asks_fsync, crate::proofs::Sampling::asks_fsyncdir, crate::proofs::Sampling::asks_interrupt, crate::proofs::Sampling::asks_destroy))]
+pub fn links_sizes_and_ends()
+    ensures readlink { request_of (framed 5 []) ≡ Ok readlink }
+    ensures statfs { request_of (framed 17 []) ≡ Ok statfs }
+    ensures long { request_of (framed 17 (0 ∷ [])) ≡ Err 22 }
+    ensures fsync { request_of (framed 20 (u64s (2 ∷ []) ++ u32s (1 ∷ 0 ∷ []))) ≡ Ok (fsync 2 1) }
+    ensures fsyncdir { request_of (framed 30 (u64s (2 ∷ []) ++ u32s (0 ∷ 0 ∷ [])))
+        ≡ Ok (fsyncdir 2 0) }
+    ensures interrupt { request_of (framed 36 (u64s (2 ∷ []))) ≡ Ok interrupt }
+    ensures destroy { request_of (framed 38 []) ≡ Ok destroy }
 {}
 
 /// What frames ask of directories, by bodies of exactly their length.

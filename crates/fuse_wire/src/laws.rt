@@ -1,6 +1,6 @@
 //! What the readings of requests come to.
 ghost use Rattle.std.specs.Prelude.{◌≡◌, List, ℕ, Some};
-ghost use Rattle.fuse_wire.specs.Request.{only_name, IsName};
+ghost use Rattle.fuse_wire.specs.Layouts.{only_name, IsName};
 
 /// A body is read as a name exactly where it is that name and a zero byte, and the name has none
 /// inside.

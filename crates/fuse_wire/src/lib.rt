@@ -3,12 +3,14 @@
 #![tactic(auto)]
 
 pub mod attr;
+mod bodies;
 mod examples;
 mod fields;
 pub mod frames;
 pub mod head;
 pub mod ids;
 mod laws;
+pub mod layouts;
 pub mod listing;
 pub mod opcode;
 pub mod protocol;

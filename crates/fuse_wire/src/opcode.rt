@@ -8,6 +8,20 @@ pub const FUSE_LOOKUP: u32 = 1;
 pub const FUSE_GETATTR: u32 = 3;
 /// Takes a name out of a directory.
 pub const FUSE_UNLINK: u32 = 10;
+/// Takes the name of an empty directory out of a directory.
+pub const FUSE_RMDIR: u32 = 11;
+/// Moves a name.
+pub const FUSE_RENAME: u32 = 12;
+/// Moves a name, by flags.
+pub const FUSE_RENAME2: u32 = 45;
+/// Makes a symbolic link.
+pub const FUSE_SYMLINK: u32 = 6;
+/// Makes a special file.
+pub const FUSE_MKNOD: u32 = 8;
+/// Asks for the target of a symbolic link.
+pub const FUSE_READLINK: u32 = 5;
+/// Asks how much a tree may have.
+pub const FUSE_STATFS: u32 = 17;
 /// Opens a file.
 pub const FUSE_OPEN: u32 = 14;
 /// Reads a file.
@@ -22,8 +36,14 @@ pub const FUSE_OPENDIR: u32 = 27;
 pub const FUSE_READDIR: u32 = 28;
 /// Ends the handle of a directory.
 pub const FUSE_RELEASEDIR: u32 = 29;
+/// Keeps what was written.
+pub const FUSE_FSYNC: u32 = 20;
+/// Keeps what was changed of a directory.
+pub const FUSE_FSYNCDIR: u32 = 30;
 /// Begins a session.
 pub const FUSE_INIT: u32 = 26;
+/// Ends a session.
+pub const FUSE_DESTROY: u32 = 38;
 
 /// Counts a node down. It never gets a reply.
 pub const FUSE_FORGET: u32 = 2;

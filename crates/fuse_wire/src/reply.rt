@@ -3,10 +3,12 @@ ghost use Rattle.std.specs.Prelude.{◌≡◌, ◌+◌, ◌*◌, ◌≤◌, ◌<
 ghost use Rattle.std.specs.Prelude.{vec_capacity};
 ghost use Rattle.fuse_wire.specs.Reply.{u32s, u64s, negated, reply_head, reply, attr_bytes};
 ghost use Rattle.fuse_wire.specs.Reply.{entry_body, attr_body, init_body, opened_body};
+ghost use Rattle.fuse_wire.specs.Reply.{statfs_body};
 
 use crate::attr::FileAttr;
 use crate::ids::{Errno, FileHandle, INodeNo, RequestId};
 use crate::protocol::{FUSE_KERNEL_VERSION, MAX_READ};
+use port_base::names::NAME_LIMIT;
 
 /// The size of a reply's head (`fuse_out_header` of `fuse.h`), in bytes.
 pub const OUT_HEADER_SIZE: usize = 16;
@@ -19,6 +21,9 @@ pub const ATTR_OUT_SIZE: usize = 104;
 
 /// The size of a handle that is given (`fuse_open_out` of `fuse.h`), in bytes.
 pub const OPEN_OUT_SIZE: usize = 16;
+
+/// The size of how much a tree may have (`fuse_statfs_out` of `fuse.h`), in bytes.
+pub const STATFS_OUT_SIZE: usize = 80;
 
 /// The most requests that run in the background, told by INIT.
 pub const MAX_BACKGROUND: u16 = 12;
@@ -188,4 +193,17 @@ pub fn reply_opened(out: &mut Vec<u8>, unique: RequestId, handle: FileHandle)
     put_head(out, unique, 0, OPEN_OUT_SIZE as u32);
     put_u64s(out, &[handle.0]);
     put_u32s(out, &[0, 0]);
+}
+
+/// Appends the reply that tells how many blocks of a size and how many files a tree may have, 96
+/// bytes. All of them are free.
+pub fn reply_statfs(out: &mut Vec<u8>, unique: RequestId, block_size: u32, blocks: u64, files: u64)
+    requires { vec_len out.old + (OUT_HEADER_SIZE + STATFS_OUT_SIZE) ≤ vec_capacity out.old }
+    ensures { out.new.items ≡ out.old.items
+        ++ reply unique.0 0 (statfs_body block_size blocks files) }
+{
+    put_head(out, unique, 0, STATFS_OUT_SIZE as u32);
+    put_u64s(out, &[blocks, blocks, blocks, files, files]);
+    put_u32s(out, &[block_size, NAME_LIMIT as u32, block_size, 0]);
+    put(out, &[0; 24]);
 }

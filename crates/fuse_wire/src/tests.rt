@@ -4,6 +4,7 @@ use crate::ids::{Errno, FileHandle, INodeNo, RequestId};
 use crate::listing::{DirEntListBuilder, ReplyDirectory};
 use crate::reply::{
     reply_attr, reply_bytes, reply_empty, reply_entry, reply_error, reply_init, reply_opened,
+    reply_statfs,
 };
 use crate::request::{Body, ForgetOne, FuseRequest};
 use port_base::memory::SliceSource;
@@ -217,6 +218,117 @@ fn bodies_of_another_length_are_refused(rt: HostRuntime) -> Result<(), Fail> {
     Ok(())
 }
 
+// RENAME2 by flag 1 of `a` to `b` in node 7, and a byte more than it has.
+const RENAME2: [u8; 21] = [
+    7, 0, 0, 0, 0, 0, 0, 0, 1, 0, 0, 0, 9, 9, 9, 9, 0x61, 0, 0x62, 0, 0,
+];
+
+// MKNOD of `p`, a pipe for all, and a byte more than it has.
+const MKNOD: [u8; 19] = [
+    0xa4, 0x11, 0, 0, 3, 1, 0, 0, 0x12, 0, 0, 0, 9, 9, 9, 9, 0x70, 0, 0,
+];
+
+#[test]
+fn what_names_links_and_ends_ask(rt: HostRuntime) -> Result<(), Fail> {
+    let cases: [(u8, &[u8], Body<'_>); 11] = [
+        (11, b"d\0", Body::RmDir { name: b"d" }),
+        (
+            12,
+            b"\x07\0\0\0\0\0\0\0a\0\0",
+            Body::Rename {
+                newdir: 7,
+                old: b"a",
+                new: b"",
+            },
+        ),
+        (
+            45,
+            &RENAME2[..20],
+            Body::Rename2 {
+                newdir: 7,
+                flags: 1,
+                old: b"a",
+                new: b"b",
+            },
+        ),
+        (
+            6,
+            b"l\0a/b\0",
+            Body::Symlink {
+                name: b"l",
+                target: b"a/b",
+            },
+        ),
+        (
+            8,
+            &MKNOD[..18],
+            Body::MkNod {
+                mode: 4516,
+                rdev: 259,
+                name: b"p",
+            },
+        ),
+        (5, b"", Body::ReadLink),
+        (17, b"", Body::StatFs),
+        (
+            20,
+            &HANDLE[..16],
+            Body::FSync {
+                fh: 259,
+                flags: 0x0909_0909,
+            },
+        ),
+        (30, &READ[..16], Body::FSyncDir { fh: 2, flags: 4 }),
+        (36, &HANDLE[..8], Body::Interrupt),
+        (38, b"", Body::Destroy),
+    ];
+    for (opcode, body, want) in cases {
+        let mut frame = Vec::from_slice(rt.alloc(), &[0; 40])?;
+        frame[4] = opcode;
+        frame.extend_from_slice(body)?;
+        assert_eq!(rt; FuseRequest::read(&frame)?.body, want);
+    }
+    Ok(())
+}
+
+#[test]
+fn other_bodies_of_names_links_and_ends_are_refused(rt: HostRuntime) -> Result<(), Fail> {
+    let cases: [(u8, &[u8]); 25] = [
+        (11, b"d"),
+        (11, b"d\0\0"),
+        (12, b"\x07\0\0\0\0\0\0"),
+        (12, b"\x07\0\0\0\0\0\0\0"),
+        (12, b"\x07\0\0\0\0\0\0\0a\0"),
+        (12, b"\x07\0\0\0\0\0\0\0a\0b"),
+        (12, b"\x07\0\0\0\0\0\0\0a\0b\0\0"),
+        (45, &RENAME2[..15]),
+        (45, &RENAME2[..18]),
+        (45, &RENAME2[..19]),
+        (45, &RENAME2),
+        (6, b""),
+        (6, b"l\0"),
+        (6, b"l\0a/b"),
+        (6, b"l\0a/b\0\0"),
+        (8, &MKNOD[..15]),
+        (8, &MKNOD[..17]),
+        (8, &MKNOD),
+        (5, b"\0"),
+        (17, b"\0"),
+        (20, &HANDLE[..15]),
+        (20, &HANDLE[..17]),
+        (30, &HANDLE[..15]),
+        (36, &HANDLE[..7]),
+        (38, b"\0"),
+    ];
+    for (opcode, body) in cases {
+        let mut frame = Vec::from_slice(rt.alloc(), &[0; 40])?;
+        frame[4] = opcode;
+        frame.extend_from_slice(body)?;
+        assert_eq!(rt; FuseRequest::read(&frame).err(), Some(Errno(22)));
+    }
+    Ok(())
+}
+
 #[test]
 fn pairs_of_a_batch(rt: HostRuntime) -> Result<(), Fail> {
     let cases = [(8, 2, 3), (24, 5, 258)];
@@ -239,10 +351,16 @@ fn short_replies(rt: HostRuntime) -> Result<(), Fail> {
     reply_bytes(&mut out, RequestId(5), b"");
     out.reserve(32)?;
     reply_opened(&mut out, RequestId(1 << 56), FileHandle(259));
+    out.reserve(96)?;
+    reply_statfs(&mut out, RequestId(6), 4096, 256, 65536);
     let want = [
         16, 0, 0, 0, 0, 0, 0, 0, 3, 0, 0, 0, 0, 0, 0, 0, 21, 0, 0, 0, 0, 0, 0, 0, 4, 0, 0, 0, 0, 0,
         0, 0, 0x68, 0x65, 0x6c, 0x6c, 0x6f, 16, 0, 0, 0, 0, 0, 0, 0, 5, 0, 0, 0, 0, 0, 0, 0, 32, 0,
         0, 0, 0, 0, 0, 0, 0, 0, 0, 0, 0, 0, 0, 1, 3, 1, 0, 0, 0, 0, 0, 0, 0, 0, 0, 0, 0, 0, 0, 0,
+        96, 0, 0, 0, 0, 0, 0, 0, 6, 0, 0, 0, 0, 0, 0, 0, 0, 1, 0, 0, 0, 0, 0, 0, 0, 1, 0, 0, 0, 0,
+        0, 0, 0, 1, 0, 0, 0, 0, 0, 0, 0, 0, 1, 0, 0, 0, 0, 0, 0, 0, 1, 0, 0, 0, 0, 0, 0, 16, 0, 0,
+        255, 0, 0, 0, 0, 16, 0, 0, 0, 0, 0, 0, 0, 0, 0, 0, 0, 0, 0, 0, 0, 0, 0, 0, 0, 0, 0, 0, 0,
+        0, 0, 0, 0, 0, 0, 0,
     ];
     assert_eq!(rt; out.as_slice(), want.as_slice());
     Ok(())

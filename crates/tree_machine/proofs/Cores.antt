@@ -2,6 +2,7 @@
 use Rattle.std.proofs.Common.{◌≡◌, ℕ, Bool, true, false, not, List, [], ◌∷◌, ◌++◌, refl, sym, ap}
 use Rattle.std.proofs.Common.{◌∙◌, subst, Option, Some, None, Result, Ok, Err}
 use Rattle.std.specs.Prelude.{IsTrue, if◌then◌else◌}
+use Rattle.std.proofs.lemmas.Bool.{false≢true}
 use Rattle.std.specs.FinMap.{get}
 use Rattle.port_base.specs.declared.errno.TheConstants.{ENOSYS, EPROTO}
 use Rattle.tree_model.specs.Tree.{Tree, body_at}
@@ -9,7 +10,8 @@ use Rattle.tree_model.specs.Settings.{Settings}
 use Rattle.fuse_wire.specs.Head.{head_of}
 use Rattle.fuse_wire.specs.Request.{Request, request_of, init, lookup, getattr, unlink, open_file}
 use Rattle.fuse_wire.specs.Request.{read, opendir, readdir, releasedir, flush, release, forget}
-use Rattle.fuse_wire.specs.Request.{batch_forget}
+use Rattle.fuse_wire.specs.Request.{batch_forget, rmdir, rename, rename2, symlink, mknod, readlink}
+use Rattle.fuse_wire.specs.Request.{statfs, fsync, fsyncdir, interrupt, destroy}
 use Rattle.tree_machine.specs.State.{MachineState, Node, begun}
 use Rattle.tree_machine.specs.Refusals.{refused_if, first_refusal, refused_or}
 use Rattle.tree_machine.specs.Core.{node_ino, opened, open_refusal, link_check, core}
@@ -51,6 +53,17 @@ module _ (s : Settings) (m : MachineState) (node : ℕ) where
   core_alike (release fh) h = refl
   core_alike (forget number) h = refl
   core_alike (batch_forget pairs) h = refl
+  core_alike (rmdir name) h = absurd (false≢true h)
+  core_alike (rename newdir old new) h = absurd (false≢true h)
+  core_alike (rename2 newdir flags old new) h = absurd (false≢true h)
+  core_alike (symlink name target) h = absurd (false≢true h)
+  core_alike (mknod mode rdev name) h = absurd (false≢true h)
+  core_alike readlink h = absurd (false≢true h)
+  core_alike statfs h = absurd (false≢true h)
+  core_alike (fsync fh flags) h = absurd (false≢true h)
+  core_alike (fsyncdir fh flags) h = absurd (false≢true h)
+  core_alike interrupt h = absurd (false≢true h)
+  core_alike destroy h = absurd (false≢true h)
 
   pub in_turn_alike : (b : Bool) (asked : Result Request ℕ) (r : Request) → asked ≡ Ok r
       → IsTrue (is_core r) → core s m node (if b then asked else Err EPROTO) ≡ answer_of s m node

@@ -25,8 +25,8 @@ use Rattle.tree_machine.specs.Replies.{Reply}
 use Rattle.tree_machine.specs.Replies.Reply.{Refused, Opened, Bytes, Done}
 use Rattle.tree_machine.specs.Refusals.{refused_if, refused_unknown, first_refusal, refused_or}
 use Rattle.tree_machine.specs.Refusals.{none_or}
-use Rattle.tree_machine.specs.Core.{node_ino, opendir_refusal, readdir_refusal, unlink_refusal}
-use Rattle.tree_machine.specs.Core.{with_handle, listed, unlink_told, unlinked}
+use Rattle.tree_machine.specs.Core.{node_ino, opendir_refusal, readdir_refusal, name_refusal}
+use Rattle.tree_machine.specs.Core.{with_handle, listed, unlink_told, changed_by}
 use Rattle.tree_machine.specs.Listing.{entry_size, listing_bytes, listed_page}
 use Rattle.tree_machine.specs.Requests.{answer_of}
 use Rattle.tree_machine.specs.Messages.{dirent_size, is_last, listing_messages, readdir_messages}
@@ -152,25 +152,25 @@ one_full_message = ap (counted_all 0 31) past_none ∙ ap (counted 0 0 []) past_
 -- ---- UNLINK
 
 unlinks : Option Node → Reply × MachineState
-unlinks o = refused_or with_hello (unlink_refusal (codes "hello") o)
-    (unlinked with_hello (unlink_told with_hello (node_ino o) (codes "hello")))
+unlinks o = refused_or with_hello (name_refusal (codes "hello") o)
+    (changed_by with_hello (unlink_told with_hello (node_ino o) (codes "hello")))
 
 unlinks_in : ℕ → Option ℕ → Reply × MachineState
 unlinks_in dir o = refused_or with_hello (first_refusal (o ∷ []))
-    (unlinked with_hello (unlink_told with_hello dir (codes "hello")))
+    (changed_by with_hello (unlink_told with_hello dir (codes "hello")))
 
 abbrev held : ℕ → Bool
 held = is_named with_hello.nodes with_hello.handles
 
 takes : Result ℕ ℕ → Reply × MachineState
-takes r = unlinked with_hello (removed_at held tree 1 (codes "hello")
+takes r = changed_by with_hello (removed_at held tree 1 (codes "hello")
     (unless_directory tree.records r))
 
 abbrev without_hello : MachineState
-without_hello = (unlinked with_hello (removed_at held tree 1 (codes "hello") (Ok 2))).1
+without_hello = (changed_by with_hello (removed_at held tree 1 (codes "hello") (Ok 2))).1
 
 takes_file : Option Record → Reply × MachineState
-takes_file o = unlinked with_hello (removed_at held tree 1 (codes "hello")
+takes_file o = changed_by with_hello (removed_at held tree 1 (codes "hello")
     (cond (is_directory_at (option_map (λ (r : Record). r.body) o)) (Err 21) (Ok 2)))
 
 hello_taken : answer_of settings with_hello 1 (Ok (unlink (codes "hello"))) ≡ (Done, without_hello)
@@ -197,7 +197,7 @@ hello_stays = ap (λ (x : Reply × MachineState). get x.1.tree.records 2) hello_
     ∙ less_linked
 
 unlinks_below : Option Record → Reply × MachineState
-unlinks_below o = unlinked with_hello (removed_at held tree 2 (codes "hello") (unless_directory
+unlinks_below o = changed_by with_hello (removed_at held tree 2 (codes "hello") (unless_directory
     tree.records (ino_among false (codes "hello")
     (option_and_then entries_of (option_map (λ (r : Record). r.body) o)))))
 

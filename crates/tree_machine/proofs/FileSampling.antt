@@ -12,7 +12,8 @@ use Rattle.tree_model.specs.Opening.{body_answer, unless, open_refused, open_che
 use Rattle.tree_model.proofs.Maps.{inserted, insert_keeps, undone}
 use Rattle.fuse_wire.specs.Fields.{u32_at, u64_at}
 use Rattle.fuse_wire.specs.Head.{head_of}
-use Rattle.fuse_wire.specs.Request.{request_of, request_in, flags_of, read_in_of, handle_of}
+use Rattle.fuse_wire.specs.Layouts.{flags_of, read_in_of, handle_of}
+use Rattle.fuse_wire.specs.Request.{request_of, request_in}
 use Rattle.fuse_wire.specs.Request.{forget_of, batch_forget_of, open_file, read, flush, release}
 use Rattle.fuse_wire.specs.Request.{forget, batch_forget}
 use Rattle.fuse_wire.specs.Reply.{reply, reply_head, opened_body, u32s, u64s}

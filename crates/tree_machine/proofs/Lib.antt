@@ -4,6 +4,8 @@ pub mod Looking
 pub mod Handles
 pub mod Opening
 pub mod Refusals
+pub mod KindsKept
+pub mod NamingSampling
 pub mod Directories
 pub mod Listing
 pub mod Cores

@@ -12,7 +12,7 @@ use Rattle.tree_model.specs.Making.{new_tree, joined_by, file_record}
 use Rattle.tree_model.proofs.Maps.{inserted, insert_keeps}
 use Rattle.fuse_wire.specs.Fields.{u32_at, u64_at}
 use Rattle.fuse_wire.specs.Request.{request_of, request_in, init_of, getattr_of}
-use Rattle.fuse_wire.specs.Request.{only_name, name_at}
+use Rattle.fuse_wire.specs.Layouts.{only_name, name_at}
 use Rattle.fuse_wire.specs.Reply.{reply, reply_head, init_body, entry_body, attr_body, attr_bytes}
 use Rattle.fuse_wire.specs.Reply.{u32s, u64s}
 use Rattle.tree_machine.specs.State.{begun}

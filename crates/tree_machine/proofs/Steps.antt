@@ -5,8 +5,10 @@ use Rattle.tree_model.specs.Settings.{Settings}
 use Rattle.fuse_wire.specs.Head.{head_of}
 use Rattle.fuse_wire.specs.Request.{Request, init, lookup, getattr, unlink, open_file, read, opendir}
 use Rattle.fuse_wire.specs.Request.{readdir, releasedir, flush, release, forget, batch_forget}
-use Rattle.tree_machine.specs.State.{MachineState}
-use Rattle.tree_machine.specs.State.Phase.{Started}
+use Rattle.fuse_wire.specs.Request.{rmdir, rename, rename2, symlink, mknod, readlink, statfs, fsync}
+use Rattle.fuse_wire.specs.Request.{fsyncdir, interrupt, destroy}
+use Rattle.tree_machine.specs.State.{MachineState, Phase}
+use Rattle.tree_machine.specs.State.Phase.{Started, Over}
 use Rattle.tree_machine.specs.Requests.{refusal_before, effect_of, answer_of}
 use Rattle.tree_machine.specs.Forgetting.{forgotten, all_forgotten, pairs_of}
 use Rattle.tree_machine.specs.Step.{step, request_in_turn}
@@ -17,14 +19,15 @@ pub use Rattle.tree_machine.proofs.KeptStates.{kept_good}
 pub use Rattle.tree_machine.proofs.Nodes.{given_good}
 use Rattle.tree_machine.proofs.Looking.{lookup_good}
 use Rattle.tree_machine.proofs.Opening.{open_good}
-use Rattle.tree_machine.proofs.Directories.{opendir_good, unlink_good}
+use Rattle.tree_machine.proofs.Directories.{opendir_good, unlink_good, rmdir_good}
+use Rattle.tree_machine.proofs.Directories.{rename_good, rename2_good}
 use Rattle.tree_machine.proofs.Handles.{handle_gone}
 use Rattle.tree_machine.proofs.Forgetting.{forgotten_good, all_forgotten_good}
 
 module _ (s : Settings) where
   module _ (m : MachineState) (g : IsGoodMachine s m) where
-    pub begins : IsGoodMachine s (record m { phase = Started })
-    begins = record {
+    pub in_phase : (p : Phase) → IsGoodMachine s (record m { phase = p })
+    in_phase p = record {
       tree = g.tree;
       root = g.root;
       nodes = λ id n at. let old = g.nodes id n at in record {
@@ -50,12 +53,25 @@ module _ (s : Settings) where
     effect_good : (node : ℕ) (r : Request) → refusal_before s m node r ≡ None
         → Gives s (effect_of s m node r)
     effect_good node (init major minor max_readahead flags) none =
-        kept_good s (record m { phase = Started }) begins
+        kept_good s (record m { phase = Started }) (in_phase Started)
     effect_good node (lookup name) none = lookup_good s m g name (get m.nodes node) none
     effect_good node (getattr handle) none = kept_good s m g
     effect_good node (open_file flags) none = open_good s m g flags (get m.nodes node) none
     effect_good node (read fh offset size flags lock) none = kept_good s m g
     effect_good node (unlink name) none = unlink_good s m g name (get m.nodes node)
+    effect_good node (rmdir name) none = rmdir_good s m g name (get m.nodes node)
+    effect_good node (rename newdir old new) none =
+        rename_good s m g old new (get m.nodes node) (get m.nodes newdir) none
+    effect_good node (rename2 newdir flags old new) none =
+        rename2_good s m g flags old new (get m.nodes node) (get m.nodes newdir) none
+    effect_good node (symlink name target) none = kept_good s m g
+    effect_good node (mknod mode rdev name) none = kept_good s m g
+    effect_good node readlink none = kept_good s m g
+    effect_good node statfs none = kept_good s m g
+    effect_good node (fsync fh flags) none = kept_good s m g
+    effect_good node (fsyncdir fh flags) none = kept_good s m g
+    effect_good node interrupt none = kept_good s m g
+    effect_good node destroy none = kept_good s (record m { phase = Over }) (in_phase Over)
     effect_good node (opendir flags) none = opendir_good s m g (get m.nodes node) none
     effect_good node (readdir fh offset size flags lock) none = kept_good s m g
     effect_good node (releasedir fh) none = kept_good s (record m { handles = remove m.handles fh })

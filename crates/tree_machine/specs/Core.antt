@@ -6,7 +6,7 @@ use Rattle.std.specs.FinMap as map
 use Rattle.port_base.specs.Names.{name_fault}
 use Rattle.port_base.specs.OpenFlags.{access, has_flag}
 use Rattle.port_base.specs.declared.errno.TheConstants.{EBADF, EISDIR, ELOOP, ENFILE, ENOENT}
-use Rattle.port_base.specs.declared.errno.TheConstants.{ENOTDIR, EPROTO, ESTALE}
+use Rattle.port_base.specs.declared.errno.TheConstants.{ENOSYS, ENOTDIR, EPROTO, ESTALE}
 use Rattle.port_base.specs.declared.oflag.TheConstants.{O_APPEND, O_RDONLY, O_WRONLY}
 use Rattle.tree_model.specs.Tree.{Tree, Body, body_at, is_directory_at}
 use Rattle.tree_model.specs.Tree.Body.{File, Directory, Link}
@@ -182,18 +182,20 @@ abbrev pub listed : MachineState → ℕ → ℕ → Option Handle → Reply
 listed m offset size handle =
     Bytes (listing_bytes (listed_page m.tree (handle_ino handle) offset size))
 
-abbrev pub unlink_refusal : List ℕ → Option Node → Option ℕ
-unlink_refusal name node = first_refusal (refused_unknown node ESTALE ∷ name_fault name ∷ [])
+-- of a request that names an entry of a node
+abbrev pub name_refusal : List ℕ → Option Node → Option ℕ
+name_refusal name node = first_refusal (refused_unknown node ESTALE ∷ name_fault name ∷ [])
 
 -- a name that goes; a file that a node or a handle names stays
 abbrev pub unlink_told : MachineState → ℕ → List ℕ → Result (Unit {0} × Tree) ℕ
 unlink_told m dir name = unlink_of (is_named m.nodes m.handles) m.tree dir name
 
-abbrev pub unlinked : MachineState → Result (Unit {0} × Tree) ℕ → Reply × MachineState
-unlinked m (Ok (u, t)) = (Done, record m { tree = t })
-unlinked m (Err e) = (Refused e, m)
+-- the tree that a change leaves, or why it was refused
+abbrev pub changed_by : MachineState → Result (Unit {0} × Tree) ℕ → Reply × MachineState
+changed_by m (Ok (u, t)) = (Done, record m { tree = t })
+changed_by m (Err e) = (Refused e, m)
 
--- ---- every core request, asked of a node
+-- ---- every core request, asked of a node; no other one is served here
 
 abbrev pub core_refusal : Settings → MachineState → ℕ → Request → Option ℕ
 core_refusal s m node (init major minor max_readahead flags) = init_refusal major minor
@@ -201,7 +203,7 @@ core_refusal s m node (lookup name) = lookup_refusal s m name (map.get m.nodes n
 core_refusal s m node (getattr handle) = getattr_refusal m node handle
 core_refusal s m node (open_file flags) = open_refusal s m (map.get m.nodes node)
 core_refusal s m node (read fh offset size flags lock) = read_refusal m (map.get m.handles fh)
-core_refusal s m node (unlink name) = unlink_refusal name (map.get m.nodes node)
+core_refusal s m node (unlink name) = name_refusal name (map.get m.nodes node)
 core_refusal s m node (opendir flags) = opendir_refusal s m (map.get m.nodes node)
 core_refusal s m node (readdir fh offset size flags lock) =
     readdir_refusal m (map.get m.handles fh)
@@ -210,6 +212,7 @@ core_refusal s m node (flush fh) = refused_unknown (map.get m.handles fh) EBADF
 core_refusal s m node (release fh) = refused_unknown (map.get m.handles fh) EBADF
 core_refusal s m node (forget number) = None
 core_refusal s m node (batch_forget pairs) = None
+core_refusal s m node _ = Some ENOSYS
 
 abbrev pub core_effect : Settings → MachineState → ℕ → Request → Reply × MachineState
 core_effect s m node (init major minor max_readahead flags) = init_effect m minor max_readahead
@@ -223,7 +226,7 @@ core_effect s m node (open_file flags) =
 core_effect s m node (read fh offset size flags lock) =
     (bytes_reply (bytes_read m offset size (map.get m.handles fh)), m)
 core_effect s m node (unlink name) =
-    unlinked m (unlink_told m (node_ino (map.get m.nodes node)) name)
+    changed_by m (unlink_told m (node_ino (map.get m.nodes node)) name)
 core_effect s m node (opendir flags) =
     (Opened m.next, with_handle m (node_ino (map.get m.nodes node)) O_RDONLY)
 core_effect s m node (readdir fh offset size flags lock) =
@@ -233,6 +236,7 @@ core_effect s m node (flush fh) = (Done, m)
 core_effect s m node (release fh) = (Done, record m { handles = map.remove m.handles fh })
 core_effect s m node (forget number) = (Done, forgotten m node number)
 core_effect s m node (batch_forget pairs) = (Done, all_forgotten m (pairs_of pairs))
+core_effect s m node _ = (Done, m)
 
 -- what a core request answers, and the state that it leaves
 abbrev pub core : Settings → MachineState → ℕ → Result Request ℕ → Reply × MachineState

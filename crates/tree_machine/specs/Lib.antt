@@ -4,6 +4,7 @@ pub mod Replies
 pub mod Refusals
 pub mod Listing
 pub mod Core
+pub mod Naming
 pub mod Requests
 pub mod Step
 pub mod Play

@@ -14,7 +14,8 @@ use Rattle.tree_model.specs.Settings.{Settings}
 use Rattle.fuse_wire.specs.Head.{head_of}
 use Rattle.fuse_wire.specs.Request.{Request, init, lookup, getattr, unlink, open_file, read}
 use Rattle.fuse_wire.specs.Request.{opendir, readdir, releasedir, flush, release, forget}
-use Rattle.fuse_wire.specs.Request.{batch_forget}
+use Rattle.fuse_wire.specs.Request.{batch_forget, rmdir, rename, rename2, symlink, mknod, readlink}
+use Rattle.fuse_wire.specs.Request.{statfs, fsync, fsyncdir, interrupt, destroy}
 use Rattle.fuse_wire.specs.declared.protocol.TheConstants.{MAX_READ}
 use Rattle.tree_machine.specs.State.{MachineState, Node, begun}
 use Rattle.tree_machine.specs.Refusals.{none_or}
@@ -87,14 +88,25 @@ effect_messages piece s m node (open_file flags) =
 effect_messages piece s m node (read fh offset size flags lock) =
     read_messages piece (min size MAX_READ) (bytes_read m offset size (map.get m.handles fh))
 effect_messages piece s m node (unlink name) = 1
+effect_messages piece s m node (rmdir name) = 1
+effect_messages piece s m node (rename newdir old new) = 1
+effect_messages piece s m node (rename2 newdir flags old new) = 1
+effect_messages piece s m node (symlink name target) = 1
+effect_messages piece s m node (mknod mode rdev name) = 1
+effect_messages piece s m node readlink = 1
+effect_messages piece s m node statfs = 1
 effect_messages piece s m node (opendir flags) = 2
 effect_messages piece s m node (readdir fh offset size flags lock) =
     readdir_messages piece m.tree (handle_ino (map.get m.handles fh)) offset size
 effect_messages piece s m node (releasedir fh) = 1
 effect_messages piece s m node (flush fh) = 0
 effect_messages piece s m node (release fh) = 1
+effect_messages piece s m node (fsync fh flags) = 1
+effect_messages piece s m node (fsyncdir fh flags) = 1
 effect_messages piece s m node (forget number) = gone m (forgotten m node number)
 effect_messages piece s m node (batch_forget pairs) = gone m (all_forgotten m (pairs_of pairs))
+effect_messages piece s m node interrupt = 0
+effect_messages piece s m node destroy = 0
 
 -- the messages of any request; what is out of turn, isn't served or is outside its grammar takes
 -- none

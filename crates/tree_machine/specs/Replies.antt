@@ -7,9 +7,10 @@ use Rattle.fuse_wire.specs.Head.{head_of}
 use Rattle.fuse_wire.specs.Opcode.{is_silent}
 use Rattle.fuse_wire.specs.declared.attr.FileAttr.{FileAttr}
 use Rattle.fuse_wire.specs.Reply.{reply, init_body, entry_body, attr_body, opened_body}
+use Rattle.fuse_wire.specs.Reply.{statfs_body}
 
--- an error; what INIT grants; a node and its attributes; attributes; a handle; bytes of a file; no
--- more than that it is done
+-- an error; what INIT grants; a node and its attributes; attributes; a handle; bytes of a file, or
+-- a link's target; how many blocks and files a tree may have; no more than that it is done
 pub data Reply : Type 0 where
   Refused : (errno : ℕ) → Reply
   Granted : (minor max_readahead : ℕ) → Reply
@@ -17,6 +18,7 @@ pub data Reply : Type 0 where
   Attributes : (attr : FileAttr) → Reply
   Opened : (handle : ℕ) → Reply
   Bytes : (bytes : List ℕ) → Reply
+  Sizes : (blocks files : ℕ) → Reply
   Done : Reply
 
 -- attributes as fuse.h names them; those of the argument are as they are shown
@@ -48,6 +50,8 @@ reply_bytes unique (Entry node attr) = reply unique 0 (entry_body node attr)
 reply_bytes unique (Attributes attr) = reply unique 0 (attr_body attr)
 reply_bytes unique (Opened handle) = reply unique 0 (opened_body handle)
 reply_bytes unique (Bytes bytes) = reply unique 0 bytes
+reply_bytes unique (Sizes blocks files) =
+    reply unique 0 (statfs_body BLOCK_SIZE blocks files)
 reply_bytes unique Done = reply unique 0 []
 
 -- the bytes that answer a frame: none where its request never gets a reply

@@ -1,18 +1,26 @@
 -- Every request: the core requests, and those beyond them.
-use Rattle.std.specs.Prelude.{ℕ, Bool, true, not, ◌&&◌, ◌||◌, [], ◌∷◌, Option, Result, Ok, Err}
+use Rattle.std.specs.Prelude.{ℕ, Bool, true, false, not, ◌&&◌, ◌||◌, [], ◌∷◌, Option, None, Result}
+use Rattle.std.specs.Prelude.{Ok, Err}
 use Rattle.std.specs.Prelude.{◌==◌}
 use Rattle.std.specs.FinMap as map
 use Rattle.port_base.specs.OpenFlags.{access, has_flag}
-use Rattle.port_base.specs.declared.errno.TheConstants.{ENOSYS}
+use Rattle.port_base.specs.declared.errno.TheConstants.{EACCES, EBADF, ENOSYS, ESTALE}
 use Rattle.port_base.specs.declared.oflag.TheConstants.{O_RDONLY, O_CREAT, O_TRUNC, O_DIRECTORY}
-use Rattle.tree_model.specs.Opening.{open_check_of}
+use Rattle.tree_model.specs.Attributes.{statfs_of}
+use Rattle.tree_model.specs.Opening.{open_check_of, readlink_of}
+use Rattle.tree_model.specs.Tree.{Tree}
 use Rattle.tree_model.specs.Settings.{Settings}
-use Rattle.fuse_wire.specs.Request.{Request, open_file}
+use Rattle.fuse_wire.specs.Request.{Request, rmdir, rename, rename2, symlink, mknod, readlink}
+use Rattle.fuse_wire.specs.Request.{statfs, open_file, fsync, fsyncdir, interrupt, destroy}
 use Rattle.tree_machine.specs.State.{MachineState}
+use Rattle.tree_machine.specs.State.Phase.{Over}
 use Rattle.tree_machine.specs.Replies.{Reply}
-use Rattle.tree_machine.specs.Replies.Reply.{Refused}
-use Rattle.tree_machine.specs.Refusals.{refused_if, first_refusal, refused_or}
-use Rattle.tree_machine.specs.Core.{node_ino, opened, open_refusal, core_refusal, core_effect}
+use Rattle.tree_machine.specs.Replies.Reply.{Refused, Sizes, Done}
+use Rattle.tree_machine.specs.Refusals.{refused_if, refused_unknown, first_refusal, refused_or}
+use Rattle.tree_machine.specs.Core.{node_ino, opened, open_refusal, name_refusal, bytes_reply}
+use Rattle.tree_machine.specs.Core.{changed_by, core_refusal, core_effect}
+use Rattle.tree_machine.specs.Naming.{rmdir_told, rename_refusal, rename2_refusal, rename_told}
+use Rattle.tree_machine.specs.Naming.{symlink_refusal}
 
 -- to read, with none of O_CREAT, O_TRUNC and O_DIRECTORY
 abbrev pub opens_to_read : ℕ → Bool
@@ -20,10 +28,25 @@ opens_to_read flags =
     access flags == O_RDONLY
     && not (has_flag O_CREAT flags || has_flag O_TRUNC flags || has_flag O_DIRECTORY flags)
 
--- of the requests that are served, an OPEN by other flags alone isn't a core request
+-- an OPEN by other flags isn't a core request, nor are these
 abbrev pub is_core : Request → Bool
 is_core (open_file flags) = opens_to_read flags
+is_core (rmdir name) = false
+is_core (rename newdir old new) = false
+is_core (rename2 newdir flags old new) = false
+is_core (symlink name target) = false
+is_core (mknod mode rdev name) = false
+is_core readlink = false
+is_core statfs = false
+is_core (fsync fh flags) = false
+is_core (fsyncdir fh flags) = false
+is_core interrupt = false
+is_core destroy = false
 is_core _ = true
+
+-- how much a tree may have
+abbrev pub sizes_reply : Tree → Reply
+sizes_reply t = Sizes (statfs_of t).blocks (statfs_of t).files
 
 -- the refusals that stand before a request's first message; other OPENs aren't served
 abbrev pub refusal_before : Settings → MachineState → ℕ → Request → Option ℕ
@@ -31,12 +54,43 @@ refusal_before s m node (open_file flags) = first_refusal (
     refused_if (not (opens_to_read flags)) ENOSYS
     ∷ open_refusal s m (map.get m.nodes node)
     ∷ [])
+refusal_before s m node (rmdir name) = name_refusal name (map.get m.nodes node)
+refusal_before s m node (rename newdir old new) =
+    rename_refusal old new (map.get m.nodes node) (map.get m.nodes newdir)
+refusal_before s m node (rename2 newdir flags old new) =
+    rename2_refusal flags old new (map.get m.nodes node) (map.get m.nodes newdir)
+refusal_before s m node (symlink name target) =
+    symlink_refusal name target (map.get m.nodes node)
+refusal_before s m node (mknod mode rdev name) = name_refusal name (map.get m.nodes node)
+refusal_before s m node readlink = refused_unknown (map.get m.nodes node) ESTALE
+refusal_before s m node statfs = refused_unknown (map.get m.nodes node) ESTALE
+refusal_before s m node (fsync fh flags) = refused_unknown (map.get m.handles fh) EBADF
+refusal_before s m node (fsyncdir fh flags) = refused_unknown (map.get m.handles fh) EBADF
+refusal_before s m node interrupt = None
+refusal_before s m node destroy = None
 refusal_before s m node r = core_refusal s m node r
 
 -- the reply, and the state that is left, where none of these refusals stands
 abbrev pub effect_of : Settings → MachineState → ℕ → Request → Reply × MachineState
 effect_of s m node (open_file flags) =
     let ino = node_ino (map.get m.nodes node) in opened m ino flags (open_check_of m.tree ino flags)
+effect_of s m node (rmdir name) =
+    changed_by m (rmdir_told m (node_ino (map.get m.nodes node)) name)
+effect_of s m node (rename newdir old new) =
+    changed_by m (rename_told m (node_ino (map.get m.nodes node)) old
+    (node_ino (map.get m.nodes newdir)) new)
+effect_of s m node (rename2 newdir flags old new) =
+    changed_by m (rename_told m (node_ino (map.get m.nodes node)) old
+    (node_ino (map.get m.nodes newdir)) new)
+effect_of s m node (symlink name target) = (Refused EACCES, m)
+effect_of s m node (mknod mode rdev name) = (Refused EACCES, m)
+effect_of s m node readlink =
+    (bytes_reply (readlink_of m.tree (node_ino (map.get m.nodes node))), m)
+effect_of s m node statfs = (sizes_reply m.tree, m)
+effect_of s m node (fsync fh flags) = (Done, m)
+effect_of s m node (fsyncdir fh flags) = (Done, m)
+effect_of s m node interrupt = (Done, m)
+effect_of s m node destroy = (Done, record m { phase = Over })
 effect_of s m node r = core_effect s m node r
 
 -- what a request answers, and the state that it leaves

@@ -2,11 +2,13 @@
 ghost use Rattle.std.specs.Prelude.{◌≡◌, true, false, Ok, Some, None, [], codes};
 ghost use Rattle.std.specs.FinMap as map;
 ghost use Rattle.port_base.specs.declared.errno.TheConstants.{EBADF, EISDIR, ENOSYS, ENOTDIR};
-ghost use Rattle.port_base.specs.declared.errno.TheConstants.{ESTALE};
+ghost use Rattle.port_base.specs.declared.errno.TheConstants.{EACCES, EINVAL, ESTALE};
 ghost use Rattle.tree_machine.specs.State.{begun};
 ghost use Rattle.fuse_wire.specs.Request.{unlink, open_file, read, opendir, readdir, flush};
-ghost use Rattle.fuse_wire.specs.Request.{release};
-ghost use Rattle.tree_machine.specs.Replies.Reply.{Refused, Opened, Bytes, Done};
+ghost use Rattle.fuse_wire.specs.Request.{release, rmdir, rename2, mknod, readlink, statfs};
+ghost use Rattle.fuse_wire.specs.Request.{fsync, destroy};
+ghost use Rattle.tree_machine.specs.Replies.Reply.{Refused, Opened, Bytes, Sizes, Done};
+ghost use Rattle.tree_machine.specs.State.Phase.{Over};
 ghost use Rattle.tree_machine.specs.Requests.{answer_of, is_core};
 ghost use Rattle.tree_machine.specs.Forgetting.{forgotten};
 ghost use Rattle.tree_machine.specs.FileSamples.{open_frame, open_reply, with_open, read_frame};
@@ -134,6 +136,28 @@ fn hello_is_unlinked()
         ≡ Some hello_without_name }
     ensures below { answer_of settings with_hello 2 (Ok (unlink (codes "hello")))
         ≡ (Refused ENOTDIR, with_hello) }
+{}
+
+/// What is refused of names: RMDIR of a file, RENAME2 by flags, and MKNOD.
+#[tactic(auto, using(crate::proofs::NamingSampling::file_stays, crate::proofs::NamingSampling::flags_refused, crate::proofs::NamingSampling::no_special_file))]
+fn names_are_refused()
+    ensures file { answer_of settings with_hello 1 (Ok (rmdir (codes "hello")))
+        ≡ (Refused ENOTDIR, with_hello) }
+    ensures flags { answer_of settings with_hello 1 (Ok (rename2 1 1 (codes "a") (codes "b")))
+        ≡ (Refused EINVAL, with_hello) }
+    ensures special { answer_of settings with_hello 1 (Ok (mknod 4516 0 (codes "hello")))
+        ≡ (Refused EACCES, with_hello) }
+{}
+
+/// A file is no link, STATFS tells the limits of the tree, FSYNC looks at its handle, and DESTROY
+/// ends the session.
+#[tactic(auto, using(crate::proofs::NamingSampling::file_is_no_link, crate::proofs::NamingSampling::sizes_told, crate::proofs::NamingSampling::fsync_unknown))]
+fn nothing_else_changes()
+    ensures link { answer_of settings with_hello 2 (Ok readlink) ≡ (Refused EINVAL, with_hello) }
+    ensures sizes { answer_of settings with_hello 2 (Ok statfs) ≡ (Sizes 256 65536, with_hello) }
+    ensures fsync { answer_of settings with_hello 0 (Ok (fsync 9 0)) ≡ (Refused EBADF, with_hello) }
+    ensures over { answer_of settings with_hello 0 (Ok destroy)
+        ≡ (Done, record with_hello { phase = Over }) }
 {}
 
 /// A node that was given three times is counted down by two.

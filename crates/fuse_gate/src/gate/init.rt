@@ -1,5 +1,5 @@
-// INIT.
-ghost use Rattle.fuse_wire.specs.Request.{init};
+// INIT and DESTROY.
+ghost use Rattle.fuse_wire.specs.Request.{init, destroy};
 ghost use Rattle.fid_model.specs.Fids.{IsGoodServer};
 ghost use Rattle.fid_model.specs.Moments.{Moment};
 ghost use Rattle.fuse_gate.specs.Standing.{IsInStep};
@@ -26,5 +26,14 @@ impl Gate {
             minor: minor.min(FUSE_KERNEL_MINOR_VERSION),
             max_readahead,
         }
+    }
+
+    // Ends the session. Node ids and handles stay.
+    pub(super) fn destroy(&mut self) -> Reply
+        ensures { (n : Moment) → IsInStep self.old n.state → IsGoodServer n.state →
+            ServesRequest 0 destroy (self.old, n) (self.new, n) (reply_of result) }
+    {
+        self.phase = Phase::Over;
+        Reply::Done
     }
 }

@@ -7,8 +7,9 @@ ghost use Rattle.fuse_gate.specs.Replies.{reply_of, IsShort, file_attributes, Ha
 use fuse_wire::attr::FileAttr;
 use fuse_wire::ids::{Errno, FileHandle, INodeNo, RequestId};
 use fuse_wire::reply::{
-    ATTR_OUT_SIZE, ENTRY_OUT_SIZE, INIT_OUT_SIZE, OPEN_OUT_SIZE, OUT_HEADER_SIZE, reply_attr,
-    reply_bytes, reply_empty, reply_entry, reply_error, reply_init, reply_opened,
+    ATTR_OUT_SIZE, ENTRY_OUT_SIZE, INIT_OUT_SIZE, OPEN_OUT_SIZE, OUT_HEADER_SIZE, STATFS_OUT_SIZE,
+    reply_attr, reply_bytes, reply_empty, reply_entry, reply_error, reply_init, reply_opened,
+    reply_statfs,
 };
 use p9_rmsg::Rgetattr;
 use tree_model::attributes::BLOCK_SIZE;
@@ -26,8 +27,10 @@ pub enum Reply {
     Attributes(FileAttr),
     /// A handle.
     Opened { handle: u64 },
-    /// Bytes of a file, at most `MAX_READ`.
+    /// Bytes of a file, at most `MAX_READ`, or the target of a link.
     Bytes(Vec<u8>),
+    /// How many blocks and files a tree may have.
+    Sizes { blocks: u64, files: u64 },
     /// The request is granted, without more.
     Done,
 }
@@ -45,6 +48,7 @@ impl Reply {
             Reply::Attributes(_) => ATTR_OUT_SIZE,
             Reply::Opened { .. } => OPEN_OUT_SIZE,
             Reply::Bytes(bytes) => bytes.len(),
+            Reply::Sizes { .. } => STATFS_OUT_SIZE,
         };
         OUT_HEADER_SIZE + body
     }
@@ -67,6 +71,7 @@ pub fn write_reply(out: &mut Vec<u8>, unique: RequestId, reply: &Reply)
         Reply::Attributes(attr) => reply_attr(out, unique, attr),
         Reply::Opened { handle } => reply_opened(out, unique, FileHandle(*handle)),
         Reply::Bytes(bytes) => reply_bytes(out, unique, bytes),
+        Reply::Sizes { blocks, files } => { reply_statfs(out, unique, BLOCK_SIZE, *blocks, *files) }
         Reply::Done => reply_empty(out, unique),
     }
 }

@@ -58,6 +58,18 @@ impl Gate {
             Body::OpenDir { .. } => self.opendir(nine, node),
             Body::ReleaseDir { fh } => self.release(nine, fh),
             Body::Unlink { name } => self.unlink(nine, node, name),
+            Body::RmDir { name } => self.rmdir(nine, node, name),
+            Body::Rename { newdir, old, new } => self.rename(nine, node, newdir, old, new),
+            Body::Rename2 {
+                newdir,
+                flags,
+                old,
+                new,
+            } => self.rename2(nine, node, newdir, flags, old, new),
+            Body::Symlink { name, target } => self.symlink(nine, node, name, target),
+            Body::MkNod { mode, rdev, name } => self.mknod(nine, node, mode, rdev, name),
+            Body::ReadLink => self.readlink(nine, node),
+            Body::StatFs => self.statfs(nine, node),
             Body::ReadDir {
                 fh,
                 offset,
@@ -66,6 +78,10 @@ impl Gate {
             } => self.readdir(nine, fh, offset, size),
             Body::Flush { fh } => Ok(self.flush(fh)),
             Body::Release { fh } => self.release(nine, fh),
+            Body::FSync { fh, .. } => self.fsync(nine, fh),
+            Body::FSyncDir { fh, .. } => self.fsync(nine, fh),
+            Body::Interrupt => Ok(Reply::Done),
+            Body::Destroy => Ok(self.destroy()),
             Body::Forget { nlookup } => {
                 self.forget(nine, node, nlookup)?;
                 Ok(Reply::Done)

@@ -12,10 +12,11 @@ pub serve_frame-requires-clause-long : goal.serve_frame-requires-clause-long
 serve_frame-requires-clause-long g c = frame_long c.args.frame.now c.requires.frame
 
 pub size-requires : goal.size-requires
-size-requires g c = served_short c.args.frame.now _ _ _ c.in_ok-answer.ensures.served
+size-requires g c = served_short c.args.frame.now _ _ _ c.requires.stands
+    c.in_ok-answer.ensures.served
 
 pub write_reply-requires-clause-short : goal.write_reply-requires-clause-short
-write_reply-requires-clause-short g c = served_short c.args.frame.now _ _ _
+write_reply-requires-clause-short g c = served_short c.args.frame.now _ _ _ c.requires.stands
     c.in_ok-answer.ensures.served
 
 pub returns-then-is_silent-clause-ok : goal.returns-then-is_silent-clause-ok

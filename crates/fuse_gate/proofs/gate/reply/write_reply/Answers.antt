@@ -1,7 +1,8 @@
 -- There is room for each reply.
 use Rattle.std.proofs.Common.{ap, length, arith}
 use Rattle.fuse_gate.specs.declared.gate.reply.Reply.TheVariants.{Refused, Granted, Entry}
-use Rattle.fuse_gate.specs.declared.gate.reply.Reply.TheVariants.{Attributes, Opened, Bytes, Done}
+use Rattle.fuse_gate.specs.declared.gate.reply.Reply.TheVariants.{Attributes, Opened, Bytes, Sizes}
+use Rattle.fuse_gate.specs.declared.gate.reply.Reply.TheVariants.{Done}
 use Rattle.fuse_gate.proofs.Replying.{room}
 use Rattle.fuse_gate.proofs.gate.reply.write_reply.Goals as goal
 
@@ -32,6 +33,10 @@ reply_bytes-requires-clause-room c = omega (
   room
       c.args.unique.0 _ _ c.args.reply.now c.requires.room (Bytes c.in-Bytes.bytes) c.in-Bytes.is,
 )
+
+pub reply_statfs-requires : goal.reply_statfs-requires
+reply_statfs-requires c = room c.args.unique.0 _ _ c.args.reply.now c.requires.room
+    (Sizes c.in-Sizes.blocks c.in-Sizes.files) c.in-Sizes.is
 
 pub reply_empty-requires : goal.reply_empty-requires
 reply_empty-requires c = room c.args.unique.0 _ _ c.args.reply.now c.requires.room Done c.in-Done.is

@@ -6,7 +6,7 @@ use Rattle.fuse_gate.specs.declared.gate.reply.Reply.TheVariants.{Refused, Done}
 use Rattle.fuse_gate.proofs.Replying.{body_size, sized}
 use Rattle.fuse_gate.proofs.gate.reply.Reply.size.Goals as goal
 use Rattle.fuse_gate.proofs.gate.reply.Reply.size.Goals.{in-Granted, in-Entry, in-Attributes}
-use Rattle.fuse_gate.proofs.gate.reply.Reply.size.Goals.{in-Opened, in-Bytes, in-Refused}
+use Rattle.fuse_gate.proofs.gate.reply.Reply.size.Goals.{in-Opened, in-Bytes, in-Sizes, in-Refused}
 use Rattle.fuse_gate.proofs.gate.reply.Reply.size.Goals.{in-Refused-2}
 
 nothing : (r : Reply) → ((errno : ℕ) × (r ≡ Refused errno)) ⊎ (r ≡ Done)
@@ -25,6 +25,7 @@ returns c =
       | in-Opened w ↦ w.body-is ∙ sym (ap (λ (r : Reply). body_size (reply_of r)) w.in-Opened.is)
       | in-Bytes w ↦ w.body-is ∙ w.len-body.ensures ∙ w.in-Bytes.bytes.ok.0
           ∙ sym (ap (λ (r : Reply). body_size (reply_of r)) w.in-Bytes.is)
+      | in-Sizes w ↦ w.body-is ∙ sym (ap (λ (r : Reply). body_size (reply_of r)) w.in-Sizes.is)
       | in-Refused w ↦ w.body-is ∙ nothing c.args.self.now w.in-Refused.is
       | in-Refused-2 w ↦ w.body-is ∙ nothing c.args.self.now w.in-Refused.is
     ] in
