@@ -69,7 +69,7 @@ owner_of text = number_in 0 (2 ^ 32 - 1) text
 unfoldable pub owners_of : List ℕ → Option (ℕ × ℕ)
 owners_of value =
     option_and_then (λ p. option_and_then (λ id. option_map (λ shown. (id, shown)) (owner_of p.1))
-        (owner_of p.0)) (split_once 58 value)
+    (owner_of p.0)) (split_once 58 value)
 
 -- one more owner, for which another is shown
 abbrev pub with_owner : IdMap → Option (ℕ × ℕ) → Option IdMap

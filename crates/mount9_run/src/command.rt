@@ -333,7 +333,10 @@ mod tests {
         assert_eq!(rt; share.target.as_slice(), b"/mnt".as_slice());
         assert_eq!(rt; share.root.as_slice(), b"/".as_slice());
         assert_eq!(rt; (share.msize, share.turns, share.ids), (65560, 4096, 1024));
-        assert_eq!(rt; (share.uid_map.len(), share.gid_map.len(), share.casefold), (0, 0, false));
+        assert_eq!(rt;
+            (share.uid_map.len(), share.gid_map.len(), share.casefold),
+            (0, 0, false)
+        );
         let cases = [
             ("serve root=/ target=/a/b", true),
             ("serve target=/ root=/", true),
