@@ -6,3 +6,4 @@ pub mod Making
 pub mod Leaving
 pub mod Moving
 pub mod Sampling
+pub mod Rising

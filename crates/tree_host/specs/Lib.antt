@@ -1,5 +1,6 @@
 pub mod Holds
 pub mod Host
+pub mod NamePlaces
 pub mod Stored
 pub mod Walking
 pub mod Kept

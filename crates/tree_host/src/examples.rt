@@ -10,7 +10,7 @@ ghost use Rattle.tree_model.specs.Tree.Body.{File, Link};
 ghost use Rattle.tree_model.specs.Placing.{with_record, with_link, directory_record};
 ghost use Rattle.tree_model.specs.Attributing.{with_changed};
 ghost use Rattle.tree_host.specs.Holds.{hold_count, is_held, held_more, held_less};
-ghost use Rattle.tree_host.specs.Stored.{place_among};
+ghost use Rattle.tree_host.specs.NamePlaces.{place_among};
 ghost use Rattle.tree_host.specs.Walking.{walk_of};
 ghost use Rattle.tree_host.specs.Changing.{change_of, change_refused, changed_by, is_small};
 ghost use Rattle.tree_host.specs.TreeHosts.{add_of};

@@ -6,6 +6,7 @@ mod entry;
 mod examples;
 mod holds;
 pub mod host;
+mod listing;
 pub mod memory;
 mod node;
 mod nodes;

@@ -16,65 +16,12 @@ mod records;
 mod removals;
 mod stamps;
 
+use crate::listing::{DirEntry, Listing};
 pub use changes::fitting;
 use port_base::errno::{EEXIST, ENOENT, ENOSPC, ENOTDIR};
 use std::alloc::{AllocError, Global};
 use std::marker::Model;
 use tree_model::{Attr, HostError, Kind, Stamp};
-
-/// A name in a directory, with its cookie and the inode that it names.
-#[derive(Drop)]
-pub struct DirEntry {
-    cookie: u64,
-    name: Vec<u8>,
-    ino: u64,
-}
-
-impl Model for DirEntry {
-    ghost use Rattle.tree_model.specs.Tree.{DirEntry};
-
-    ghost Value = { DirEntry };
-
-    ghost view = { λ a. record { cookie = a.cookie; name = a.name.items; ino = a.ino } };
-}
-
-impl DirEntry {
-    pub fn cookie(&self) -> u64
-        ensures { result ≡ self.now.cookie }
-    {
-        self.cookie
-    }
-
-    pub fn ino(&self) -> u64
-        ensures { result ≡ self.now.ino }
-    {
-        self.ino
-    }
-
-    pub fn name(&self) -> &[u8]
-        ensures { result.now ≡ self.now.name }
-    {
-        &self.name
-    }
-
-    fn is_named(&self, name: &[u8]) -> bool
-        ensures { result ≡ bytes_eq self.now.name name.now }
-    {
-        self.name.as_slice() == name
-    }
-}
-
-fn find_name<'a>(entries: &'a [DirEntry], name: &[u8]) -> Option<&'a DirEntry>
-    ensures { option_copied result ≡ entry_named name.now entries.now }
-{
-    entries.iter().find(|e| e.is_named(name))
-}
-
-fn find_above(entries: &[DirEntry], cookie: u64) -> Option<&DirEntry>
-    ensures { option_copied result ≡ entry_above cookie entries.now }
-{
-    entries.iter().find(|e| cookie < e.cookie())
-}
 
 // Copies what is there from an offset on and fits, and returns how many bytes.
 fn copy_part(bytes: &[u8], offset: u64, buf: &mut [u8]) -> usize
@@ -88,32 +35,12 @@ fn copy_part(bytes: &[u8], offset: u64, buf: &mut [u8]) -> usize
     count
 }
 
-fn push_name(
-    alloc: Global,
-    entries: &mut Vec<DirEntry>,
-    cookie: u64,
-    name: &[u8],
-    ino: u64,
-) -> Result<(), AllocError>
-    ensures ok { OnOk result (entries.new.items ≡ entries.old.items ++ record
-        { cookie = cookie; name = name.now; ino = ino } ∷ []) }
-    ensures err { OnErr result (entries.new.items ≡ entries.old.items) }
-{
-    let name = Vec::from_slice(alloc, name)?;
-    entries.push(DirEntry { cookie, name, ino })?;
-    Ok(())
-}
-
-/// What a record holds: a file its bytes; a directory its names, the next cookie and the number of
-/// the directory above; a link its target.
+/// What a record holds: a file its bytes; a directory its names and the number of the directory
+/// above; a link its target.
 #[derive(Drop)]
 pub enum Stored {
     Bytes(Vec<u8>),
-    Names {
-        entries: Vec<DirEntry>,
-        next: u64,
-        above: u64,
-    },
+    Names { listing: Listing, above: u64 },
     Target(Vec<u8>),
 }
 
@@ -169,11 +96,11 @@ impl Node {
     pub fn ino_of(&self, name: &[u8]) -> Result<u64, HostError>
         ensures { result ≡ as_errno (ino_among false name.now (entries_of self.now.body)) }
     {
-        let Stored::Names { entries, .. } = &self.body else {
+        let Stored::Names { listing, .. } = &self.body else {
             return Err(HostError::Errno(ENOTDIR));
         };
-        match find_name(entries, name) {
-            Some(entry) => Ok(entry.ino),
+        match listing.find(name) {
+            Some(entry) => Ok(entry.ino()),
             None => Err(HostError::Errno(ENOENT)),
         }
     }
@@ -218,7 +145,7 @@ impl Node {
     {
         match &self.body {
             Stored::Bytes(_) => 0,
-            Stored::Names { next, .. } => *next,
+            Stored::Names { listing, .. } => listing.next_cookie(),
             Stored::Target(_) => 0,
         }
     }
@@ -230,7 +157,7 @@ impl Node {
     {
         match &self.body {
             Stored::Bytes(_) => None,
-            Stored::Names { entries, .. } => find_above(entries, cookie),
+            Stored::Names { listing, .. } => listing.above(cookie),
             Stored::Target(_) => None,
         }
     }
@@ -254,16 +181,17 @@ impl Node {
         ensures { result ≡ new_name_refused (not (self.now.links == 0)) limit number name.now
             (Some self.now.body) }
     {
-        let Stored::Names { entries, next, .. } = &self.body else {
+        let Stored::Names { listing, .. } = &self.body else {
             return Some(ENOTDIR);
         };
         if self.links == 0 {
             return Some(ENOENT);
         }
-        if find_name(entries, name).is_some() {
+        if listing.find(name).is_some() {
             return Some(EEXIST);
         }
-        if entries.len() as u64 >= limit || number >= u64::MAX || *next >= u64::MAX {
+        let cookie = listing.next_cookie();
+        if listing.len() as u64 >= limit || number >= u64::MAX || cookie >= u64::MAX {
             return Some(ENOSPC);
         }
         None
@@ -275,9 +203,8 @@ impl Node {
         ensures ok { OnOk result (self.new ≡ joined_by name.now ino self.old) }
         ensures err { OnErr result (self.new ≡ self.old) }
     {
-        if let Stored::Names { entries, next, .. } = &mut self.body {
-            push_name(alloc, entries, *next, name, ino)?;
-            *next += 1;
+        if let Stored::Names { listing, .. } = &mut self.body {
+            listing.push(alloc, name, ino)?;
         }
         Ok(())
     }

@@ -58,7 +58,7 @@ same_some x y is = cc
 
 -- ---- a directory with an entry more
 
-CookiesRise-push : (from : ℕ) (es : List DirEntry) (end : ℕ) (e : DirEntry) → e.cookie ≡ end
+pub CookiesRise-push : (from : ℕ) (es : List DirEntry) (end : ℕ) (e : DirEntry) → e.cookie ≡ end
     → CookiesRise from es end → CookiesRise from (es ++ e ∷ []) (end + 1)
 CookiesRise-push from [] end e is low = (omega arith, omega arith)
 CookiesRise-push from (f ∷ es) end e is rise =

@@ -78,7 +78,7 @@ CookiesRise-from : (low from : ℕ) (es : List DirEntry) (end : ℕ) → low ≤
 CookiesRise-from low from [] end le rise = omega arith
 CookiesRise-from low from (e ∷ es) end le rise = ((let first = rise.0 in omega arith), rise.1)
 
-CookiesRise-without : (name : List ℕ) (from : ℕ) (es : List DirEntry) (end : ℕ)
+pub CookiesRise-without : (name : List ℕ) (from : ℕ) (es : List DirEntry) (end : ℕ)
     → CookiesRise from es end → CookiesRise from (without name es) end
 CookiesRise-without name from [] end rise = rise
 CookiesRise-without name from (e ∷ es) end rise =

@@ -4,7 +4,8 @@ ghost use Rattle.tree_model.specs.Making.{file_record, top_record};
 ghost use Rattle.tree_model.specs.Placing.{directory_record, link_record, link_refused};
 ghost use Rattle.tree_model.specs.Placing.{one_link_more};
 
-use super::{Node, Stored, find_name};
+use super::{Node, Stored};
+use crate::listing::Listing;
 use port_base::errno::{EEXIST, EMLINK, ENOENT, ENOSPC, ENOTDIR, EPERM};
 use std::alloc::{AllocError, Global};
 use tree_model::attributes::TOP;
@@ -24,8 +25,7 @@ impl Node {
     {
         Node {
             body: Stored::Names {
-                entries: Vec::new(alloc),
-                next: 1,
+                listing: Listing::new(alloc),
                 above,
             },
             mode,
@@ -91,7 +91,7 @@ impl Node {
         ensures { result ≡ link_refused (not (self.now.links == 0)) limits name.now
             (Some self.now.body) (Some node.now) }
     {
-        let Stored::Names { entries, next, .. } = &self.body else {
+        let Stored::Names { listing, .. } = &self.body else {
             return Some(ENOTDIR);
         };
         if node.is_directory() {
@@ -100,13 +100,13 @@ impl Node {
         if self.links == 0 || node.links == 0 {
             return Some(ENOENT);
         }
-        if find_name(entries, name).is_some() {
+        if listing.find(name).is_some() {
             return Some(EEXIST);
         }
         if node.links >= limits.links {
             return Some(EMLINK);
         }
-        if entries.len() as u64 >= limits.entries || *next >= u64::MAX {
+        if listing.len() as u64 >= limits.entries || listing.next_cookie() >= u64::MAX {
             return Some(ENOSPC);
         }
         None

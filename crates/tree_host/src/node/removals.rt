@@ -1,37 +1,18 @@
 //! Names that go.
-ghost use Rattle.std.specs.Prelude.{◌≡◌, ◌<◌, Some, IfSome, length};
-ghost use Rattle.tree_model.specs.Unlinking.{without, parted_by, links_left, one_name_less};
+ghost use Rattle.std.specs.Prelude.{◌≡◌, Some};
+ghost use Rattle.tree_model.specs.Unlinking.{parted_by, links_left, one_name_less};
 ghost use Rattle.tree_model.specs.Unlinking.{is_empty_at};
-ghost use Rattle.tree_host.specs.Stored.{place_among};
 
-use super::{DirEntry, Node, Stored};
+use super::{Node, Stored};
 use tree_model::Stamp;
-
-fn place_of(entries: &[DirEntry], name: &[u8]) -> Option<usize>
-    ensures found { result ≡ place_among name.now entries.now }
-    ensures bound { IfSome result (λ k. k < length entries.now) }
-{
-    entries.iter().position(|e| e.is_named(name))
-}
-
-fn remove_name(entries: &mut Vec<DirEntry>, name: &[u8])
-    ensures { entries.new.items ≡ without name.now entries.old.items }
-{
-    match place_of(entries, name) {
-        Some(place) => {
-            entries.remove(place);
-        }
-        None => (),
-    }
-}
 
 impl Node {
     /// The entry of a name goes, and the others keep their cookies.
     pub fn part(&mut self, name: &[u8], moment: Stamp)
         ensures { self.new ≡ parted_by name.now moment self.old }
     {
-        if let Stored::Names { entries, .. } = &mut self.body {
-            remove_name(entries, name);
+        if let Stored::Names { listing, .. } = &mut self.body {
+            listing.remove(name);
         }
         self.mtime = moment;
         self.ctime = moment;
@@ -43,7 +24,7 @@ impl Node {
     {
         match &self.body {
             Stored::Bytes(_) => true,
-            Stored::Names { entries, .. } => entries.is_empty(),
+            Stored::Names { listing, .. } => listing.len() == 0,
             Stored::Target(_) => true,
         }
     }

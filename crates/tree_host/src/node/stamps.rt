@@ -67,7 +67,7 @@ impl Node {
         ensures { result ≡ nat_le limit (length (listed self.now.body)) }
     {
         match &self.body {
-            Stored::Names { entries, .. } => entries.len() as u64 >= limit,
+            Stored::Names { listing, .. } => listing.len() as u64 >= limit,
             Stored::Bytes(_) => limit == 0,
             Stored::Target(_) => limit == 0,
         }
@@ -78,7 +78,7 @@ impl Node {
         ensures { result ≡ nat_le (2 ^ 64 - 1) (next_cookie self.now.body) }
     {
         match &self.body {
-            Stored::Names { next, .. } => *next >= u64::MAX,
+            Stored::Names { listing, .. } => listing.next_cookie() >= u64::MAX,
             Stored::Bytes(_) => false,
             Stored::Target(_) => false,
         }
