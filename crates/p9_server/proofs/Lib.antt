@@ -30,3 +30,7 @@ pub mod Sampling
 pub mod PageSteps
 pub mod ListingSteps
 pub mod ConfigParts
+pub mod JsonRoots
+pub mod JsonIds
+pub mod JsonBack
+pub mod JsonSampling

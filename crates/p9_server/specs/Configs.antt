@@ -26,6 +26,17 @@ settings_of c =
       limit = c.fid_limit;
     }
 
+-- a directory with owners as they are told, exact names and as many fids as there are numbers
+abbrev pub standard_settings : List ℕ → List (ℕ × ℕ) → List (ℕ × ℕ) → Settings
+standard_settings root uids gids =
+    record {
+      root = path_names root;
+      uid_map = map.from_entries uids;
+      gid_map = map.from_entries gids;
+      casefold = false;
+      limit = 4294967295;
+    }
+
 -- a configuration, without where it lies in memory
 pub record Configuration : Type 0 where
   pub root : List ℕ

@@ -7,6 +7,8 @@ pub mod GoodServer
 pub mod Handling
 pub mod Configs
 pub mod ConfigTexts
+pub mod ConfigJsons
+pub mod ConfigSamples
 pub mod Opening
 pub mod Creating
 pub mod Setting

@@ -1,7 +1,7 @@
 //! What a server refuses, computed: roots and message sizes, new fids, walks and fids that aren't
 //! open. On the small server fid 7 names the top directory; with the open file, fid 8 names
 //! `hello`, and there is room for no third.
-ghost use Rattle.std.specs.Prelude.{◌≡◌, [], true, false, Ok, Err, Some, None, codes};
+ghost use Rattle.std.specs.Prelude.{◌≡◌, [], true, false, Ok, Err, Some, None, codes, negsuc};
 ghost use Rattle.port_base.specs.declared.errno.TheConstants.{EBADF, EINVAL, EIO, ENFILE, ENOENT};
 ghost use Rattle.tree_model.specs.declared.attributes.HostError.TheVariants as host;
 ghost use Rattle.p9_wire.specs.declared.error.WireError.TheVariants as wire;
@@ -9,8 +9,14 @@ ghost use Rattle.p9_rmsg.specs.Replies.Reply.{lerror};
 ghost use Rattle.fid_model.specs.Fids.{closed};
 ghost use Rattle.fid_model.specs.Fids.OpenState.{Opened};
 ghost use Rattle.fid_model.specs.Samples.{server, with_open};
+ghost use Rattle.serde_json.specs.Data.{null, number, unsigned, negative, string, object, member};
+ghost use Rattle.serde_json.specs.Data.{no_members};
 ghost use Rattle.p9_server.specs.Answering.{reply_told};
-ghost use Rattle.p9_server.specs.Configs.{config_refused};
+ghost use Rattle.p9_server.specs.Configs.{config_refused, standard};
+ghost use Rattle.p9_server.specs.ConfigJsons.{config_of, id_of};
+ghost use Rattle.p9_server.specs.ConfigSamples.{sample};
+ghost use Rattle.p9_server.specs.declared.config_json.ConfigJsonError.TheVariants.{NotObject, Key};
+ghost use Rattle.p9_server.specs.declared.config_json.ConfigJsonError.TheVariants.{UnknownKey};
 ghost use Rattle.p9_server.specs.ConfigTexts.{casefold_of};
 ghost use Rattle.p9_server.specs.declared.config_text.ConfigTextError.TheVariants.{NotKindValue};
 ghost use Rattle.p9_server.specs.declared.config_text.ConfigTextError.TheVariants.{UnknownKind};
@@ -40,6 +46,30 @@ pub fn reading_texts()
     ensures no_kind { casefold_of (codes "x=1") ≡ Err UnknownKind }
     ensures no_part { casefold_of (codes ":") ≡ Err NotKindValue }
     ensures first { casefold_of (codes "x=1:x:ascii_casefold=yes") ≡ Err UnknownKind }
+{}
+
+/// What a JSON value tells of a configuration: refused are what is no object, then the first key of
+/// the six that is missing or of another kind, then a further key.
+#[tactic(auto, unfolding(crate::specs::ConfigJsons::config_of))]
+pub fn reading_json()
+    ensures told { config_of (sample (number (unsigned 65560)) no_members) ≡ Ok standard }
+    ensures below_zero { config_of (sample (number (negative (negsuc 0))) no_members)
+        ≡ Err (Key 2) }
+    ensures large { config_of (sample (number (unsigned 4294967296)) no_members) ≡ Err (Key 2) }
+    ensures text { config_of (sample (string (codes "256")) no_members) ≡ Err (Key 2) }
+    ensures further { config_of (sample (number (unsigned 256))
+        (member (codes "x") null no_members)) ≡ Err UnknownKey }
+    ensures first { config_of (object (member (codes "x") null no_members)) ≡ Err (Key 1) }
+    ensures no_object { config_of null ≡ Err NotObject }
+{}
+
+/// Which keys write an owner: plain decimals below 2^32.
+#[tactic(auto, using(crate::proofs::JsonSampling::plain, crate::proofs::JsonSampling::padded, crate::proofs::JsonSampling::signed, crate::proofs::JsonSampling::large))]
+pub fn reading_owners()
+    ensures plain { id_of (codes "1000") ≡ Some 1000 }
+    ensures padded { id_of (codes "07") ≡ None }
+    ensures signed { id_of (codes "+7") ≡ None }
+    ensures large { id_of (codes "4294967296") ≡ None }
 {}
 
 /// A new fid isn't one that is there, and there must be room for it.

@@ -2,6 +2,7 @@
 #![tactic(auto)]
 
 mod config;
+mod config_json;
 mod config_text;
 mod directory_reader;
 mod examples;
@@ -16,6 +17,7 @@ mod server;
 mod share;
 
 pub use config::{Config, ConfigError, Refused};
+pub use config_json::ConfigJsonError;
 pub use config_text::{ConfigTextError, boolean_of};
 pub use directory_reader::{DirEntry, FileType, ReadDir, read_dir};
 pub use fid_model::Nine;
