@@ -7,12 +7,15 @@ mod configs;
 mod directories;
 mod files;
 mod folding;
+mod frames;
+mod json;
 mod listings;
 
 use crate::{Config, ConfigError, Nine, Refused, Server};
 use port_base::memory::{MemSink, SliceSource};
 use port_base::names::name_fault;
 use std::alloc::Global;
+use std::collections::BTreeMap;
 use std::test::Fail;
 use tree_host::{NewItem, TreeHost};
 use tree_model::{Limits, Stamp};
@@ -451,6 +454,21 @@ fn attributes_are_told(rt: HostRuntime) -> Result<(), Fail> {
         b"\xa0\0\0\0\x19\x03\0\xff\x07\0\0\0\0\0\0\x80\0\x10\x5e\x5f\x01\0\0\0\0\0\0\0\xed\x41\0\0\0\0\0\0\0\0\0\0\x02\0\0\0\0\0\0\0";
     assert!(rt; reply.as_bytes().starts_with(head));
     assert_eq!(rt; reply.as_bytes().len(), 160);
+    Ok(())
+}
+
+#[test]
+fn a_directory_is_served_by_its_path(rt: HostRuntime) -> Result<(), Fail> {
+    let alloc = rt.alloc();
+    for (root, want) in [(b"/a".as_slice(), None), (b"a", Some(ConfigError::BadRoot))] {
+        let host = small_host(alloc)?;
+        let (uids, gids) = (BTreeMap::new(alloc), BTreeMap::new(alloc));
+        let cause = match Server::new(alloc, host, root, uids, gids) {
+            Ok(_server) => None,
+            Err(Refused { host: _host, cause }) => Some(cause),
+        };
+        assert_eq!(rt; cause, want);
+    }
     Ok(())
 }
 
