@@ -21,6 +21,7 @@ decimal; a name stands as it is, or as `\\xHH` for a byte.
     READLINK NODE                   STATFS NODE
     FSYNC HANDLE [FLAGS]            FSYNCDIR HANDLE [FLAGS]
     INTERRUPT UNIQUE                DESTROY
+    MKDIR NODE MODE NAME
     FRAME OPCODE NODE HEX           BYTES HEX  (bytes that need be no frame)
 
 FRAME is any request: the body in hex, or - for none. The unique numbers are 1, 2 and so on.
@@ -33,7 +34,7 @@ import sys
 
 OPCODES = {"LOOKUP": 1, "FORGET": 2, "GETATTR": 3, "OPEN": 14, "READ": 15, "RELEASE": 18,
            "FLUSH": 25, "INIT": 26, "BATCH_FORGET": 42, "UNLINK": 10, "OPENDIR": 27, "READDIR": 28,
-           "RELEASEDIR": 29, "READLINK": 5, "SYMLINK": 6, "MKNOD": 8, "RMDIR": 11, "RENAME": 12,
+           "RELEASEDIR": 29, "READLINK": 5, "SYMLINK": 6, "MKNOD": 8, "MKDIR": 9, "RMDIR": 11, "RENAME": 12,
            "STATFS": 17, "FSYNC": 20, "FSYNCDIR": 30, "INTERRUPT": 36, "DESTROY": 38, "RENAME2": 45}
 SILENT = {2, 36, 42}
 ERRORS = {1: "EPERM", 2: "ENOENT", 5: "EIO", 9: "EBADF", 13: "EACCES", 17: "EEXIST", 20: "ENOTDIR",
@@ -80,6 +81,8 @@ def body_of(request, words):
     if request == "MKNOD":
         mode, rdev = int(words[1]), int(words[2])
         return int(words[0]), struct.pack("<IIII", mode, rdev, 0, 0) + names_bytes(words[3:4])
+    if request == "MKDIR":
+        return int(words[0]), struct.pack("<II", int(words[1]), 0) + names_bytes(words[2:3])
     if request in ("READLINK", "STATFS"):
         return numbers[0], b""
     if request in ("FSYNC", "FSYNCDIR"):
@@ -161,7 +164,7 @@ def reply_in_words(opcode, error, body):
         return "error " + ERRORS.get(error, str(error))
     if opcode == 26:
         return "granted minor=%d max_readahead=%d" % struct.unpack("<II", body[4:12])
-    if opcode == 1:
+    if opcode in (1, 9):
         return "node=%d %s" % (struct.unpack("<Q", body[:8])[0], attributes(body[40:]))
     if opcode == 3:
         return attributes(body[16:])

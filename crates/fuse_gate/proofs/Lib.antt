@@ -26,6 +26,7 @@ pub mod Roots
 pub mod Played
 mod Telling
 mod Stored
+pub mod MakingDirectories
 pub mod Replying
 pub mod Reading
 pub mod Paging

@@ -44,7 +44,7 @@ module _ {g : Gate} (n : Moment) (st : IsInStep g n.state) (good : IsGoodServer 
   m = machine_of g n.state
 
   -- the refusals of a node that is there
-  refusal_by : (k : Node) → get g.nodes node ≡ Some k → (fault : Option ℕ) (full : Bool)
+  pub refusal_by : (k : Node) → get g.nodes node ≡ Some k → (fault : Option ℕ) (full : Bool)
       → fault ≡ name_fault name → full ≡ is_at_limit n.state.settings m
       → lookup_refusal n.state.settings m name (get m.nodes node) ≡ first_refusal
       (fault ∷ refused_if full ENFILE ∷ [])

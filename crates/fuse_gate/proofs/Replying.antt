@@ -6,6 +6,7 @@ use Rattle.std.specs.FinMap.{get}
 use Rattle.std.proofs.lemmas.List.{length-append, length-take}
 use Rattle.tree_model.specs.Tree.{Tree, Record, Body, body_at}
 use Rattle.tree_model.specs.Tree.Body.{File, Directory, Link}
+use Rattle.tree_model.specs.Creating.{mkdir_of}
 use Rattle.tree_model.specs.Finding.{find}
 use Rattle.tree_model.specs.Opening.{body_answer, open_check_of, read_body, readlink_body}
 use Rattle.tree_model.specs.Settings.{Settings}
@@ -16,7 +17,7 @@ use Rattle.fuse_wire.specs.Head.{head_of}
 use Rattle.fuse_wire.specs.Request.{Request, init, lookup, getattr, unlink, open_file, read, opendir}
 use Rattle.fuse_wire.specs.Request.{readdir, releasedir, flush, release, forget, batch_forget}
 use Rattle.fuse_wire.specs.Request.{rmdir, rename, rename2, symlink, mknod, readlink, statfs, fsync}
-use Rattle.fuse_wire.specs.Request.{fsyncdir, interrupt, destroy}
+use Rattle.fuse_wire.specs.Request.{fsyncdir, interrupt, destroy, mkdir}
 use Rattle.fuse_wire.specs.Reply.{u32s, u64s, reply_head, reply, init_body, entry_body, attr_body}
 use Rattle.fuse_wire.specs.Reply.{opened_body, statfs_body}
 use Rattle.fuse_wire.specs.declared.protocol.TheConstants.{MAX_READ}
@@ -30,7 +31,7 @@ use Rattle.tree_machine.specs.Refusals.{refused_or}
 use Rattle.tree_machine.specs.Core.{node_ino, handle_ino, node_of, node_for, entry_reply, shown_at}
 use Rattle.tree_machine.specs.Core.{looked_up, getattr_ino, attr_reply, opened, bytes_reply}
 use Rattle.tree_machine.specs.Core.{unlink_told, changed_by}
-use Rattle.tree_machine.specs.Naming.{rmdir_told, rename_told}
+use Rattle.tree_machine.specs.Naming.{rmdir_told, rename_told, made}
 use Rattle.tree_machine.specs.Requests.{refusal_before, effect_of, answer_of}
 use Rattle.tree_machine.specs.Step.{request_in_turn}
 use Rattle.tree_machine.proofs.Listing.{listing_short}
@@ -108,6 +109,11 @@ looked_up_short s m (Ok ino) = entry_short (node_for m ino (node_of m ino)).0
     (shown_at s m.tree ino)
 looked_up_short s m (Err e) = tt
 
+made_short : (s : Settings) (m : MachineState) (r : Result (Attr × Tree) ℕ) → IsShort (made s m r).0
+made_short s m (Ok (a, t)) =
+    let m1 : MachineState = record m { tree = t } in looked_up_short s m1 (Ok a.ino)
+made_short s m (Err e) = tt
+
 attr_short : (r : Result Attr ℕ) → IsShort (attr_reply r)
 attr_short (Ok a) = tt
 attr_short (Err e) = tt
@@ -163,6 +169,8 @@ module _ (s : Settings) (m : MachineState) (good : IsGoodTree m.tree) where
       (rename_told m (node_ino (get m.nodes node)) old (node_ino (get m.nodes newdir)) new)
   effect_short node (symlink name target) = tt
   effect_short node (mknod mode rdev name) = tt
+  effect_short node (mkdir mode name) = made_short s m
+      (mkdir_of m.tree (node_ino (get m.nodes node)) name mode)
   effect_short node readlink =
       let ino = node_ino (get m.nodes node) in
       target_short (get m.tree.records ino) (λ r at. (good.records ino r at).body)

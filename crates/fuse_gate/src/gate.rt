@@ -11,6 +11,7 @@ mod forget;
 mod getattr;
 mod init;
 mod lookup;
+mod mkdir;
 mod open;
 mod opendir;
 mod query;

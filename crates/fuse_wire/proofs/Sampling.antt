@@ -4,11 +4,12 @@ use Rattle.fuse_wire.specs.Fields.{u32_at, u64_at}
 use Rattle.fuse_wire.specs.Layouts.{name_at, only_name, name_behind, two_names, two_names_behind}
 use Rattle.fuse_wire.specs.Layouts.{flags_of, read_in_of, handle_of, sync_in_of}
 use Rattle.fuse_wire.specs.Request.{request_of, request_in, init_of, getattr_of, rename_of}
-use Rattle.fuse_wire.specs.Request.{rename2_of, mknod_of, forget_of, batch_forget_of}
+use Rattle.fuse_wire.specs.Request.{rename2_of, mknod_of, mkdir_of, forget_of, batch_forget_of}
 use Rattle.fuse_wire.specs.Request.Request.{init, lookup, getattr, open_file, read, flush, release}
 use Rattle.fuse_wire.specs.Request.Request.{forget, batch_forget, unlink, opendir, readdir}
 use Rattle.fuse_wire.specs.Request.Request.{releasedir, rmdir, rename, rename2, symlink, mknod}
 use Rattle.fuse_wire.specs.Request.Request.{readlink, statfs, fsync, fsyncdir, interrupt, destroy}
+use Rattle.fuse_wire.specs.Request.Request.{mkdir}
 use Rattle.fuse_wire.specs.Reply.{u32s, u64s, reply, reply_head, attr_bytes, entry_body, attr_body}
 use Rattle.fuse_wire.specs.Reply.{init_body, opened_body}
 use Rattle.fuse_wire.specs.Listing.{dirent_bytes}
@@ -147,6 +148,12 @@ pub asks_mknod :
 unfolding framed request_of request_in mknod_of name_behind only_name name_at u32_at u64_at u32s
     u64s
 asks_mknod = refl
+
+pub asks_mkdir : request_of (framed 9 (u32s (493 ∷ 18 ∷ []) ++ (codes "d" ++ 0 ∷ [])))
+    ≡ Ok (mkdir 493 (codes "d"))
+unfolding framed request_of request_in mkdir_of name_behind only_name name_at u32_at u64_at u32s
+  u64s
+asks_mkdir = refl
 
 pub asks_readlink : request_of (framed 5 []) ≡ Ok readlink
 unfolding framed request_of request_in u32_at u64_at u32s u64s

@@ -2,7 +2,7 @@
 use Rattle.std.specs.Prelude.{◌≡◌, ℕ, List, Result, Ok, Err}
 use Rattle.fuse_wire.specs.Head.{head_of}
 use Rattle.fuse_wire.specs.Request.{Request, init, lookup, getattr, unlink, rmdir, rename, rename2}
-use Rattle.fuse_wire.specs.Request.{symlink, mknod, readlink, statfs, open_file, read, opendir}
+use Rattle.fuse_wire.specs.Request.{symlink, mknod, mkdir, readlink, statfs, open_file, read, opendir}
 use Rattle.fuse_wire.specs.Request.{readdir, releasedir, flush, release, fsync, fsyncdir, forget}
 use Rattle.fuse_wire.specs.Request.{batch_forget, interrupt, destroy}
 use Rattle.fuse_wire.specs.Request.{request_of}
@@ -21,6 +21,7 @@ plain (body.Rename newdir old new) = rename newdir old.now new.now
 plain (body.Rename2 newdir flags old new) = rename2 newdir flags old.now new.now
 plain (body.Symlink name target) = symlink name.now target.now
 plain (body.MkNod mode rdev name) = mknod mode rdev name.now
+plain (body.MkDir mode name) = mkdir mode name.now
 plain body.ReadLink = readlink
 plain body.StatFs = statfs
 plain (body.OpenFile flags) = open_file flags

@@ -13,12 +13,13 @@ use Rattle.fuse_wire.specs.declared.opcode.TheConstants.{FUSE_RENAME2, FUSE_SYML
 use Rattle.fuse_wire.specs.declared.opcode.TheConstants.{FUSE_OPENDIR, FUSE_READDIR}
 use Rattle.fuse_wire.specs.declared.opcode.TheConstants.{FUSE_RELEASEDIR, FUSE_READLINK}
 use Rattle.fuse_wire.specs.declared.opcode.TheConstants.{FUSE_STATFS, FUSE_FSYNC, FUSE_FSYNCDIR}
-use Rattle.fuse_wire.specs.declared.opcode.TheConstants.{FUSE_INTERRUPT, FUSE_DESTROY}
+use Rattle.fuse_wire.specs.declared.opcode.TheConstants.{FUSE_INTERRUPT, FUSE_DESTROY, FUSE_MKDIR}
 use Rattle.fuse_wire.specs.declared.layouts.ReadIn.{ReadIn}
 use Rattle.fuse_wire.specs.declared.layouts.SyncIn.{SyncIn}
 use Rattle.fuse_wire.specs.declared.layouts.TheConstants.{INIT_IN_SIZE, GETATTR_IN_SIZE}
 use Rattle.fuse_wire.specs.declared.layouts.TheConstants.{FORGET_IN_SIZE, BATCH_FORGET_IN_SIZE}
-use Rattle.fuse_wire.specs.declared.layouts.TheConstants.{MKNOD_IN_SIZE, RENAME_IN_SIZE}
+use Rattle.fuse_wire.specs.declared.layouts.TheConstants.{MKNOD_IN_SIZE, MKDIR_IN_SIZE}
+use Rattle.fuse_wire.specs.declared.layouts.TheConstants.{RENAME_IN_SIZE}
 use Rattle.fuse_wire.specs.declared.layouts.TheConstants.{RENAME2_IN_SIZE, INTERRUPT_IN_SIZE}
 use Rattle.fuse_wire.specs.declared.request.TheConstants.{FORGET_ONE_SIZE}
 use Rattle.fuse_wire.specs.Fields.{u32_at, u64_at, given}
@@ -37,6 +38,7 @@ pub data Request : Type 0 where
   rename2 : (newdir flags : ℕ) (old new : List ℕ) → Request
   symlink : (name target : List ℕ) → Request
   mknod : (mode rdev : ℕ) (name : List ℕ) → Request
+  mkdir : (mode : ℕ) (name : List ℕ) → Request
   readlink : Request
   statfs : Request
   open_file : (flags : ℕ) → Request
@@ -102,6 +104,10 @@ unfoldable pub mknod_of : List ℕ → Option Request
 mknod_of body =
     option_map (mknod (u32_at body 0) (u32_at body 4)) (name_behind MKNOD_IN_SIZE body)
 
+-- a mode of 4 bytes, 4 bytes that are ignored, and a name
+unfoldable pub mkdir_of : List ℕ → Option Request
+mkdir_of body = option_map (mkdir (u32_at body 0)) (name_behind MKDIR_IN_SIZE body)
+
 -- a number of 8 bytes
 unfoldable pub forget_of : List ℕ → Option Request
 forget_of body = if length body == FORGET_IN_SIZE then Some (forget (u64_at body 0)) else None
@@ -136,6 +142,7 @@ request_in opcode body =
     if opcode == FUSE_RENAME2 then ok_or (rename2_of body) EINVAL else
     if opcode == FUSE_SYMLINK then ok_or (option_map asks_symlink (two_names body)) EINVAL else
     if opcode == FUSE_MKNOD then ok_or (mknod_of body) EINVAL else
+    if opcode == FUSE_MKDIR then ok_or (mkdir_of body) EINVAL else
     if opcode == FUSE_READLINK then ok_or (sized 0 readlink body) EINVAL else
     if opcode == FUSE_STATFS then ok_or (sized 0 statfs body) EINVAL else
     if opcode == FUSE_OPENDIR then ok_or (option_map opendir (flags_of body)) EINVAL else

@@ -5,6 +5,7 @@ ghost use Rattle.fuse_wire.specs.Body.{plain};
 ghost use Rattle.fuse_wire.specs.Layouts.{only_name, two_names, flags_of, read_in_of, handle_of};
 ghost use Rattle.fuse_wire.specs.Layouts.{sync_in_of};
 ghost use Rattle.fuse_wire.specs.Request.{init_of, getattr_of, rename_of, rename2_of, mknod_of};
+ghost use Rattle.fuse_wire.specs.Request.{mkdir_of};
 ghost use Rattle.fuse_wire.specs.Request.{forget_of, batch_forget_of, asks_read, asks_readdir};
 ghost use Rattle.fuse_wire.specs.Request.{asks_fsync, asks_fsyncdir, asks_symlink, sized};
 ghost use Rattle.fuse_wire.specs.Request.{lookup, unlink, rmdir, readlink, statfs, open_file};
@@ -13,7 +14,7 @@ ghost use Rattle.fuse_wire.specs.Request.{opendir, flush, release, releasedir, i
 use crate::fields::{given, u32_at, u64_at};
 use crate::layouts::{
     BATCH_FORGET_IN_SIZE, FORGET_IN_SIZE, GETATTR_IN_SIZE, INIT_IN_SIZE, INTERRUPT_IN_SIZE,
-    MKNOD_IN_SIZE, RENAME_IN_SIZE, RENAME2_IN_SIZE, flags_of, handle_of, name_behind, only_name,
+    MKDIR_IN_SIZE, MKNOD_IN_SIZE, RENAME_IN_SIZE, RENAME2_IN_SIZE, flags_of, handle_of, name_behind, only_name,
     read_in_of, sync_in_of, two_names, two_names_behind,
 };
 use crate::opcode::FUSE_GETATTR_FH;
@@ -198,6 +199,17 @@ pub(crate) fn mknod_of(body: &[u8]) -> Option<Body<'_>>
     Some(Body::MkNod {
         mode: u32_at(body, 0),
         rdev: u32_at(body, 4),
+        name,
+    })
+}
+
+#[tactic(auto, unfolding(crate::specs::Request::mkdir_of))]
+pub(crate) fn mkdir_of(body: &[u8]) -> Option<Body<'_>>
+    ensures { option_map plain result ≡ mkdir_of body.now }
+{
+    let name = name_behind(body, MKDIR_IN_SIZE)?;
+    Some(Body::MkDir {
+        mode: u32_at(body, 0),
         name,
     })
 }

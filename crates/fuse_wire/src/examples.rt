@@ -6,7 +6,7 @@ ghost use Rattle.fuse_wire.specs.Request.Request.{init, lookup, getattr, open_fi
 ghost use Rattle.fuse_wire.specs.Request.Request.{release, forget, batch_forget, unlink, opendir};
 ghost use Rattle.fuse_wire.specs.Request.Request.{readdir, releasedir, rmdir, rename, rename2};
 ghost use Rattle.fuse_wire.specs.Request.Request.{symlink, mknod, readlink, statfs, fsync};
-ghost use Rattle.fuse_wire.specs.Request.Request.{fsyncdir, interrupt, destroy};
+ghost use Rattle.fuse_wire.specs.Request.Request.{fsyncdir, interrupt, destroy, mkdir};
 ghost use Rattle.fuse_wire.specs.Listing.{dirent_bytes};
 ghost use Rattle.fuse_wire.specs.Reply.{u32s, u64s, reply, entry_body, attr_body, init_body};
 ghost use Rattle.fuse_wire.specs.Reply.{opened_body};
@@ -56,7 +56,7 @@ pub fn files_and_forgets()
 {}
 
 /// What frames ask of names that go, move or are made.
-#[tactic(auto, using(crate::proofs::Sampling::asks_rmdir, crate::proofs::Sampling::asks_rename, crate::proofs::Sampling::asks_rename2, crate::proofs::Sampling::asks_symlink, crate::proofs::Sampling::asks_mknod))]
+#[tactic(auto, using(crate::proofs::Sampling::asks_rmdir, crate::proofs::Sampling::asks_rename, crate::proofs::Sampling::asks_rename2, crate::proofs::Sampling::asks_symlink, crate::proofs::Sampling::asks_mknod, crate::proofs::Sampling::asks_mkdir))]
 pub fn names()
     ensures rmdir { request_of (framed 11 (codes "d" ++ 0 ∷ [])) ≡ Ok (rmdir (codes "d")) }
     ensures rename { request_of (framed 12
@@ -70,6 +70,8 @@ pub fn names()
     ensures mknod { request_of (framed 8
         (u32s (4516 ∷ 259 ∷ 18 ∷ 0 ∷ []) ++ (codes "p" ++ 0 ∷ [])))
         ≡ Ok (mknod 4516 259 (codes "p")) }
+    ensures mkdir { request_of (framed 9 (u32s (493 ∷ 18 ∷ []) ++ (codes "d" ++ 0 ∷ [])))
+        ≡ Ok (mkdir 493 (codes "d")) }
 {}
 
 /// What frames ask that change no tree.

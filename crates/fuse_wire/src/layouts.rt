@@ -31,6 +31,8 @@ pub const INTERRUPT_IN_SIZE: usize = 8;
 
 /// The size of MKNOD's body before its name (`fuse_mknod_in` of `fuse.h`), in bytes.
 pub const MKNOD_IN_SIZE: usize = 16;
+/// The size of MKDIR's body before its name (`fuse_mkdir_in` of `fuse.h`), in bytes.
+pub const MKDIR_IN_SIZE: usize = 8;
 /// The size of RENAME's body before its names (`fuse_rename_in` of `fuse.h`), in bytes.
 pub const RENAME_IN_SIZE: usize = 8;
 /// The size of RENAME2's body before its names (`fuse_rename2_in` of `fuse.h`), in bytes.

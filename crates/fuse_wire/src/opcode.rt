@@ -8,6 +8,8 @@ pub const FUSE_LOOKUP: u32 = 1;
 pub const FUSE_GETATTR: u32 = 3;
 /// Takes a name out of a directory.
 pub const FUSE_UNLINK: u32 = 10;
+/// Makes a directory.
+pub const FUSE_MKDIR: u32 = 9;
 /// Takes the name of an empty directory out of a directory.
 pub const FUSE_RMDIR: u32 = 11;
 /// Moves a name.

@@ -7,7 +7,7 @@ ghost use Rattle.fuse_wire.specs.Request.{request_in, request_of};
 
 use crate::bodies::{
     batch_forget_of, destroy_of, flush_of, forget_of, fsync_of, fsyncdir_of, getattr_of, init_of,
-    interrupt_of, lookup_of, mknod_of, open_of, opendir_of, read_of, readdir_of, readlink_of,
+    interrupt_of, lookup_of, mkdir_of, mknod_of, open_of, opendir_of, read_of, readdir_of, readlink_of,
     release_of, releasedir_of, rename_of, rename2_of, rmdir_of, statfs_of, symlink_of, unlink_of,
 };
 use crate::fields::u64_at;
@@ -15,7 +15,7 @@ use crate::head::{Head, IN_HEADER_SIZE};
 use crate::ids::Errno;
 use crate::opcode::{
     FUSE_BATCH_FORGET, FUSE_DESTROY, FUSE_FLUSH, FUSE_FORGET, FUSE_FSYNC, FUSE_FSYNCDIR,
-    FUSE_GETATTR, FUSE_INIT, FUSE_INTERRUPT, FUSE_LOOKUP, FUSE_MKNOD, FUSE_OPEN, FUSE_OPENDIR,
+    FUSE_GETATTR, FUSE_INIT, FUSE_INTERRUPT, FUSE_LOOKUP, FUSE_MKDIR, FUSE_MKNOD, FUSE_OPEN, FUSE_OPENDIR,
     FUSE_READ, FUSE_READDIR, FUSE_READLINK, FUSE_RELEASE, FUSE_RELEASEDIR, FUSE_RENAME,
     FUSE_RENAME2, FUSE_RMDIR, FUSE_STATFS, FUSE_SYMLINK, FUSE_UNLINK,
 };
@@ -72,6 +72,11 @@ pub enum Body<'a> {
     MkNod {
         mode: u32,
         rdev: u32,
+        name: &'a [u8],
+    },
+    /// Makes a directory in the node, a directory.
+    MkDir {
+        mode: u32,
         name: &'a [u8],
     },
     /// Asks for the target of the node, a symbolic link.
@@ -185,6 +190,7 @@ fn body_of(opcode: u32, body: &[u8]) -> Result<Body<'_>, Errno>
         FUSE_RENAME2 => rename2_of(body).ok_or(Errno(EINVAL)),
         FUSE_SYMLINK => symlink_of(body).ok_or(Errno(EINVAL)),
         FUSE_MKNOD => mknod_of(body).ok_or(Errno(EINVAL)),
+        FUSE_MKDIR => mkdir_of(body).ok_or(Errno(EINVAL)),
         FUSE_READLINK => readlink_of(body).ok_or(Errno(EINVAL)),
         FUSE_STATFS => statfs_of(body).ok_or(Errno(EINVAL)),
         FUSE_OPENDIR => opendir_of(body).ok_or(Errno(EINVAL)),

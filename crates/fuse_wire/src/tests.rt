@@ -230,7 +230,7 @@ const MKNOD: [u8; 19] = [
 
 #[test]
 fn what_names_links_and_ends_ask(rt: HostRuntime) -> Result<(), Fail> {
-    let cases: [(u8, &[u8], Body<'_>); 11] = [
+    let cases: [(u8, &[u8], Body<'_>); 12] = [
         (11, b"d\0", Body::RmDir { name: b"d" }),
         (
             12,
@@ -268,6 +268,14 @@ fn what_names_links_and_ends_ask(rt: HostRuntime) -> Result<(), Fail> {
                 name: b"p",
             },
         ),
+        (
+            9,
+            b"\xed\x01\0\0\x12\0\0\0d\0",
+            Body::MkDir {
+                mode: 493,
+                name: b"d",
+            },
+        ),
         (5, b"", Body::ReadLink),
         (17, b"", Body::StatFs),
         (
@@ -293,7 +301,7 @@ fn what_names_links_and_ends_ask(rt: HostRuntime) -> Result<(), Fail> {
 
 #[test]
 fn other_bodies_of_names_links_and_ends_are_refused(rt: HostRuntime) -> Result<(), Fail> {
-    let cases: [(u8, &[u8]); 25] = [
+    let cases: [(u8, &[u8]); 28] = [
         (11, b"d"),
         (11, b"d\0\0"),
         (12, b"\x07\0\0\0\0\0\0"),
@@ -312,6 +320,9 @@ fn other_bodies_of_names_links_and_ends_are_refused(rt: HostRuntime) -> Result<(
         (8, &MKNOD[..15]),
         (8, &MKNOD[..17]),
         (8, &MKNOD),
+        (9, b"\xed\x01\0\0\x12\0\0"),
+        (9, b"\xed\x01\0\0\x12\0\0\0d"),
+        (9, b"\xed\x01\0\0\x12\0\0\0d\0\0"),
         (5, b"\0"),
         (17, b"\0"),
         (20, &HANDLE[..15]),

@@ -11,7 +11,7 @@ use Rattle.fuse_wire.specs.Head.{head_of}
 use Rattle.fuse_wire.specs.Request.{Request, request_of, init, lookup, getattr, unlink, open_file}
 use Rattle.fuse_wire.specs.Request.{read, opendir, readdir, releasedir, flush, release, forget}
 use Rattle.fuse_wire.specs.Request.{batch_forget, rmdir, rename, rename2, symlink, mknod, readlink}
-use Rattle.fuse_wire.specs.Request.{statfs, fsync, fsyncdir, interrupt, destroy}
+use Rattle.fuse_wire.specs.Request.{statfs, fsync, fsyncdir, interrupt, destroy, mkdir}
 use Rattle.tree_machine.specs.State.{MachineState, Node, begun}
 use Rattle.tree_machine.specs.Refusals.{refused_if, first_refusal, refused_or}
 use Rattle.tree_machine.specs.Core.{node_ino, opened, open_refusal, link_check, core}
@@ -58,6 +58,7 @@ module _ (s : Settings) (m : MachineState) (node : ℕ) where
   core_alike (rename2 newdir flags old new) h = absurd (false≢true h)
   core_alike (symlink name target) h = absurd (false≢true h)
   core_alike (mknod mode rdev name) h = absurd (false≢true h)
+  core_alike (mkdir mode name) h = absurd (false≢true h)
   core_alike readlink h = absurd (false≢true h)
   core_alike statfs h = absurd (false≢true h)
   core_alike (fsync fh flags) h = absurd (false≢true h)

@@ -1,10 +1,11 @@
 -- What keeps its kind where the tree changes: all that was stored, and what a node or a handle names.
 use Rattle.std.proofs.Common.{◌≡◌, ℕ, Bool, true, false, cond, ◌||◌, List, refl, sym, ap, ◌∙◌, subst}
 use Rattle.std.proofs.Common.{Option, Some, None, Result, Ok, Err, IsSome, ◌⊎◌, inl, inr, ⊎_elim}
+use Rattle.std.proofs.Common.{◌<◌, arith}
 use Rattle.std.specs.Prelude.{option_map, not}
 use Rattle.std.specs.Result.{result_ok}
 use Rattle.std.proofs.lemmas.Bool.{cases_eq, false≢true}
-use Rattle.std.specs.FinMap.{get}
+use Rattle.std.specs.FinMap.{get, insert}
 use Rattle.port_base.specs.declared.errno.TheConstants.{ENOENT, ENOTDIR}
 use Rattle.tree_model.specs.declared.attributes.Kind.{Kind}
 use Rattle.tree_model.specs.declared.attributes.Kind.TheVariants as kind
@@ -14,7 +15,7 @@ use Rattle.tree_model.specs.Tree.Body.{File, Directory, Link}
 use Rattle.tree_model.specs.Good.{IsGoodTree}
 use Rattle.tree_model.specs.Attributes.{kind_of}
 use Rattle.tree_model.specs.Attributing.{with_changed}
-use Rattle.tree_model.specs.Creating.{stamped}
+use Rattle.tree_model.specs.Creating.{stamped, with_new}
 use Rattle.tree_model.specs.Finding.{lookup_of}
 use Rattle.tree_model.specs.Making.{change, joined_by, with_entries, next_cookie, unless_refused}
 use Rattle.tree_model.specs.Renaming.{placed_below, moved_below, with_moved, without_replaced}
@@ -22,7 +23,7 @@ use Rattle.tree_model.specs.Renaming.{move_refused, same_ino, move_to, renamed_a
 use Rattle.tree_model.specs.Settings.{Settings}
 use Rattle.tree_model.specs.Unlinking.{without, without_entry, parted_by, one_name_less, removed_at}
 use Rattle.tree_model.proofs.Changing.{change_at, change_keeps}
-use Rattle.tree_model.proofs.Maps.{retained}
+use Rattle.tree_model.proofs.Maps.{retained, inserted, insert_keeps}
 use Rattle.tree_machine.specs.State.{MachineState, Handle, is_named}
 use Rattle.tree_machine.specs.Good.{IsGoodMachine, IsOpenable}
 use Rattle.tree_machine.proofs.KeptStates.{kept_at, node_is_named, handle_is_named}
@@ -47,7 +48,7 @@ abbrev pub KeepsKinds : Tree → Tree → Type 0
 KeepsKinds t u = (i : ℕ) (q r : Record) → get t.records i ≡ Some q → get u.records i ≡ Some r
     → kind_of r.body ≡ kind_of q.body
 
-is_there : (o p : Option Record) → kind_in o ≡ kind_in p → IsSome p → IsSome o
+pub is_there : (o p : Option Record) → kind_in o ≡ kind_in p → IsSome p → IsSome o
 is_there None None is some = absurd (false≢true some)
 is_there None (Some p) is some = absurd cc
 is_there (Some r) p is some = refl
@@ -197,6 +198,36 @@ removed_leaves held t u dir name (Ok ino) is = (
   inr (sym (ap (tree_in u) is)),
 )
 
+-- ---- a record more
+
+joined_kind : (name : List ℕ) (ino : ℕ) (r : Record)
+    → kind_of (joined_by name ino r).body ≡ kind_of r.body
+joined_kind name ino r = entries_kind r.body _ _
+
+module _ (t : Tree) (g : IsGoodTree t) (dir : ℕ) (name : List ℕ) (r : Record) where
+  abbrev more : Records
+  more = insert t.records t.next r
+
+  new_kind : (i : ℕ) → kind_in (get (with_new t dir name r).records i) ≡ kind_in (get more i)
+  new_kind i =
+      change_kind (stamped t.moment) (λ r. refl) (change (joined_by name t.next) more dir) dir i
+      ∙ change_kind (joined_by name t.next) (joined_kind name t.next) more dir i
+
+  older : (i : ℕ) (o : Option Record) → get t.records i ≡ o → IsSome o → i < t.next
+  older i None at some = absurd (false≢true some)
+  older i (Some x) at some = (g.numbers i x at).1
+
+  -- what was stored keeps its kind
+  pub new_kinds : KindsStay t.records (with_new t dir name r).records
+  new_kinds i some =
+      let low = older i (get t.records i) refl some in
+      new_kind i ∙ ap kind_in (insert_keeps t.records t.next r i (λ is. absurd (omega arith)))
+
+  -- the record is there
+  pub new_there : IsSome (get (with_new t dir name r).records t.next)
+  new_there = is_there (get (with_new t dir name r).records t.next) (Some r)
+      (new_kind t.next ∙ ap kind_in (inserted t.records t.next r)) refl
+
 -- ---- a name that moves
 
 placed_kind : (dir : ℕ) (b : Body) → kind_of (placed_below dir b) ≡ kind_of b
@@ -221,7 +252,7 @@ module _ (t : Tree) (olddir : ℕ) (old : List ℕ) (newdir : ℕ) (new : List �
       change_kind (moved_below u.moment newdir) (λ r. placed_kind newdir r.body)
       (change (stamped u.moment) joined newdir) ino i
       ∙ change_kind (stamped u.moment) (λ r. refl) joined newdir i
-      ∙ change_kind joins (λ r. entries_kind r.body _ _) parted newdir i
+      ∙ change_kind joins (joined_kind new ino) parted newdir i
       ∙ change_kind parts (λ r. entries_kind r.body (without old (listed r.body))
       (next_cookie r.body)) u.records olddir i
 

@@ -7,6 +7,7 @@ pub mod Refusals
 pub mod KindsKept
 pub mod NamingSampling
 pub mod Directories
+pub mod MadeNames
 pub mod Listing
 pub mod Cores
 pub mod Forgetting

@@ -6,7 +6,7 @@ use Rattle.fuse_wire.specs.Head.{head_of}
 use Rattle.fuse_wire.specs.Request.{Request, init, lookup, getattr, unlink, open_file, read, opendir}
 use Rattle.fuse_wire.specs.Request.{readdir, releasedir, flush, release, forget, batch_forget}
 use Rattle.fuse_wire.specs.Request.{rmdir, rename, rename2, symlink, mknod, readlink, statfs, fsync}
-use Rattle.fuse_wire.specs.Request.{fsyncdir, interrupt, destroy}
+use Rattle.fuse_wire.specs.Request.{fsyncdir, interrupt, destroy, mkdir}
 use Rattle.tree_machine.specs.State.{MachineState, Phase}
 use Rattle.tree_machine.specs.State.Phase.{Started, Over}
 use Rattle.tree_machine.specs.Requests.{refusal_before, effect_of, answer_of}
@@ -21,6 +21,7 @@ use Rattle.tree_machine.proofs.Looking.{lookup_good}
 use Rattle.tree_machine.proofs.Opening.{open_good}
 use Rattle.tree_machine.proofs.Directories.{opendir_good, unlink_good, rmdir_good}
 use Rattle.tree_machine.proofs.Directories.{rename_good, rename2_good}
+use Rattle.tree_machine.proofs.MadeNames.{mkdir_good}
 use Rattle.tree_machine.proofs.Handles.{handle_gone}
 use Rattle.tree_machine.proofs.Forgetting.{forgotten_good, all_forgotten_good}
 
@@ -66,6 +67,7 @@ module _ (s : Settings) where
         rename2_good s m g flags old new (get m.nodes node) (get m.nodes newdir) none
     effect_good node (symlink name target) none = kept_good s m g
     effect_good node (mknod mode rdev name) none = kept_good s m g
+    effect_good node (mkdir mode name) none = mkdir_good s m g mode name (get m.nodes node) none
     effect_good node readlink none = kept_good s m g
     effect_good node statfs none = kept_good s m g
     effect_good node (fsync fh flags) none = kept_good s m g

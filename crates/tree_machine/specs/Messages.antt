@@ -6,16 +6,18 @@ use Rattle.std.specs.Prelude.{if◌then◌else◌, nat_lt}
 use Rattle.std.specs.FinMap as map
 use Rattle.std.specs.Int.{div_ceil}
 use Rattle.tree_model.specs.Tree.{Tree}
+use Rattle.tree_model.specs.Creating.{mkdir_of}
 use Rattle.tree_model.specs.Finding.{find}
 use Rattle.tree_model.specs.Opening.{open_check_of}
 use Rattle.tree_model.specs.Reading.{Entry}
 use Rattle.tree_model.specs.Pages.{page_of, last_cookie}
 use Rattle.tree_model.specs.Settings.{Settings}
+use Rattle.tree_model.specs.declared.attributes.Attr.{Attr}
 use Rattle.fuse_wire.specs.Head.{head_of}
 use Rattle.fuse_wire.specs.Request.{Request, init, lookup, getattr, unlink, open_file, read}
 use Rattle.fuse_wire.specs.Request.{opendir, readdir, releasedir, flush, release, forget}
 use Rattle.fuse_wire.specs.Request.{batch_forget, rmdir, rename, rename2, symlink, mknod, readlink}
-use Rattle.fuse_wire.specs.Request.{statfs, fsync, fsyncdir, interrupt, destroy}
+use Rattle.fuse_wire.specs.Request.{statfs, fsync, fsyncdir, interrupt, destroy, mkdir}
 use Rattle.fuse_wire.specs.declared.protocol.TheConstants.{MAX_READ}
 use Rattle.tree_machine.specs.State.{MachineState, Node, begun}
 use Rattle.tree_machine.specs.Refusals.{none_or}
@@ -33,6 +35,11 @@ entering_messages (Some known) = 3
 abbrev pub found_messages : MachineState → Result ℕ ℕ → ℕ
 found_messages m (Err e) = 1
 found_messages m (Ok ino) = entering_messages (node_of m ino)
+
+-- a directory is made, and entered
+abbrev pub made_messages : MachineState → Result (Attr × Tree) ℕ → ℕ
+made_messages m (Ok (a, t)) = 1 + entering_messages (node_of m a.ino)
+made_messages m (Err e) = 1
 
 -- the node's fid is copied, and the copy opened; where that is refused, the copy is let go again
 abbrev pub opened_messages : Result (Unit {0}) ℕ → ℕ
@@ -93,6 +100,8 @@ effect_messages piece s m node (rename newdir old new) = 1
 effect_messages piece s m node (rename2 newdir flags old new) = 1
 effect_messages piece s m node (symlink name target) = 1
 effect_messages piece s m node (mknod mode rdev name) = 1
+effect_messages piece s m node (mkdir mode name) =
+    made_messages m (mkdir_of m.tree (node_ino (map.get m.nodes node)) name mode)
 effect_messages piece s m node readlink = 1
 effect_messages piece s m node statfs = 1
 effect_messages piece s m node (opendir flags) = 2

@@ -1,18 +1,30 @@
--- Requests beyond the core ones that name entries: an empty directory's name goes, a name moves, and
--- links and special files are refused.
+-- Requests beyond the core ones that name entries: a directory is made, an empty
+-- directory's name goes, a name moves, and symbolic links and special files are refused.
 use Rattle.std.specs.Prelude.{ℕ, List, [], ◌∷◌, length, not, ◌||◌, ◌==◌, nat_lt, Option, Some, None}
-use Rattle.std.specs.Prelude.{Result, if◌then◌else◌}
+use Rattle.std.specs.Prelude.{Result, Ok, Err, if◌then◌else◌}
 use Rattle.std.specs.List.{list_any}
 use Rattle.std.specs.Str.{is_utf8}
 use Rattle.port_base.specs.Names.{name_fault}
 use Rattle.port_base.specs.declared.errno.TheConstants.{EINVAL, ENAMETOOLONG, ENOENT, ESTALE}
+use Rattle.tree_model.specs.declared.attributes.Attr.{Attr}
+use Rattle.tree_model.specs.Settings.{Settings}
 use Rattle.tree_model.specs.Tree.{Tree}
 use Rattle.tree_model.specs.Unlinking.{rmdir_of}
 use Rattle.tree_model.specs.Renaming.{rename_of}
 use Rattle.fuse_wire.specs.Layouts.{is_zero}
 use Rattle.tree_machine.specs.declared.limits.TheConstants.{TARGET_LIMIT}
 use Rattle.tree_machine.specs.State.{MachineState, Node, is_named}
+use Rattle.tree_machine.specs.Replies.{Reply}
+use Rattle.tree_machine.specs.Replies.Reply.{Refused}
 use Rattle.tree_machine.specs.Refusals.{refused_if, refused_unknown, first_refusal}
+use Rattle.tree_machine.specs.Core.{looked_up}
+
+-- ---- MKDIR
+
+-- a new directory is entered as LOOKUP enters it
+abbrev pub made : Settings → MachineState → Result (Attr × Tree) ℕ → Reply × MachineState
+made s m (Ok (a, t)) = looked_up s (record m { tree = t }) (Ok a.ino)
+made s m (Err e) = (Refused e, m)
 
 -- ---- RMDIR
 

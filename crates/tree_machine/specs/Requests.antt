@@ -7,20 +7,22 @@ use Rattle.port_base.specs.OpenFlags.{access, has_flag}
 use Rattle.port_base.specs.declared.errno.TheConstants.{EACCES, EBADF, ENOSYS, ESTALE}
 use Rattle.port_base.specs.declared.oflag.TheConstants.{O_RDONLY, O_CREAT, O_TRUNC, O_DIRECTORY}
 use Rattle.tree_model.specs.Attributes.{statfs_of}
+use Rattle.tree_model.specs.Creating.{mkdir_of}
 use Rattle.tree_model.specs.Opening.{open_check_of, readlink_of}
 use Rattle.tree_model.specs.Tree.{Tree}
 use Rattle.tree_model.specs.Settings.{Settings}
 use Rattle.fuse_wire.specs.Request.{Request, rmdir, rename, rename2, symlink, mknod, readlink}
-use Rattle.fuse_wire.specs.Request.{statfs, open_file, fsync, fsyncdir, interrupt, destroy}
+use Rattle.fuse_wire.specs.Request.{statfs, open_file, fsync, fsyncdir, interrupt, destroy, mkdir}
 use Rattle.tree_machine.specs.State.{MachineState}
 use Rattle.tree_machine.specs.State.Phase.{Over}
 use Rattle.tree_machine.specs.Replies.{Reply}
 use Rattle.tree_machine.specs.Replies.Reply.{Refused, Sizes, Done}
 use Rattle.tree_machine.specs.Refusals.{refused_if, refused_unknown, first_refusal, refused_or}
 use Rattle.tree_machine.specs.Core.{node_ino, opened, open_refusal, name_refusal, bytes_reply}
+use Rattle.tree_machine.specs.Core.{lookup_refusal}
 use Rattle.tree_machine.specs.Core.{changed_by, core_refusal, core_effect}
 use Rattle.tree_machine.specs.Naming.{rmdir_told, rename_refusal, rename2_refusal, rename_told}
-use Rattle.tree_machine.specs.Naming.{symlink_refusal}
+use Rattle.tree_machine.specs.Naming.{symlink_refusal, made}
 
 -- to read, with none of O_CREAT, O_TRUNC and O_DIRECTORY
 abbrev pub opens_to_read : ℕ → Bool
@@ -36,6 +38,7 @@ is_core (rename newdir old new) = false
 is_core (rename2 newdir flags old new) = false
 is_core (symlink name target) = false
 is_core (mknod mode rdev name) = false
+is_core (mkdir mode name) = false
 is_core readlink = false
 is_core statfs = false
 is_core (fsync fh flags) = false
@@ -62,6 +65,7 @@ refusal_before s m node (rename2 newdir flags old new) =
 refusal_before s m node (symlink name target) =
     symlink_refusal name target (map.get m.nodes node)
 refusal_before s m node (mknod mode rdev name) = name_refusal name (map.get m.nodes node)
+refusal_before s m node (mkdir mode name) = lookup_refusal s m name (map.get m.nodes node)
 refusal_before s m node readlink = refused_unknown (map.get m.nodes node) ESTALE
 refusal_before s m node statfs = refused_unknown (map.get m.nodes node) ESTALE
 refusal_before s m node (fsync fh flags) = refused_unknown (map.get m.handles fh) EBADF
@@ -84,6 +88,8 @@ effect_of s m node (rename2 newdir flags old new) =
     (node_ino (map.get m.nodes newdir)) new)
 effect_of s m node (symlink name target) = (Refused EACCES, m)
 effect_of s m node (mknod mode rdev name) = (Refused EACCES, m)
+effect_of s m node (mkdir mode name) =
+    made s m (mkdir_of m.tree (node_ino (map.get m.nodes node)) name mode)
 effect_of s m node readlink =
     (bytes_reply (readlink_of m.tree (node_ino (map.get m.nodes node))), m)
 effect_of s m node statfs = (sizes_reply m.tree, m)

@@ -68,6 +68,7 @@ impl Gate {
             } => self.rename2(nine, node, newdir, flags, old, new),
             Body::Symlink { name, target } => self.symlink(nine, node, name, target),
             Body::MkNod { mode, rdev, name } => self.mknod(nine, node, mode, rdev, name),
+            Body::MkDir { mode, name } => self.mkdir(nine, node, mode, name),
             Body::ReadLink => self.readlink(nine, node),
             Body::StatFs => self.statfs(nine, node),
             Body::ReadDir {
