@@ -152,7 +152,7 @@ asks_mknod = refl
 pub asks_mkdir : request_of (framed 9 (u32s (493 ∷ 18 ∷ []) ++ (codes "d" ++ 0 ∷ [])))
     ≡ Ok (mkdir 493 (codes "d"))
 unfolding framed request_of request_in mkdir_of name_behind only_name name_at u32_at u64_at u32s
-  u64s
+    u64s
 asks_mkdir = refl
 
 pub asks_readlink : request_of (framed 5 []) ≡ Ok readlink

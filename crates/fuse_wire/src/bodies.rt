@@ -14,8 +14,8 @@ ghost use Rattle.fuse_wire.specs.Request.{opendir, flush, release, releasedir, i
 use crate::fields::{given, u32_at, u64_at};
 use crate::layouts::{
     BATCH_FORGET_IN_SIZE, FORGET_IN_SIZE, GETATTR_IN_SIZE, INIT_IN_SIZE, INTERRUPT_IN_SIZE,
-    MKDIR_IN_SIZE, MKNOD_IN_SIZE, RENAME_IN_SIZE, RENAME2_IN_SIZE, flags_of, handle_of, name_behind, only_name,
-    read_in_of, sync_in_of, two_names, two_names_behind,
+    MKDIR_IN_SIZE, MKNOD_IN_SIZE, RENAME_IN_SIZE, RENAME2_IN_SIZE, flags_of, handle_of,
+    name_behind, only_name, read_in_of, sync_in_of, two_names, two_names_behind,
 };
 use crate::opcode::FUSE_GETATTR_FH;
 use crate::request::{Body, FORGET_ONE_SIZE};

@@ -7,17 +7,18 @@ ghost use Rattle.fuse_wire.specs.Request.{request_in, request_of};
 
 use crate::bodies::{
     batch_forget_of, destroy_of, flush_of, forget_of, fsync_of, fsyncdir_of, getattr_of, init_of,
-    interrupt_of, lookup_of, mkdir_of, mknod_of, open_of, opendir_of, read_of, readdir_of, readlink_of,
-    release_of, releasedir_of, rename_of, rename2_of, rmdir_of, statfs_of, symlink_of, unlink_of,
+    interrupt_of, lookup_of, mkdir_of, mknod_of, open_of, opendir_of, read_of, readdir_of,
+    readlink_of, release_of, releasedir_of, rename_of, rename2_of, rmdir_of, statfs_of, symlink_of,
+    unlink_of,
 };
 use crate::fields::u64_at;
 use crate::head::{Head, IN_HEADER_SIZE};
 use crate::ids::Errno;
 use crate::opcode::{
     FUSE_BATCH_FORGET, FUSE_DESTROY, FUSE_FLUSH, FUSE_FORGET, FUSE_FSYNC, FUSE_FSYNCDIR,
-    FUSE_GETATTR, FUSE_INIT, FUSE_INTERRUPT, FUSE_LOOKUP, FUSE_MKDIR, FUSE_MKNOD, FUSE_OPEN, FUSE_OPENDIR,
-    FUSE_READ, FUSE_READDIR, FUSE_READLINK, FUSE_RELEASE, FUSE_RELEASEDIR, FUSE_RENAME,
-    FUSE_RENAME2, FUSE_RMDIR, FUSE_STATFS, FUSE_SYMLINK, FUSE_UNLINK,
+    FUSE_GETATTR, FUSE_INIT, FUSE_INTERRUPT, FUSE_LOOKUP, FUSE_MKDIR, FUSE_MKNOD, FUSE_OPEN,
+    FUSE_OPENDIR, FUSE_READ, FUSE_READDIR, FUSE_READLINK, FUSE_RELEASE, FUSE_RELEASEDIR,
+    FUSE_RENAME, FUSE_RENAME2, FUSE_RMDIR, FUSE_STATFS, FUSE_SYMLINK, FUSE_UNLINK,
 };
 use port_base::errno::{EINVAL, ENOSYS};
 
