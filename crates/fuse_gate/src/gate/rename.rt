@@ -62,7 +62,8 @@ impl Gate {
         new: &[u8],
     ) -> Result<Reply, NoMemory>
         requires { IsInStep self.old (N.at nine.old).state }
-        ensures served { IfOk result (λ reply. ServesRequest node (rename2 newdir flags old.now new.now)
+        ensures served { IfOk result (λ reply. ServesRequest node
+            (rename2 newdir flags old.now new.now)
             (self.old, N.at nine.old) (self.new, N.at nine.new) (reply_of reply)) }
         ensures unfinished { OnErr result (LeavesPartOf node (rename2 newdir flags old.now new.now)
             (self.old, N.at nine.old) (N.at nine.new)) }
