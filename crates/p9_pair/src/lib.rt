@@ -5,6 +5,8 @@
 #[cfg(test)]
 mod changes;
 #[cfg(test)]
+mod listing;
+#[cfg(test)]
 mod readme;
 #[cfg(test)]
 mod tests;
