@@ -6,7 +6,6 @@ use Rattle.std.proofs.lemmas.Bool.Decides.{nat_tests}
 use Rattle.port_base.specs.declared.errno.TheConstants.{EPROTO}
 use Rattle.fuse_wire.specs.Request.{init, destroy, interrupt}
 use Rattle.tree_machine.specs.State.{MachineState}
-use Rattle.tree_machine.specs.State.Phase.{Started, Over}
 use Rattle.tree_machine.specs.Replies.{Reply}
 use Rattle.tree_machine.specs.Replies.Reply.{Granted, Done}
 use Rattle.tree_machine.specs.Refusals.{refused_if}

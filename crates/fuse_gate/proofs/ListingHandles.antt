@@ -1,11 +1,10 @@
 -- A handle that is listed.
 use Rattle.std.proofs.Common.{◌≡◌, ◌≢◌, ℕ, ◌+◌, Bool, true, false, not, [], ◌∷◌, length, min, refl}
-use Rattle.std.proofs.Common.{sym, ap, ◌∙◌, subst, Option, Some, None, ⊎_elim}
+use Rattle.std.proofs.Common.{sym, ap, ◌∙◌, subst, Option, Some, None}
 use Rattle.std.specs.Prelude.{option_map, unwrap_or}
 use Rattle.std.specs.FinMap.{get}
 use Rattle.port_base.specs.declared.errno.TheConstants.{EBADF, ENOTDIR}
-use Rattle.tree_model.specs.Tree.{Body, body_at, is_directory_at}
-use Rattle.tree_model.specs.Tree.Body.{File}
+use Rattle.tree_model.specs.Tree.{body_at, is_directory_at}
 use Rattle.tree_model.specs.Pages.{page_of}
 use Rattle.fuse_wire.specs.Request.{readdir}
 use Rattle.fuse_wire.specs.declared.protocol.TheConstants.{MAX_READ}
@@ -18,7 +17,7 @@ use Rattle.tree_machine.specs.Listing.{entry_size, listing_bytes}
 use Rattle.tree_machine.specs.Messages.{listing_messages, readdir_messages}
 use Rattle.fid_model.specs.Fids.{Fid, IsGoodServer}
 use Rattle.fid_model.specs.Moments.{Moment, Untouched}
-use Rattle.fuse_gate.specs.Standing.{IsInStep, machine_of, piece_of, handle_of, opened}
+use Rattle.fuse_gate.specs.Standing.{IsInStep, machine_of, piece_of, opened}
 use Rattle.fuse_gate.specs.Steps.{Serves, ServesRequest}
 use Rattle.fuse_gate.specs.Listings.{directory_at, ListsDirectory, ServesListing}
 use Rattle.fuse_gate.specs.declared.gate.Gate.{Gate}

@@ -10,7 +10,6 @@ use Rattle.std.proofs.lemmas.Bool.Decides.{nat_tests}
 use Rattle.std.proofs.lemmas.List.{length-append}
 use Rattle.std.proofs.lemmas.List.Concat.{flat_map-append}
 use Rattle.std.proofs.lemmas.List.Sums.{sum_by-cons}
-use Rattle.std.specs.FinMap.{get}
 use Rattle.port_base.specs.declared.errno.TheConstants.{EBADF, EIO, ENOTDIR}
 use Rattle.tree_model.specs.Tree.{Tree, body_at, is_directory_at}
 use Rattle.tree_model.specs.Reading.{Entry}
@@ -19,9 +18,9 @@ use Rattle.fuse_wire.specs.declared.listing.ReplyDirectory.{ReplyDirectory}
 use Rattle.p9_rmsg.specs.Dirents.{Entry as Dirent}
 use Rattle.p9_client.specs.Listing.{entries_by, entries_told}
 use Rattle.fid_model.specs.Listings.{entry_told}
-use Rattle.fid_model.specs.Fids.{ServerState, Fid, IsGoodServer, is_open}
+use Rattle.fid_model.specs.Fids.{ServerState, IsGoodServer, is_open}
 use Rattle.fid_model.specs.FidCalls.{by_fid}
-use Rattle.fid_model.specs.Moments.{Moment, Keeps, Untouched, AskedOne, Answered}
+use Rattle.fid_model.specs.Moments.{Moment, Keeps, Untouched, Answered}
 use Rattle.fid_model.proofs.Moments.{keeps_refl, keeps_trans}
 use Rattle.p9_wire.specs.declared.protocol.TheConstants.{RREAD_HEADER_SIZE}
 use Rattle.tree_machine.specs.State.{MachineState}
@@ -33,7 +32,7 @@ use Rattle.tree_machine.proofs.Listing.{length-listing_bytes}
 use Rattle.fuse_gate.specs.Standing.{IsInStep, machine_of, piece_of}
 use Rattle.fuse_gate.specs.Steps.{Serves}
 use Rattle.fuse_gate.specs.Changes.{one_sent}
-use Rattle.fuse_gate.specs.Listings.{told_size, told_bytes, last_told, next_told, directory_at}
+use Rattle.fuse_gate.specs.Listings.{told_size, told_bytes, last_told, next_told}
 use Rattle.fuse_gate.specs.Listings.{ListsDirectory, AddsFront}
 use Rattle.fuse_gate.specs.declared.gate.Gate.{Gate}
 use Rattle.fuse_gate.proofs.Asking.{Tells, answered_tells}

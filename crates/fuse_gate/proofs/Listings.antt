@@ -1,7 +1,7 @@
 -- READDIR, message by message.
-use Rattle.std.proofs.Common.{◌≡◌, ◌≢◌, ℕ, zero, suc, ◌+◌, ◌-◌, ◌<◌, ◌≤◌, Bool, true, false, cond}
-use Rattle.std.proofs.Common.{List, [], ◌∷◌, ◌++◌, length, refl, sym, ap, ◌∙◌, subst, Option, Some}
-use Rattle.std.proofs.Common.{None, Result, Ok, Err, arith, append_assoc, append-nil, ⊎_elim, nat_lt}
+use Rattle.std.proofs.Common.{◌≡◌, ◌≢◌, ℕ, suc, ◌+◌, ◌-◌, ◌<◌, ◌≤◌, Bool, true, false, cond}
+use Rattle.std.proofs.Common.{List, [], ◌∷◌, ◌++◌, length, refl, sym, ap, ◌∙◌, subst, Some}
+use Rattle.std.proofs.Common.{None, arith, append_assoc, append-nil, ⊎_elim, nat_lt}
 use Rattle.std.proofs.Common.{get_or, take, add-one, drop-cons}
 use Rattle.std.specs.Prelude.{map as each, drop, ◌==◌}
 use Rattle.std.specs.List.{flat_map}
@@ -9,16 +9,11 @@ use Rattle.std.proofs.lemmas.Bool.{cases_lt}
 use Rattle.std.proofs.lemmas.Bool.Decides.{nat_tests}
 use Rattle.std.proofs.lemmas.List.{length-append, map-append, take_more}
 use Rattle.std.proofs.lemmas.List.Concat.{flat_map-append, flat_map-cons}
-use Rattle.std.proofs.lemmas.List.Sums.{sum_by-cons}
-use Rattle.std.proofs.Math.Seq.{drop-append_seam}
 use Rattle.tree_model.specs.declared.attributes.Kind.{Kind}
 use Rattle.tree_model.specs.declared.attributes.Kind.TheVariants as kind
-use Rattle.tree_model.specs.Tree.{Tree}
-use Rattle.tree_model.specs.Good.{IsGoodTree}
 use Rattle.tree_model.specs.Reading.{Entry}
-use Rattle.tree_model.specs.Pages.{entries_past_of, front_within, page_of, last_cookie}
-use Rattle.tree_model.proofs.Pages.{splits_within, taken, stopped, within-append, within-whole}
-use Rattle.tree_model.proofs.Pages.{within-cut, past_last}
+use Rattle.tree_model.specs.Pages.{front_within, last_cookie}
+use Rattle.tree_model.proofs.Pages.{taken, stopped}
 use Rattle.fuse_wire.specs.Adding.{Adds}
 use Rattle.fuse_wire.specs.Listing.{dirent_bytes}
 use Rattle.fuse_wire.specs.declared.listing.ReplyDirectory.{ReplyDirectory}
@@ -29,8 +24,6 @@ use Rattle.p9_rmsg.specs.declared.dirent.Dirent.{Dirent as DirentStruct}
 use Rattle.tree_model.specs.Attributes.{entry_type}
 use Rattle.fid_model.specs.Listings.{entry_told}
 use Rattle.tree_machine.specs.Listing.{entry_size, entry_bytes, file_type, listing_bytes}
-use Rattle.tree_machine.specs.Messages.{dirent_size, is_last, listing_messages}
-use Rattle.tree_machine.proofs.Listing.{length-listing_bytes}
 use Rattle.fuse_gate.specs.Listings.{type_by, told_size, told_bytes, last_told, next_told}
 use Rattle.fuse_gate.specs.Listings.{AddsFront}
 

@@ -1,5 +1,5 @@
 -- MKDIR: a directory is made, and then looked up.
-use Rattle.std.proofs.Common.{◌≡◌, ℕ, ◌+◌, ◌≤◌, ◌⊎◌, Bool, true, false, ◌||◌, [], ◌∷◌, List, refl}
+use Rattle.std.proofs.Common.{◌≡◌, ℕ, ◌+◌, ◌≤◌, Bool, true, false, ◌||◌, List, refl}
 use Rattle.std.proofs.Common.{sym, ap, ◌∙◌, subst, Option, Some, None, Result, Ok, Err, IsSome}
 use Rattle.std.proofs.Common.{inl, inr, ⊎_elim, arith}
 use Rattle.std.specs.FinMap.{get}
@@ -11,7 +11,6 @@ use Rattle.tree_model.specs.Tree.{Tree, is_linked, keep}
 use Rattle.tree_model.specs.Attributes.{Qid, qid_of}
 use Rattle.tree_model.specs.Creating.{mkdir_of}
 use Rattle.tree_model.specs.Finding.{find}
-use Rattle.tree_model.specs.Settings.{Settings}
 use Rattle.tree_model.specs.Good.{IsGoodTree}
 use Rattle.tree_model.specs.Sound.{IsKept}
 use Rattle.fuse_wire.specs.Request.{mkdir, lookup}
@@ -23,23 +22,21 @@ use Rattle.tree_machine.specs.Refusals.{refused_or, none_or}
 use Rattle.tree_machine.specs.Core.{node_ino, node_for, node_of as node_found, looked_up}
 use Rattle.tree_machine.specs.Core.{lookup_refusal}
 use Rattle.tree_machine.specs.Naming.{made}
-use Rattle.tree_machine.specs.Requests.{refusal_before, effect_of, answer_of}
+use Rattle.tree_machine.specs.Requests.{effect_of, answer_of}
 use Rattle.tree_machine.specs.Messages.{effect_messages, request_messages, found_messages}
 use Rattle.tree_machine.specs.Messages.{made_messages}
 use Rattle.tree_machine.specs.Faults.{PartOf}
-use Rattle.tree_machine.specs.Good.{IsGoodMachine}
-use Rattle.tree_machine.proofs.KeptStates.{kept_good}
 use Rattle.tree_machine.proofs.KindsKept.{Leaves, KeepsKinds, leaves_kinds}
 use Rattle.tree_machine.proofs.MadeNames.{mkdir_leaves, mkdir_found, mkdir_stays}
 use Rattle.tree_machine.proofs.MadeNames.{changed_tree_good, given_named}
-use Rattle.fid_model.specs.Fids.{ServerState, Fid, IsGoodServer, is_held}
+use Rattle.fid_model.specs.Fids.{ServerState, Fid, IsGoodServer}
 use Rattle.fid_model.specs.Directories.{mkdir_told}
 use Rattle.fid_model.specs.TreeCalls.{at_fid, unless_fault, unless_some}
 use Rattle.fid_model.specs.Moments.{Moment, AskedOne, Asks}
 use Rattle.fid_model.proofs.Keeping.{keep_same}
 use Rattle.p9_client.specs.Changing.{changed, OldOrTold}
 use Rattle.fuse_gate.specs.Standing.{IsInStep, machine_of, piece_of}
-use Rattle.fuse_gate.specs.Steps.{Serves, ServesRequest, LeavesPartOf, machine_at}
+use Rattle.fuse_gate.specs.Steps.{Serves, ServesRequest}
 use Rattle.fuse_gate.specs.Changes.{one_sent}
 use Rattle.fuse_gate.specs.declared.gate.Node.{Node}
 use Rattle.fuse_gate.specs.declared.gate.Gate.{Gate}

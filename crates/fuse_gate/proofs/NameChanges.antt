@@ -1,11 +1,10 @@
 -- UNLINK, RMDIR, RENAME and RENAME2: a name goes or moves, and only the tree changes.
 use Rattle.std.proofs.Common.{◌≡◌, ◌⊎◌, ℕ, Bool, false, not, [], ◌∷◌, List, refl, sym, ap, ◌∙◌, subst}
-use Rattle.std.proofs.Common.{Option, Some, None, Result, Ok, Err}
+use Rattle.std.proofs.Common.{Option, Some, None}
 use Rattle.std.specs.Prelude.{option_map, ◌==◌}
 use Rattle.std.specs.FinMap.{get}
 use Rattle.port_base.specs.Names.{name_fault}
 use Rattle.port_base.specs.declared.errno.TheConstants.{EINVAL, ESTALE}
-use Rattle.tree_model.specs.Tree.{Tree}
 use Rattle.tree_model.specs.Renaming.{rename_of}
 use Rattle.tree_model.specs.Unlinking.{unlink_of, rmdir_of}
 use Rattle.fuse_wire.specs.Request.{unlink, rmdir, rename, rename2}
@@ -14,11 +13,10 @@ use Rattle.tree_machine.specs.Replies.{Reply}
 use Rattle.tree_machine.specs.Refusals.{refused_if, first_refusal, refused_or, none_or}
 use Rattle.tree_machine.specs.Core.{node_ino, name_refusal, unlink_told, changed_by}
 use Rattle.tree_machine.specs.Naming.{rmdir_told, rename_refusal, rename2_refusal, rename_told}
-use Rattle.tree_machine.specs.Requests.{refusal_before}
 use Rattle.tree_machine.specs.Faults.{IsEither}
 use Rattle.tree_machine.proofs.Directories.{unlink_leaves, rmdir_leaves, rename_leaves}
 use Rattle.fid_model.specs.declared.unlinkat.TheConstants.{P9_AT_REMOVEDIR}
-use Rattle.fid_model.specs.Fids.{Fid, IsGoodServer, is_held, closed}
+use Rattle.fid_model.specs.Fids.{Fid, is_held}
 use Rattle.fid_model.specs.Directories.{renameat_told, unlinkat_told, removed_by}
 use Rattle.fid_model.specs.TreeCalls.{at_fid, unless_fault, unless_some}
 use Rattle.fid_model.specs.Moments.{Moment}

@@ -1,6 +1,6 @@
 -- OPENDIR.
 use Rattle.std.proofs.Common.{◌≡◌, ◌≢◌, ℕ, ◌<◌, ◌^◌, Bool, true, false, not, [], ◌∷◌, refl, sym, ap}
-use Rattle.std.proofs.Common.{◌∙◌, subst, Option, Some, None, Result, Ok, Err}
+use Rattle.std.proofs.Common.{◌∙◌, subst, Option, Some, None, Result, Ok}
 use Rattle.std.specs.Prelude.{◌==◌, option_map}
 use Rattle.std.specs.FinMap.{get}
 use Rattle.port_base.specs.declared.errno.TheConstants.{ENFILE, ENOTDIR, ESTALE}

@@ -1,7 +1,7 @@
 -- What one message of a listing brings, and what it leaves to the next ones.
-use Rattle.std.proofs.Common.{◌≡◌, ◌≢◌, ℕ, zero, suc, ◌+◌, ◌-◌, ◌<◌, ◌≤◌, Bool, true, false, cond}
+use Rattle.std.proofs.Common.{◌≡◌, ℕ, ◌+◌, ◌-◌, ◌<◌, ◌≤◌, true, false}
 use Rattle.std.proofs.Common.{List, [], ◌∷◌, ◌++◌, length, refl, sym, ap, ◌∙◌, subst, arith, ⊎_elim}
-use Rattle.std.proofs.Common.{append-nil, nat_lt, Option, Some, None}
+use Rattle.std.proofs.Common.{append-nil, nat_lt}
 use Rattle.std.specs.Prelude.{sum_by, drop, ◌==◌, ◌||◌}
 use Rattle.std.proofs.lemmas.Bool.{cases_lt}
 use Rattle.std.proofs.lemmas.Bool.Decides.{nat_tests}
@@ -13,7 +13,7 @@ use Rattle.tree_model.specs.Reading.{Entry}
 use Rattle.tree_model.specs.Pages.{entries_past_of, front_within, page_of, last_cookie}
 use Rattle.tree_model.proofs.Pages.{splits_within, taken, within-append, within-whole, within-cut}
 use Rattle.tree_model.proofs.Pages.{past_last, rest_after, named_after}
-use Rattle.p9_client.proofs.Names.{name_is_text}
+use Rattle.fid_model.proofs.Names.{name_is_text}
 use Rattle.tree_machine.specs.Listing.{entry_size}
 use Rattle.tree_machine.specs.Messages.{dirent_size, is_last}
 

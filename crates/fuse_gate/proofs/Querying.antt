@@ -1,20 +1,19 @@
 -- Requests that are answered by one message and change nothing: STATFS, READLINK, FSYNC, and those
 -- that the server refuses.
-use Rattle.std.proofs.Common.{◌≡◌, ℕ, ◌+◌, ◌<◌, ◌≤◌, Bool, true, false, [], ◌∷◌, List, length, refl}
+use Rattle.std.proofs.Common.{◌≡◌, ℕ, ◌+◌, ◌≤◌, Bool, false, List, length, refl}
 use Rattle.std.proofs.Common.{sym, ap, ◌∙◌, subst, Option, Some, None, Result, Ok, Err, arith}
 use Rattle.std.proofs.Common.{nat_lt, cond}
 use Rattle.std.specs.Prelude.{option_map}
 use Rattle.std.proofs.lemmas.Bool.Decides.{nat_tests}
 use Rattle.std.specs.FinMap.{get}
-use Rattle.port_base.specs.declared.errno.TheConstants.{EACCES, EBADF, EIO, ESTALE}
+use Rattle.port_base.specs.declared.errno.TheConstants.{EBADF, EIO, ESTALE}
 use Rattle.p9_rmsg.specs.Replies.{Reply as NineReply}
 use Rattle.p9_rmsg.specs.Replies.Reply.{statfs as r_statfs}
 use Rattle.tree_model.specs.Attributes.{Qid, statfs_of}
 use Rattle.tree_model.specs.Good.{IsGoodTree, IsGoodBody}
 use Rattle.tree_model.specs.Opening.{body_answer, readlink_body, readlink_of}
-use Rattle.tree_model.specs.Tree.{Tree, Record, Body, body_at}
+use Rattle.tree_model.specs.Tree.{Record, Body, body_at}
 use Rattle.tree_model.specs.Tree.Body.{File, Directory, Link}
-use Rattle.tree_model.specs.declared.attributes.Statfs.{Statfs}
 use Rattle.fuse_wire.specs.Request.{Request, readlink, statfs, fsync}
 use Rattle.tree_machine.specs.State.{MachineState, Node as MachineNode, Handle as MachineHandle}
 use Rattle.tree_machine.specs.Replies.{Reply}
@@ -26,15 +25,15 @@ use Rattle.tree_machine.specs.Messages.{effect_messages}
 use Rattle.fid_model.specs.Fids.{ServerState, Fid, IsGoodServer, is_open}
 use Rattle.fid_model.specs.FidCalls.{by_fid, by_open_fid}
 use Rattle.fid_model.specs.Files.{statfs_told, fsync_told, readlink_told, fitting_target}
-use Rattle.fid_model.specs.Moments.{Moment, Answered, Untouched, AskedOne}
+use Rattle.fid_model.specs.Moments.{Moment, Answered, Untouched}
 use Rattle.p9_client.specs.Views.{sizes_told}
-use Rattle.fuse_gate.specs.Standing.{IsInStep, machine_of, node_of, handle_of, piece_of}
+use Rattle.fuse_gate.specs.Standing.{IsInStep, machine_of, node_of, piece_of}
 use Rattle.fuse_gate.specs.Steps.{Serves, ServesRequest}
 use Rattle.fuse_gate.specs.Changes.{one_sent}
 use Rattle.fuse_gate.specs.declared.gate.Node.{Node}
 use Rattle.fuse_gate.specs.declared.gate.Handle.{Handle}
 use Rattle.fuse_gate.specs.declared.gate.Gate.{Gate}
-use Rattle.fuse_gate.proofs.Asking.{Tells, pair, answered_tells, state_same}
+use Rattle.fuse_gate.proofs.Asking.{Tells, answered_tells, state_same}
 use Rattle.fuse_gate.proofs.Standings.{node_fid, handle_fid, node_seen, handle_seen}
 use Rattle.fuse_gate.proofs.Serving.{one_alone, one_message, unchanged, served_after}
 use Rattle.fuse_gate.proofs.TreeChanging.{done_reply}

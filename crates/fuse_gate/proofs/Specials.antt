@@ -1,5 +1,5 @@
 -- SYMLINK and MKNOD, which the server refuses.
-use Rattle.std.proofs.Common.{◌≡◌, ℕ, ◌+◌, ◌++◌, ◌<◌, ◌≤◌, ◌^◌, ◌&&◌, ◌||◌, Bool, true, false, not}
+use Rattle.std.proofs.Common.{◌≡◌, ℕ, ◌+◌, ◌++◌, ◌≤◌, ◌&&◌, ◌||◌, Bool, true, false, not}
 use Rattle.std.proofs.Common.{cond, [], ◌∷◌, List, length, refl, sym, ap, ◌∙◌, Option, Some, None}
 use Rattle.std.proofs.Common.{arith, nat_lt}
 use Rattle.std.specs.Prelude.{option_map, ◌==◌}
@@ -14,9 +14,9 @@ use Rattle.p9_wire.specs.Texts.{is_text}
 use Rattle.p9_wire.specs.Values.{TextSpells, le32, text_spelling}
 use Rattle.p9_tmsg.specs.Messages.{message_spelling}
 use Rattle.p9_tmsg.specs.Messages.Message.{symlink as t_symlink}
-use Rattle.p9_client.proofs.Names.{name_is_text}
+use Rattle.fid_model.proofs.Names.{name_is_text}
 use Rattle.fuse_wire.specs.Layouts.{is_zero}
-use Rattle.tree_machine.specs.State.{MachineState, Node as MachineNode}
+use Rattle.tree_machine.specs.State.{Node as MachineNode}
 use Rattle.tree_machine.specs.Refusals.{first_refusal}
 use Rattle.tree_machine.specs.Naming.{target_fault, symlink_refusal}
 use Rattle.fid_model.specs.Moments.{Moment}

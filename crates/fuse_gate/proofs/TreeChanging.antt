@@ -1,5 +1,5 @@
 -- A request that changes the tree by one message, and nothing else.
-use Rattle.std.proofs.Common.{◌≡◌, ℕ, ◌≤◌, ◌⊎◌, Bool, refl, sym, ap, ◌∙◌, subst, Option, None}
+use Rattle.std.proofs.Common.{◌≡◌, ℕ, ◌≤◌, Bool, refl, sym, ap, ◌∙◌, subst, Option, None}
 use Rattle.std.proofs.Common.{Result, Ok, Err, inl, inr, ⊎_elim}
 use Rattle.port_base.specs.Faults.{Rose}
 use Rattle.port_base.specs.declared.errno.TheConstants.{EIO}

@@ -1,5 +1,5 @@
 -- The first message, the next ones, and each end.
-use Rattle.std.proofs.Common.{◌≡◌, ◌-◌, ◌<◌, List, [], ap, ◌∙◌, sym, arith, subst, refl, Some, None}
+use Rattle.std.proofs.Common.{◌-◌, List, ap, ◌∙◌, arith, subst, refl, Some, None}
 use Rattle.std.specs.Prelude.{map as each}
 use Rattle.p9_rmsg.specs.Dirents.{dirent_of}
 use Rattle.p9_rmsg.specs.declared.dirent.Dirent.{Dirent as DirentStruct}

@@ -1,5 +1,5 @@
 -- The refusals in order, the message, and then the look-up.
-use Rattle.std.proofs.Common.{Ok, Err, sym, ap, arith, refl, inl}
+use Rattle.std.proofs.Common.{Ok, sym, ap, arith, refl, inl}
 use Rattle.fuse_wire.specs.Request.{mkdir}
 use Rattle.p9_client.specs.Views.{qid_answer}
 use Rattle.fuse_gate.specs.Replies.{reply_of}

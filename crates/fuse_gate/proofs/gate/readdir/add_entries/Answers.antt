@@ -1,5 +1,5 @@
 -- Each entry is added behind those before, until one has no room.
-use Rattle.std.proofs.Common.{◌+◌, List, ◌++◌, [], ◌∷◌, sym, subst, take, drop, true, false}
+use Rattle.std.proofs.Common.{◌+◌, List, sym, subst, take, drop, true, false}
 use Rattle.std.specs.Prelude.{map as each}
 use Rattle.p9_rmsg.specs.Dirents.{Entry as Dirent, dirent_of}
 use Rattle.fuse_gate.proofs.Listings.{Adding, adds_one, adds_full, adds_as, rest_at, front_at}
