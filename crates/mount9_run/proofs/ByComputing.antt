@@ -63,7 +63,7 @@ owners_example = refl
 -- an owner is taken once
 pub owner_example : with_owner map.empty (Some (1000, 0)) ≡ Some (map.insert map.empty 1000 0)
 owner_example = ap (λ (o : Option ℕ). cond (is_some o) None (Some (map.insert map.empty 1000 0)))
-    (map.get-empty nat_cmp ℕ 1000)
+    (map.get-empty nat_cmp 1000)
 
 pub again_example : with_owner (map.insert map.empty 1000 0) (Some (1000, 5)) ≡ None
 again_example = ap (λ (o : Option ℕ). cond (is_some o) None

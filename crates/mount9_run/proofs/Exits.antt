@@ -124,6 +124,9 @@ pub Ran-valid : (words : List (List ℕ)) (left s0 s1 : Option (List ℕ)) (in0 
     → (Faulted out0 out1 → ⊥) → (code ≡ 0) ⊎ (code ≡ 4))
 Ran-valid words None s0 s1 in0 in1 out0 out1 code s is ran = tt
 Ran-valid words (Some bytes) s0 s1 in0 in1 out0 out1 code s is ran = λ v quiet_in quiet_out.
-    ⊎_elim (λ e. inl (is ∙ ap exit_code (e ∙ (served_exactly words bytes).1 v)))
+    let served : (outcome words bytes).0 ≡ Served = (served_exactly words bytes).1 v in
+    ⊎_elim (λ (e : s ≡ (outcome words bytes).0).
+    let same : s ≡ Served = ◌∙◌ {a = s} {b = (outcome words bytes).0} {c = Served} e served in
+    inl (is ∙ ap exit_code same))
     (λ e. inr (is ∙ ap exit_code e))
     (answers_alike words bytes s0 s1 in0 in1 out0 out1 quiet_in quiet_out s ran)

@@ -7,7 +7,8 @@ use Rattle.std.proofs.lemmas.Bool.{false≢true}
 use Rattle.port_base.specs.Paths.{is_rooted_path}
 use Rattle.mount9_run.specs.Command.{Draft, Serve, once, text_in_form, number_in, with_key}
 use Rattle.mount9_run.specs.Command.{with_word, with_words, finished, completed, command, is_serve}
-use Rattle.mount9_run.specs.Command.{no_words}
+use Rattle.mount9_run.specs.Command.{no_words, with_owner, owners_of}
+use Rattle.p9_server.specs.ConfigTexts.{boolean_of}
 use Rattle.mount9_run.specs.Paths.{is_path, is_root}
 use Rattle.mount9_run.specs.Texts.{split_once}
 use Rattle.mount9_run.specs.declared.path.TheConstants.{PATH_LIMIT}
@@ -33,53 +34,66 @@ and_right : (a b : Bool) → (a && b) ≡ true → b ≡ true
 and_right true b h = h
 and_right false b h = absurd (false≢true h)
 
-in_form : (b : Bool) (value path : List ℕ) → is_root value ≡ b
-    → cond b (Some value) None ≡ Some path → is_rooted_path path ≡ true
-in_form false value path test h = absurd cc
-in_form true value path test h =
-    let same : value ≡ path = cc in
-    subst (λ (p : List ℕ). is_rooted_path p ≡ true) same
-    (and_right (nat_le (length value) PATH_LIMIT) (is_rooted_path value) test)
-
 -- the root that comes is in form
-came : (old : Option (List ℕ)) (value path : List ℕ)
-    → once old (text_in_form is_root value) ≡ Some path → is_rooted_path path ≡ true
-came None value path h = in_form (is_root value) value path refl h
-came (Some p) value path h = absurd cc
+came : (old slot : Option (List ℕ)) (value : List ℕ)
+    → once old (text_in_form is_root value) ≡ Some slot
+    → IfSome slot (λ (path : List ℕ). is_rooted_path path ≡ true)
+came None slot value h = by_form (is_root value) refl h where
+  by_form : (b : Bool) → is_root value ≡ b
+      → option_map (λ (v : List ℕ). Some v) (cond b (Some value) None) ≡ Some slot
+      → IfSome slot (λ (path : List ℕ). is_rooted_path path ≡ true)
+  by_form false test h = absurd cc
+  by_form true test h =
+      let same : Some value ≡ slot = cc in
+      subst (λ (r : Option (List ℕ)). IfSome r (λ (path : List ℕ). is_rooted_path path ≡ true))
+      same (and_right (nat_le (length value) PATH_LIMIT) (is_rooted_path value) test)
+came (Some p) slot value h = absurd cc
 
 module _ (d e : Draft) (had : IsRooted d) (key value : List ℕ) where
-  with_root : option_map (λ v. record d { root = Some v })
+  with_root : option_map (λ v. record d { root = v })
       (once d.root (text_in_form is_root value)) ≡ Some e → IsRooted e
   with_root h =
-      let m = mapped (λ v. record d { root = Some v }) (once d.root (text_in_form is_root value)) e
-      h in
-      subst IsRooted m.2 (came d.root value m.0 m.1)
+      let m = mapped (λ v. record d { root = v }) (once d.root (text_in_form is_root value)) e h in
+      subst IsRooted m.2 (came d.root m.0 value m.1)
 
-  by_key : (target root msize turns ids : Bool) →
-      cond target (option_map (λ v. record d { target = Some v })
+  by_key : (target root msize turns ids uid gid casefold : Bool) →
+      cond target (option_map (λ v. record d { target = v })
       (once d.target (text_in_form is_path value)))
-      (cond root (option_map (λ v. record d { root = Some v })
+      (cond root (option_map (λ v. record d { root = v })
       (once d.root (text_in_form is_root value)))
-      (cond msize (option_map (λ n. record d { msize = Some n })
+      (cond msize (option_map (λ n. record d { msize = n })
       (once d.msize (number_in 256 65560 value)))
-      (cond turns (option_map (λ n. record d { turns = Some n })
+      (cond turns (option_map (λ n. record d { turns = n })
       (once d.turns (number_in 1 8192 value)))
-      (cond ids (option_map (λ n. record d { ids = Some n })
-      (once d.ids (number_in 0 1000000 value))) None)))) ≡ Some e → IsRooted e
-  by_key true root msize turns ids h = kept d e (λ v. record d { target = Some v }) _ (λ a. refl)
-      had h
-  by_key false true msize turns ids h = with_root h
-  by_key false false true turns ids h = kept d e (λ n. record d { msize = Some n }) _ (λ a. refl)
-      had h
-  by_key false false false true ids h = kept d e (λ n. record d { turns = Some n }) _ (λ a. refl)
-      had h
-  by_key false false false false true h = kept d e (λ n. record d { ids = Some n }) _ (λ a. refl)
-      had h
-  by_key false false false false false h = absurd cc
+      (cond ids (option_map (λ n. record d { ids = n })
+      (once d.ids (number_in 0 1000000 value)))
+      (cond uid (option_map (λ m. record d { uid_map = m })
+      (with_owner d.uid_map (owners_of value)))
+      (cond gid (option_map (λ m. record d { gid_map = m })
+      (with_owner d.gid_map (owners_of value)))
+      (cond casefold (option_map (λ b. record d { casefold = b })
+      (once d.casefold (boolean_of value))) None))))))) ≡ Some e → IsRooted e
+  by_key true root msize turns ids uid gid casefold h =
+      kept d e (λ v. record d { target = v }) _ (λ a. refl) had h
+  by_key false true msize turns ids uid gid casefold h = with_root h
+  by_key false false true turns ids uid gid casefold h =
+      kept d e (λ n. record d { msize = n }) _ (λ a. refl) had h
+  by_key false false false true ids uid gid casefold h =
+      kept d e (λ n. record d { turns = n }) _ (λ a. refl) had h
+  by_key false false false false true uid gid casefold h =
+      kept d e (λ n. record d { ids = n }) _ (λ a. refl) had h
+  by_key false false false false false true gid casefold h =
+      kept d e (λ m. record d { uid_map = m }) _ (λ a. refl) had h
+  by_key false false false false false false true casefold h =
+      kept d e (λ m. record d { gid_map = m }) _ (λ a. refl) had h
+  by_key false false false false false false false true h =
+      kept d e (λ b. record d { casefold = b }) _ (λ a. refl) had h
+  by_key false false false false false false false false h = absurd cc
 
   key_rooted : with_key d key value ≡ Some e → IsRooted e
   key_rooted h = by_key (bytes_eq key (codes "target")) (bytes_eq key (codes "root"))
-      (bytes_eq key (codes "msize")) (bytes_eq key (codes "turns")) (bytes_eq key (codes "ids")) h
+      (bytes_eq key (codes "msize")) (bytes_eq key (codes "turns")) (bytes_eq key (codes "ids"))
+      (bytes_eq key (codes "uid")) (bytes_eq key (codes "gid")) (bytes_eq key (codes "casefold")) h
 
 word_by : (d e : Draft) → IsRooted d → (o : Option (List ℕ × List ℕ))
     → option_and_then (λ p. with_key d p.0 p.1) o ≡ Some e → IsRooted e

@@ -40,7 +40,6 @@ pub fn refused_words_are_told()
 
 /// It answers that the header is refused exactly where the words are accepted and the header is
 /// not.
-#[tactic(auto, using(crate::proofs::Causes::header_exactly))]
 pub fn refused_headers_are_told()
     ensures { (words : List (List ℕ)) (bytes : List ℕ)
         → (((outcome words bytes).0 ≡ status.Header) ↔ IsRefusedHeader words bytes) }
