@@ -27,8 +27,8 @@ use Rattle.fid_model.specs.Fids.OpenState.{Opened}
 use Rattle.fid_model.specs.FidCalls.{by_fid, by_open_fid}
 use Rattle.fid_model.specs.TreeCalls.{tree_answer, unless_some}
 use Rattle.fid_model.specs.Files.{new_file_of, new_file_refused, size_told, write_place}
-use Rattle.fid_model.specs.Setattr.{Changes, changes, run_on, resize_step, run, size_refused}
-use Rattle.fid_model.specs.Setattr.{step_unless}
+use Rattle.tree_model.specs.AttributeSteps.{run_on, resize_step, run, size_refused, step_unless}
+use Rattle.fid_model.specs.Setattr.{Changes, changes}
 use Rattle.fid_model.specs.Answers.{core, emptied_where, lcreate_answer, lopen_answer, lopen_by}
 use Rattle.fid_model.specs.Answers.{qid_told, setattr_by, setattr_reply}
 use Rattle.fid_model.specs.Samples.{server, with_open, with_writer, file_qid}
@@ -229,7 +229,7 @@ moded_at = ap (λ o. get (changed (remoded 448 born) o sample.records 1) 1) top_
     ∙ inserted sample.records 1 (remoded 448 born directory)
 
 abbrev ran : Result (Unit {0} × Tree) ℕ → Result (Unit {0}) ℕ × Tree
-ran step = run_on step sample (run (resize_step (closed 1) 0 ∷ []))
+ran step = run_on step sample (run (resize_step false 1 0 ∷ []))
 
 abbrev answered : Result (Unit {0}) ℕ × Tree → Answer
 answered x = (setattr_reply x.0, record server { tree = x.1 })
@@ -239,7 +239,7 @@ pub mode_set_alone : core server (setattr 7 9 448 0 0 0 0 0 0 0)
 mode_set_alone =
     ap (setattr_by server both) seven
     ∙ ap (λ o. answered (ran (unless_refused (refused_at refused_for_link o) tt moded))) body_of_top
-    ∙ ap (λ o. answered (run_on (step_unless (refused_at (size_refused (closed 1).open_state)
+    ∙ ap (λ o. answered (run_on (step_unless (refused_at (size_refused false)
     (option_map (λ (r : Record). r.body) o)) (set_len_of moded 1 0)) moded (run []))) moded_at
 
 pub nothing_set : core server (setattr 7 0 448 0 0 0 0 0 0 0) ≡ (were_set, server)

@@ -10,7 +10,8 @@ use Rattle.p9_tmsg.specs.Messages.Message.{write}
 use Rattle.p9_rmsg.specs.Replies.{Reply}
 use Rattle.fid_model.specs.Fids.{ServerState}
 use Rattle.fid_model.specs.Answers.{answer}
-use Rattle.fid_model.specs.Setattr.{Step, IsAfterFront, changes, steps_at}
+use Rattle.tree_model.specs.AttributeSteps.{Step, IsAfterFront}
+use Rattle.fid_model.specs.Setattr.{changes, steps_at}
 use Rattle.fid_model.specs.Parts.{changes_tree, IsFrontDone, IsPartDone}
 use Rattle.fid_model.specs.Handling.{Outcome, IsHurtReply, IsLeft}
 use Rattle.fid_model.proofs.Moments.{same_state, same_alone}

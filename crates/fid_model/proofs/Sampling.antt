@@ -30,7 +30,8 @@ use Rattle.fid_model.specs.Answers.{core, qid_at, qid_told, attached, Walked, wa
 use Rattle.fid_model.specs.Answers.{walk_answer, walk_from, find_unless, emptied_where}
 use Rattle.fid_model.specs.Answers.{lopen_answer, lopen_by, read_by, read_reply, clunk_by}
 use Rattle.fid_model.specs.Answers.{getattr_by}
-use Rattle.fid_model.specs.Setattr.{IsAfterFront, changes, resize_step, steps_at}
+use Rattle.tree_model.specs.AttributeSteps.{IsAfterFront, resize_step}
+use Rattle.fid_model.specs.Setattr.{changes, steps_at}
 use Rattle.fid_model.specs.Parts.{IsPartDone}
 use Rattle.fid_model.specs.Samples.{server, with_open, top_qid, file_qid}
 
@@ -246,5 +247,5 @@ mode_done =
     subst (λ (o : Option Fid). IsAfterFront (steps_at c o) sample new_mode) (sym seven)
     (inr (subst (λ (o : Option Body). MatchResult
     (unless_refused (refused_at refused_for_link o) (tt {0}) new_mode)
-    (λ done. IsAfterFront (resize_step (closed 1) 0 ∷ []) done.1 new_mode) (λ e. ⊥))
+    (λ done. IsAfterFront (resize_step false 1 0 ∷ []) done.1 new_mode) (λ e. ⊥))
     (sym body_of_top) (inl refl)))

@@ -4,19 +4,19 @@ use Rattle.std.specs.Prelude.{None, Result, Ok, Err, if◌then◌else◌, ◌==�
 use Rattle.std.specs.FinMap as map
 use Rattle.port_base.specs.Names.{name_fault}
 use Rattle.port_base.specs.declared.errno.TheConstants.{EACCES, EBADF, EINVAL, ENFILE, EOPNOTSUPP}
-use Rattle.port_base.specs.declared.oflag.TheConstants.{O_TRUNC, O_APPEND}
+use Rattle.port_base.specs.declared.oflag.TheConstants.{O_APPEND}
 use Rattle.tree_model.specs.Tree.{Tree}
 use Rattle.tree_model.specs.Finding.{find, root_of}
 use Rattle.tree_model.specs.Attributes.{Qid, qid_of, stat_of, blocks_of}
 use Rattle.port_base.specs.OpenFlags.{access, has_flag}
-use Rattle.tree_model.specs.Opening.{open_check_of, read_of}
-use Rattle.tree_model.specs.Attributing.{set_len_of}
+use Rattle.tree_model.specs.Opening.{read_of}
 use Rattle.tree_model.specs.Settings.{Settings, shown_of}
 use Rattle.tree_model.specs.declared.attributes.Attr.{Attr}
 use Rattle.tree_model.specs.declared.attributes.TheConstants.{BLOCK_SIZE}
 use Rattle.p9_wire.specs.declared.protocol.TheConstants.{P9_GETATTR_BASIC, P9_MAXWELEM}
 use Rattle.p9_wire.specs.declared.protocol.TheConstants.{RREAD_HEADER_SIZE}
 use Rattle.p9_tmsg.specs.Messages.{Message}
+use Rattle.p9_rmsg.specs.Replies.{Reply, Attributes}
 use Rattle.p9_tmsg.specs.Messages.Message.{attach as t_attach, auth as t_auth, clunk as t_clunk}
 use Rattle.p9_tmsg.specs.Messages.Message.{flush as t_flush, fsync as t_fsync}
 use Rattle.p9_tmsg.specs.Messages.Message.{getattr as t_getattr, getlock as t_getlock}
@@ -30,7 +30,6 @@ use Rattle.p9_tmsg.specs.Messages.Message.{unlinkat as t_unlinkat, version as t_
 use Rattle.p9_tmsg.specs.Messages.Message.{walk as t_walk, xattrcreate as t_xattrcreate}
 use Rattle.p9_tmsg.specs.Messages.Message.{xattrwalk as t_xattrwalk, lcreate as t_lcreate}
 use Rattle.p9_tmsg.specs.Messages.Message.{setattr as t_setattr, write as t_write}
-use Rattle.p9_rmsg.specs.Replies.{Reply, Attributes}
 use Rattle.p9_rmsg.specs.Replies.Reply.{attach as r_attach, clunk as r_clunk, flush as r_flush}
 use Rattle.p9_rmsg.specs.Replies.Reply.{fsync as r_fsync, getattr as r_getattr}
 use Rattle.p9_rmsg.specs.Replies.Reply.{getlock as r_getlock, lerror as r_lerror, link as r_link}
@@ -49,7 +48,9 @@ use Rattle.fid_model.specs.Files.{statfs_reply, statfs_told, fsync_told, readlin
 use Rattle.fid_model.specs.Files.{new_file_of, write_told}
 use Rattle.fid_model.specs.Directories.{mkdir_told, link_told, renameat_told, unlinkat_told}
 use Rattle.fid_model.specs.Listings.{readdir_told}
-use Rattle.fid_model.specs.Setattr.{Changes, changes, run, steps}
+pub use Rattle.tree_model.specs.OpenedFiles.{emptied, emptied_where, open_of}
+use Rattle.tree_model.specs.AttributeSteps.{run}
+use Rattle.fid_model.specs.Setattr.{Changes, changes, steps}
 
 -- ---- attach
 
@@ -158,18 +159,6 @@ getattr_by s (Some f) = getattr_reply s.settings (stat_of s.tree f.ino)
 -- the fid as it is open by these flags
 abbrev pub opened : Fid → ℕ → Fid
 opened f flags = record f { open_state = Opened (access flags) (has_flag O_APPEND flags) }
-
--- what an open leaves of the tree: with O_TRUNC the file is emptied
-abbrev pub emptied : Tree → ℕ → ℕ → Result (Unit {0} × Tree) ℕ
-emptied t ino flags = if has_flag O_TRUNC flags then set_len_of t ino 0 else Ok (tt, t)
-
-abbrev pub emptied_where : Result (Unit {0}) ℕ → Tree → ℕ → ℕ → Result (Unit {0} × Tree) ℕ
-emptied_where (Ok u) t ino flags = emptied t ino flags
-emptied_where (Err e) t ino flags = Err e
-
--- the tree that an open leaves, where it may be
-abbrev pub open_of : Tree → ℕ → ℕ → Result (Unit {0} × Tree) ℕ
-open_of t ino flags = emptied_where (open_check_of t ino flags) t ino flags
 
 abbrev pub lopen_answer : ServerState → ℕ → ℕ → Fid → Result (Unit {0} × Tree) ℕ → Reply
     × ServerState

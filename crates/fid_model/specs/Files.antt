@@ -1,27 +1,21 @@
--- Messages about what a fid names: sizes, links, new files, and what is written.
-use Rattle.std.specs.Prelude.{ℕ, ◌+◌, ◌==◌, not, Bool, List, length, Option, Some, None, Result}
+-- Messages about what a fid names: sizes, links, and what is written.
+use Rattle.std.specs.Prelude.{ℕ, ◌+◌, List, length, Result}
 use Rattle.std.specs.Prelude.{Ok, Err, if◌then◌else◌, nat_lt}
 use Rattle.std.specs.FinMap as map
-use Rattle.port_base.specs.declared.errno.TheConstants.{EINVAL, ENAMETOOLONG, ENOTDIR}
-use Rattle.port_base.specs.declared.oflag.TheConstants.{O_ACCMODE}
-use Rattle.port_base.specs.OpenFlags.{access}
-use Rattle.port_base.specs.Names.{name_fault}
+use Rattle.port_base.specs.declared.errno.TheConstants.{ENAMETOOLONG}
 use Rattle.port_base.specs.declared.names.TheConstants.{NAME_LIMIT}
 use Rattle.p9_wire.specs.declared.protocol.TheConstants.{RREADLINK_HEADER_SIZE}
-use Rattle.tree_model.specs.Tree.{Tree, body_at, is_directory_at}
-use Rattle.tree_model.specs.Attributes.{stat_of, statfs_of}
+use Rattle.tree_model.specs.Tree.{Tree}
+use Rattle.tree_model.specs.Attributes.{statfs_of}
 use Rattle.tree_model.specs.Attributing.{write_of}
-use Rattle.tree_model.specs.Creating.{create_of}
-use Rattle.tree_model.specs.Renaming.{first_of}
-use Rattle.tree_model.specs.declared.attributes.Attr.{Attr}
 use Rattle.tree_model.specs.Opening.{readlink_of}
+pub use Rattle.tree_model.specs.OpenedFiles.{new_file_of, new_file_refused, size_at, size_told}
 use Rattle.tree_model.specs.declared.attributes.Statfs.{Statfs}
 use Rattle.tree_model.specs.declared.attributes.TheConstants.{BLOCK_SIZE}
 use Rattle.p9_rmsg.specs.Replies.{Reply}
 use Rattle.p9_rmsg.specs.Replies.Reply.{statfs as r_statfs}
 use Rattle.fid_model.specs.Fids.{Fid, ServerState, appends, is_open, is_writable}
 use Rattle.fid_model.specs.FidCalls.{by_fid, by_open_fid}
-use Rattle.fid_model.specs.TreeCalls.{unless_some}
 
 -- ---- sizes
 
@@ -32,14 +26,6 @@ statfs_reply sizes = r_statfs 0 BLOCK_SIZE sizes.blocks sizes.blocks sizes.block
 
 abbrev pub statfs_told : ServerState → ℕ → Result Statfs ℕ
 statfs_told s fid = by_fid (λ f. Ok (statfs_of s.tree)) (map.get s.fids fid)
-
--- the bytes of what is stored at an inode, none where nothing is
-abbrev pub size_told : Result Attr ℕ → ℕ
-size_told (Ok a) = a.size
-size_told (Err e) = 0
-
-abbrev pub size_at : Tree → ℕ → ℕ
-size_at t ino = size_told (stat_of t ino)
 
 -- ---- what was written
 
@@ -58,21 +44,6 @@ fitting_target msize (Err e) = Err e
 abbrev pub readlink_told : ServerState → ℕ → Result (List ℕ) ℕ
 readlink_told s fid = by_fid (λ f. fitting_target s.msize (readlink_of s.tree f.ino))
     (map.get s.fids fid)
-
--- ---- new files
-
--- why no file is made by an open: ENOTDIR in what is no directory, then the fault of its name,
--- then EINVAL for access 3
-abbrev pub new_file_refused : Bool → List ℕ → ℕ → Option ℕ
-new_file_refused in_directory name flags =
-    if not in_directory then Some ENOTDIR else
-    first_of (name_fault name) (if access flags == O_ACCMODE then Some EINVAL else None)
-
--- the new file
-abbrev pub new_file_of : Tree → ℕ → List ℕ → ℕ → ℕ → Result (ℕ × Tree) ℕ
-new_file_of t dir name flags mode =
-    unless_some (new_file_refused (is_directory_at (body_at t.records dir)) name flags)
-    (create_of t dir name mode)
 
 -- ---- writing
 

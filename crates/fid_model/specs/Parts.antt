@@ -7,7 +7,8 @@ use Rattle.p9_tmsg.specs.Messages.Message.{lcreate, link, lopen, mkdir, renameat
 use Rattle.p9_tmsg.specs.Messages.Message.{unlinkat, write}
 use Rattle.fid_model.specs.Fids.{ServerState}
 use Rattle.fid_model.specs.Answers.{answer}
-use Rattle.fid_model.specs.Setattr.{IsAfterFront, changes, steps_at}
+use Rattle.tree_model.specs.AttributeSteps.{IsAfterFront}
+use Rattle.fid_model.specs.Setattr.{changes, steps_at}
 
 -- the messages that may change the tree
 abbrev pub changes_tree : Message → Bool

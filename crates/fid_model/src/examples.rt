@@ -21,10 +21,9 @@ ghost use Rattle.tree_model.specs.Samples.{born, sample};
 ghost use Rattle.tree_model.specs.Attributing.{with_changed, remoded, touch_ctime_of};
 ghost use Rattle.tree_model.specs.declared.attributes.TimeSet.TheVariants.{Keep, Now, At};
 ghost use Rattle.fid_model.specs.Fids.OpenState.{Closed};
-ghost use Rattle.fid_model.specs.Setattr.{changes, new_owner, new_time, size_refused, steps};
+ghost use Rattle.fid_model.specs.Setattr.{changes, is_open_to_read_alone, steps};
 ghost use Rattle.fid_model.specs.Parts.{IsPartDone};
 ghost use Rattle.fid_model.specs.Handling.{IsHurtReply};
-ghost use Rattle.fid_model.specs.declared.setattr.TheConstants.{UNCHANGED_ID};
 ghost use Rattle.fid_model.specs.Samples.{server, with_open, top_qid, file_qid};
 
 /// A new fid for the root, while there is room for one.
@@ -86,20 +85,12 @@ pub fn ending()
     ensures no_attributes { core server (t_getattr 9 0) ≡ (r_lerror EBADF, server) }
 {}
 
-/// What a Tsetattr does: who owns a file, when it was changed, and what refuses a size. The change
-/// of the attributes is told by itself only where no other bit that has a name is set.
+/// What is open to be read alone, and what a Tsetattr sets: the change of the attributes is told by
+/// itself only where no other bit that has a name is set.
 pub fn setting()
-    ensures owner { new_owner true 5 ≡ Some 5 }
-    ensures same_owner { new_owner true UNCHANGED_ID ≡ None }
-    ensures no_owner { new_owner false 5 ≡ None }
-    ensures kept { new_time false true born ≡ Keep }
-    ensures moment { new_time true false born ≡ Now }
-    ensures given { new_time true true born ≡ At born }
-    ensures to_read { size_refused (Opened 0 false) (File []) ≡ Some EINVAL }
-    ensures to_write { size_refused (Opened 1 false) (File []) ≡ None }
-    ensures closed { size_refused Closed (File []) ≡ None }
-    ensures directory { size_refused Closed (Directory [] 1 1) ≡ Some EISDIR }
-    ensures link { size_refused Closed (Link []) ≡ Some ELOOP }
+    ensures to_read { is_open_to_read_alone (Opened 0 false) ≡ true }
+    ensures to_write { is_open_to_read_alone (Opened 1 false) ≡ false }
+    ensures closed { is_open_to_read_alone Closed ≡ false }
     ensures alone { steps (changes 576 0 0 0 0 0 0 0 0) (closed 1) ≡ (λ t. touch_ctime_of t 1)
         ∷ [] }
     ensures beside { steps (changes 192 0 0 0 0 0 0 0 0) (closed 1) ≡ [] }

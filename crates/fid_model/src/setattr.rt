@@ -1,4 +1,4 @@
-//! Bits of Tsetattr's `valid`, and the owner that stays (9P2000.L).
+//! Bits of Tsetattr's `valid` (9P2000.L).
 
 /// The mode is given.
 pub const P9_SETATTR_MODE: u32 = 0x1;
@@ -29,6 +29,3 @@ pub const P9_SETATTR_MTIME_SET: u32 = 0x100;
 
 /// All bits that have a meaning; others are ignored.
 pub const P9_SETATTR_NAMED: u32 = 0x1ff;
-
-/// The number of a user or group that leaves it as it is (`chown(2)`).
-pub const UNCHANGED_ID: u32 = 4294967295;

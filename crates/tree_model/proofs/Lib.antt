@@ -19,6 +19,7 @@ pub mod Unlinking
 pub mod Leaving
 pub mod Creating
 pub mod Kin
+pub mod Moves
 pub mod Moving
 pub mod Climbing
 pub mod Renaming

@@ -2,8 +2,8 @@
 use Rattle.std.proofs.Common.{◌≡◌, ◌≢◌, ℕ, zero, suc, ◌+◌, ◌-◌, ◌^◌, ◌<◌, ◌≤◌, Bool, true, false}
 use Rattle.std.proofs.Common.{cond, ◌||◌, List, [], ◌∷◌, ◌++◌, length, refl, sym, ap, ◌∙◌, subst}
 use Rattle.std.proofs.Common.{Option, Some}
-use Rattle.std.proofs.Common.{None, inl, inr, ⊎_elim, arith, IsSome, IsTrue, nat_lt, bytes_eq}
-use Rattle.std.proofs.Common.{get_or, unwrap_or}
+use Rattle.std.proofs.Common.{None, inl, inr, ⊎_elim, arith, IsSome, IsTrue, nat_lt}
+use Rattle.std.proofs.Common.{get_or}
 use Rattle.std.specs.Prelude.{◌==◌, option_map, IfSome, Contains}
 use Rattle.std.proofs.Math.Logic.{∥∥₁_map, ∥∥₁_elim}
 use Rattle.std.proofs.Props.{props}
@@ -11,95 +11,31 @@ use Rattle.std.proofs.lemmas.Bool.{cases_eq, false≢true}
 use Rattle.std.proofs.lemmas.Bool.Decides.{nat_tests}
 use Rattle.std.proofs.lemmas.List.Elements.{Contains-append_cases}
 use Rattle.std.specs.FinMap.{get}
-use Rattle.port_base.specs.Names.{name_fault}
-use Rattle.tree_model.specs.Tree.{Tree, Record, Records, Body, DirEntry, TOP, body_at, listed}
+use Rattle.tree_model.specs.Tree.{Tree, Record, Records, DirEntry, TOP, body_at, listed}
 use Rattle.tree_model.specs.Tree.{is_directory, is_directory_at, name_count, names_in, is_linked}
 use Rattle.tree_model.specs.Tree.{count_names}
-use Rattle.tree_model.specs.Tree.Body.{File, Directory, Link}
-use Rattle.tree_model.specs.Good.{IsAt, IsGoodBody, IsGoodRecord, IsGoodTree, Climbs, links_of}
+use Rattle.tree_model.specs.Tree.Body.{Directory}
+use Rattle.tree_model.specs.Good.{IsAt, IsGoodRecord, IsGoodTree, Climbs, links_of}
 use Rattle.tree_model.specs.Sound.{IsKept, IsKeptBut, AreStored}
 use Rattle.tree_model.specs.Finding.{entry_named}
-use Rattle.tree_model.specs.Making.{change, joined_by, with_entries, next_cookie}
+use Rattle.tree_model.specs.Making.{change, joined_by, next_cookie}
 use Rattle.tree_model.specs.Reading.{above}
 use Rattle.tree_model.specs.Creating.{stamped}
 use Rattle.tree_model.specs.Unlinking.{without, parted_by}
-use Rattle.tree_model.specs.Renaming.{above_at, climbs_past, placed_below, moved_below, with_moved}
+use Rattle.tree_model.specs.Renaming.{above_at, climbs_past, moved_below, with_moved}
 use Rattle.tree_model.proofs.Changing.{change_at}
 use Rattle.tree_model.proofs.Naming.{names_in-le, named_is_stored, top_is_unnamed}
 use Rattle.tree_model.proofs.Bodies.{shows_links, with_entries-is_directory, with_entries-listed}
 use Rattle.tree_model.proofs.Bodies.{with_entries-above, with_entries-next, same_some, good_joined}
 use Rattle.tree_model.proofs.Adding.{count_names-push}
 use Rattle.tree_model.proofs.Parting.{good_parted, without-Contains, count_names-without}
-use Rattle.tree_model.proofs.Leaving.{IsEntryIn}
+use Rattle.tree_model.proofs.Moves.{IsMove, above_is, if_there, other_entries, placed-is_directory}
+use Rattle.tree_model.proofs.Moves.{placed-listed, placed-shows, placed-good, placed-above}
+use Rattle.tree_model.proofs.Moves.{without-none, is_made}
 use Rattle.tree_model.proofs.Kin.{change_from, change_to, change_counts, same_counts, all_good}
 use Rattle.tree_model.proofs.Kin.{IsKin, same_kin, kin_trans, step_kin}
 
--- ---- bodies
-
--- a directory with other entries stays below the same directory
-other_entries : (b : Body) (es fs : List DirEntry) (next n up : ℕ) → b ≡ Directory es n up
-    → with_entries b fs next ≡ Directory fs next up
-other_entries b es fs next n up is = ap (λ b. with_entries b fs next) is
-
-placed-is_directory : (dir : ℕ) (b : Body) → is_directory (placed_below dir b) ≡ is_directory b
-placed-is_directory dir (File bytes) = refl
-placed-is_directory dir (Directory es next up) = refl
-placed-is_directory dir (Link target) = refl
-
-placed-listed : (dir : ℕ) (b : Body) → listed (placed_below dir b) ≡ listed b
-placed-listed dir (File bytes) = refl
-placed-listed dir (Directory es next up) = refl
-placed-listed dir (Link target) = refl
-
-placed-shows : (dir : ℕ) (b : Body) (n : ℕ) (linked : Bool)
-    → links_of (placed_below dir b) n linked ≡ links_of b n linked
-placed-shows dir (File bytes) n linked = refl
-placed-shows dir (Directory es next up) n linked = refl
-placed-shows dir (Link target) n linked = refl
-
-placed-good : (dir : ℕ) (b : Body) → IsGoodBody b → IsGoodBody (placed_below dir b)
-placed-good dir (File bytes) good = good
-placed-good dir (Directory es next up) good = good
-placed-good dir (Link target) good = good
-
-placed-above : (dir : ℕ) (b : Body) (es : List DirEntry) (n up : ℕ)
-    → placed_below dir b ≡ Directory es n up → up ≡ dir
-placed-above dir (File bytes) es n up is = absurd (cc)
-placed-above dir (Directory fs m a) es n up is = let same : dir ≡ up = cc in sym same
-placed-above dir (Link target) es n up is = absurd (cc)
-
--- a name that isn't there isn't there without another
-without-none : (name other : List ℕ) (es : List DirEntry) → entry_named other es ≡ None
-    → entry_named other (without name es) ≡ None
-without-none name other [] none = refl
-without-none name other (e ∷ es) none = by_tests (bytes_eq e.name name) (bytes_eq e.name other) refl
-    none (λ none. without-none name other es none) where
-      by_tests : (b c : Bool) → bytes_eq e.name other ≡ c
-          → cond c (Some e) (entry_named other es) ≡ None
-          → (entry_named other es ≡ None → entry_named other (without name es) ≡ None)
-          → entry_named other (cond b es (e ∷ without name es)) ≡ None
-      by_tests b true is none later = absurd (cc)
-      by_tests true false is none later = none
-      by_tests false false is none later = ap (λ c. cond c (Some e)
-          (entry_named other (without name es))) is ∙ later none
-
 -- ---- the move
-
--- what is known of a move: an entry that names the inode, a directory without the new name, with a
--- cookie left, which isn't at or below what moves
-pub record IsMove (t : Tree) (olddir : ℕ) (oldname : List ℕ) (newdir : ℕ) (newname : List ℕ)
-    (ino : ℕ) : Type 0 where
-  pub old : IsEntryIn t.records olddir oldname ino
-  pub n : Record
-  pub there : IsAt t.records newdir n
-  pub directory : is_directory n.body ≡ true
-  pub live : is_linked t.records newdir ≡ true
-  pub new : entry_named newname (listed n.body) ≡ None
-  pub fine : name_fault newname ≡ None
-  pub room : next_cookie n.body < 2 ^ 64 - 1
-  pub steps : ℕ
-  pub past : is_directory_at (body_at t.records ino) ≡ true
-      → climbs_past t.records ino steps newdir ≡ true
 
 module _ (t : Tree) (g : IsGoodTree t) (olddir : ℕ) (oldname : List ℕ) (newdir : ℕ)
     (newname : List ℕ) (ino : ℕ) (w : IsMove t olddir oldname newdir newname ino) where
@@ -391,13 +327,6 @@ module _ (t : Tree) (g : IsGoodTree t) (olddir : ℕ) (oldname : List ℕ) (newd
       ⊎_elim (λ h. placed-above newdir (was.0).body es n up
       (ap (λ (r : Record). r.body) (sym h.1) ∙ is)) (λ h. absurd (h.0 refl)) was.2
 
-  if_there : (P : Record → Type 0) (i : ℕ) → ((y : Record) → IsAt made i y → P y)
-      → IfSome (get made i) P
-  if_there P i all = by_record (get made i) refl where
-    by_record : (o : Option Record) → get made i ≡ o → IfSome o P
-    by_record None at = tt
-    by_record (Some y) at = all y at
-
   lists_it : (y : Record) → IsAt made newdir y → 1 ≤ names_in ino y
   lists_it y at =
       let e = change_from (moved_below t.moment newdir) stamps ino newdir y at in
@@ -416,18 +345,13 @@ module _ (t : Tree) (g : IsGoodTree t) (olddir : ℕ) (oldname : List ℕ) (newd
 
   still_above : (q up : ℕ) → q ≢ ino → IfSome (get rs up) (λ d. 1 ≤ names_in q d)
       → IfSome (get made up) (λ d. 1 ≤ names_in q d)
-  still_above q up ne had = if_there (λ d. 1 ≤ names_in q d) up (λ y at.
+  still_above q up ne had = if_there made (λ d. 1 ≤ names_in q d) up (λ y at.
       let was = from up y at in
       let same = was.2.names q ne in
       let some : 1 ≤ names_in q was.0 = subst (λ o. IfSome o (λ d. 1 ≤ names_in q d)) was.1 had in
       omega arith)
 
   -- ---- climbs
-
-  above_is : (i : ℕ) (r : Record) (es : List DirEntry) (n up : ℕ) → IsAt rs i r
-      → r.body ≡ Directory es n up → above_at rs i ≡ up
-  above_is i r es n up at is = ap (λ o. unwrap_or
-      (option_map above (option_map (λ (r : Record). r.body) o)) 0) at ∙ ap above is
 
   -- a climb that passes the inode is as it was
   climbs_away : (k n i : ℕ) → Climbs rs n i → climbs_past rs ino k i ≡ true → Climbs made n i
@@ -456,15 +380,9 @@ module _ (t : Tree) (g : IsGoodTree t) (olddir : ℕ) (oldname : List ℕ) (newd
               x.1,
               stands.2,
               later
-                  (subst (λ up. climbs_past rs ino k up ≡ true) (above_is i s.0 s.1 s.2 s.3 s.4 s.5)
+                  (subst (λ up. climbs_past rs ino k up ≡ true) (above_is rs i s.0 s.1 s.2 s.3 s.4 s.5)
                   past),
             )
-
-  is_made : (b : Body) → is_directory b ≡ true → (es : List DirEntry) × (n : ℕ) × (up : ℕ)
-      × (b ≡ Directory es n up)
-  is_made (File bytes) is = absurd (false≢true is)
-  is_made (Directory es n up) is = (es, n, up, refl)
-  is_made (Link target) is = absurd (false≢true is)
 
   -- a climb goes on from the new directory where it comes to what moves
   climbs_over : (n i : ℕ) → Climbs rs n i → (is_directory_at (body_at rs ino) ≡ true → (k : ℕ)
@@ -532,7 +450,7 @@ module _ (t : Tree) (g : IsGoodTree t) (olddir : ℕ) (oldname : List ℕ) (newd
           stored newdir (subst IsSome (sym w.there) refl),
           subst
               (λ q. IfSome (get made newdir) (λ d. 1 ≤ names_in q d)) (sym eq)
-              (if_there (λ d. 1 ≤ names_in ino d) newdir lists_it),
+              (if_there made (λ d. 1 ≤ names_in ino d) newdir lists_it),
         ))
         (λ nq.
         let was = from q x at in

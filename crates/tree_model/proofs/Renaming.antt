@@ -31,7 +31,8 @@ use Rattle.tree_model.proofs.Bodies.{with_entries-next}
 use Rattle.tree_model.proofs.Naming.{found_among-exact}
 use Rattle.tree_model.proofs.Keeping.{keep_good}
 use Rattle.tree_model.proofs.Leaving.{IsEntryIn, entry_in, without_good, without_live}
-use Rattle.tree_model.proofs.Moving.{IsMove, moved_good}
+use Rattle.tree_model.proofs.Moves.{IsMove}
+use Rattle.tree_model.proofs.Moving.{moved_good}
 
 -- ---- lists without a name
 

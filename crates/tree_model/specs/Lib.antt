@@ -11,8 +11,10 @@ pub mod Opening
 pub mod Samples
 pub mod Placing
 pub mod Attributing
+pub mod AttributeSteps
 pub mod Unlinking
 pub mod Creating
 pub mod Renaming
 pub mod Chains
 pub mod Pages
+pub mod OpenedFiles

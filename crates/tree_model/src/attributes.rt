@@ -30,6 +30,9 @@ pub const DT_REG: u8 = 8;
 /// The type of a symbolic link in an entry of a listing (readdir(3), `d_type`).
 pub const DT_LNK: u8 = 10;
 
+/// The number of a user or group that leaves it as it is (`chown(2)`).
+pub const UNCHANGED_ID: u32 = 4294967295;
+
 /// A moment: seconds since 1970 and nanoseconds, which are below 1000000000.
 #[derive(Clone, Copy, Debug, PartialEq, Eq)]
 pub struct Stamp {

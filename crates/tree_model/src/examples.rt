@@ -22,6 +22,9 @@ ghost use Rattle.tree_model.specs.Attributing.{resized, written, fitting, set_le
 ghost use Rattle.tree_model.specs.Attributing.{set_times_of, refused_for_link, with_changed};
 ghost use Rattle.tree_model.specs.Attributing.{retimed, rewritten_at, set_mode_of, remoded};
 ghost use Rattle.tree_model.specs.Attributing.{set_owner_of, owned_by, touch_ctime_of, restamped};
+ghost use Rattle.tree_model.specs.AttributeSteps.{new_owner, new_time, size_refused};
+ghost use Rattle.tree_model.specs.declared.attributes.TheConstants.{UNCHANGED_ID};
+ghost use Rattle.tree_model.specs.declared.attributes.TimeSet.TheVariants.{Keep, Now, At};
 ghost use Rattle.tree_model.specs.Opening.{open_check_of, open_refused, read_of, readlink_of};
 ghost use Rattle.tree_model.specs.Opening.{readlink_body, found_at};
 ghost use Rattle.tree_model.specs.Attributes.{attr_of, entry_type, qid_of, statfs_of, stat_of};
@@ -32,7 +35,6 @@ ghost use Rattle.tree_model.specs.Unlinking.{without, parted_by, links_left, wit
 ghost use Rattle.tree_model.specs.Unlinking.{unless_directory, if_empty, unlink_of, rmdir_of};
 ghost use Rattle.tree_model.specs.Renaming.{climbs_past, is_at_or_below, place_refused};
 ghost use Rattle.tree_model.specs.Renaming.{has_no_room, placed_below, with_moved, rename_of};
-ghost use Rattle.tree_model.specs.declared.attributes.TimeSet.TheVariants.{Keep, Now, At};
 
 /// Opens of the file and of the directory, and the kinds that flags refuse.
 pub fn opening()
@@ -297,4 +299,18 @@ pub fn renaming()
     ensures full { has_no_room 0 true (Directory [] 1 1) ≡ true }
     ensures as_many { has_no_room 0 false (Directory [] 1 1) ≡ false }
     ensures below { placed_below 7 (Directory [] 1 1) ≡ Directory [] 1 7 }
+{}
+
+/// Attributes that are set: who owns a file, what becomes of a time, and what refuses a size.
+pub fn new_attributes()
+    ensures owner { new_owner true 5 ≡ Some 5 }
+    ensures same_owner { new_owner true UNCHANGED_ID ≡ None }
+    ensures no_owner { new_owner false 5 ≡ None }
+    ensures kept { new_time false true born ≡ Keep }
+    ensures moment { new_time true false born ≡ Now }
+    ensures given { new_time true true born ≡ At born }
+    ensures to_read { size_refused true (File []) ≡ Some EINVAL }
+    ensures to_write { size_refused false (File []) ≡ None }
+    ensures directory { size_refused false (Directory [] 1 1) ≡ Some EISDIR }
+    ensures link { size_refused false (Link []) ≡ Some ELOOP }
 {}
