@@ -6,16 +6,18 @@ use Rattle.std.specs.FinMap as map
 use Rattle.port_base.specs.declared.errno.TheConstants.{EIO}
 use Rattle.tree_model.specs.Tree.{Tree}
 use Rattle.p9_tmsg.specs.Messages.{Message, message_of}
-use Rattle.p9_tmsg.specs.Messages.Message.{lcreate as t_lcreate}
+use Rattle.p9_tmsg.specs.Messages.Message.{lcreate as t_lcreate, lopen as t_lopen}
 use Rattle.p9_tmsg.specs.declared.message.Tmessage.TheVariants as variant
 use Rattle.p9_tmsg.specs.declared.message.Tsetattr.{Tsetattr}
 use Rattle.p9_rmsg.specs.Replies.{Reply}
 use Rattle.p9_rmsg.specs.Replies.Reply.{lerror as r_lerror}
 use Rattle.fid_model.specs.Fids.{Fid, ServerState, IsGoodServer, kept_state}
-use Rattle.fid_model.specs.Answers.{answer, core, lcreate_answer, setattr_by, setattr_reply}
+use Rattle.fid_model.specs.Answers.{answer, core, lcreate_answer, lopen_answer, lopen_by, open_of}
+use Rattle.fid_model.specs.Answers.{setattr_by, setattr_reply}
 use Rattle.fid_model.specs.Files.{new_file_of}
 use Rattle.fid_model.specs.FidCalls.{by_fid, told_answer}
-use Rattle.fid_model.specs.Setattr.{run, steps}
+use Rattle.tree_model.specs.AttributeSteps.{run}
+use Rattle.fid_model.specs.Setattr.{steps}
 use Rattle.fid_model.specs.TreeCalls.{tree_answer}
 use Rattle.fid_model.specs.Handling.{IsHurtReply}
 use Rattle.fid_model.specs.Parts.{IsPartDone, IsBeforeOrAfter}
@@ -25,8 +27,9 @@ use Rattle.fid_model.proofs.Moments.{keeps_refl}
 use Rattle.p9_client.specs.Asking.{IsExchanged, IsUnfinishedAt}
 use Rattle.p9_client.specs.Changing.{FrontOrTold, Gives, OldOrTold, changed, changes_of, done}
 use Rattle.p9_client.specs.Changing.{set_by, set_told}
-use Rattle.p9_client.specs.Opening.{created, created_told}
-use Rattle.p9_client.specs.Views.{create_view}
+use Rattle.p9_client.specs.Opening.{created, created_told, emptied_by, emptied_told}
+use Rattle.p9_client.specs.Opening.{opened_or_emptied}
+use Rattle.p9_client.specs.Views.{create_view, open_view}
 use Rattle.p9_client.proofs.Telling.{Tells, answered, unfinished}
 
 -- all was done, or it was refused
@@ -152,6 +155,39 @@ module _ (s : ServerState) (g : IsGoodServer s) (fid flags : ℕ) where
         leaves = λ t h. ⊎_elim (λ same. inl same)
             (λ e. inr (e ∙ ap (λ (x : ServerState). x.tree) (created_left r))) h;
       }
+
+  -- ---- files that may be emptied
+
+  emptied_seen : (f : Fid) (r : Result (Unit {0} × Tree) ℕ)
+      → open_view (lopen_answer s fid flags f r).0 ≡ Some (opened_or_emptied s fid flags f r).0
+  emptied_seen f (Ok (u, t)) = refl
+  emptied_seen f (Err e) = refl
+
+  emptied_left : (f : Fid) (r : Result (Unit {0} × Tree) ℕ)
+      → kept_state (lopen_answer s fid flags f r).1 ≡ (opened_or_emptied s fid flags f r).1
+  emptied_left f (Ok (u, t)) = refl
+  emptied_left f (Err e) = kept_state_good s g
+
+  seen_of_fid : (o : Option Fid)
+      → open_view (lopen_by s fid flags o).0 ≡ Some (emptied_by s fid flags o).0
+  seen_of_fid None = refl
+  seen_of_fid (Some f) = emptied_seen f (open_of s.tree f.ino flags)
+
+  left_of_fid : (o : Option Fid)
+      → kept_state (lopen_by s fid flags o).1 ≡ (emptied_by s fid flags o).1
+  left_of_fid None = kept_state_good s g
+  left_of_fid (Some f) = emptied_left f (open_of s.tree f.ino flags)
+
+  pub emptied_tells : Tells open_view s (t_lopen fid flags) (emptied_told s fid flags)
+      (OldOrTold (emptied_told s fid flags))
+  emptied_tells = record {
+    seen = seen_of_fid (map.get s.fids fid);
+    state = left_of_fid (map.get s.fids fid);
+    whole = inr refl;
+    hurt = λ r h. ap open_view h;
+    leaves = λ t h. ⊎_elim (λ same. inl same)
+        (λ e. inr (e ∙ ap (λ (x : ServerState). x.tree) (left_of_fid (map.get s.fids fid)))) h;
+  }
 
 set_seen : (r : Result (Unit {0}) ℕ) → done (setattr_reply r) ≡ r
 set_seen (Ok u) = refl

@@ -40,7 +40,8 @@ use Rattle.fid_model.specs.Answers.{setattr_reply}
 use Rattle.fid_model.specs.FidCalls.{told_answer, by_fid}
 use Rattle.fid_model.specs.TreeCalls.{tree_answer}
 use Rattle.fid_model.specs.Directories.{mkdir_told, link_told, renameat_told, unlinkat_told}
-use Rattle.fid_model.specs.Setattr.{Changes, changes, run, steps}
+use Rattle.tree_model.specs.AttributeSteps.{run}
+use Rattle.fid_model.specs.Setattr.{Changes, changes, steps}
 use Rattle.fid_model.specs.Sessions.{lock_told, getlock_told}
 use Rattle.fid_model.specs.Files.{statfs_reply, statfs_told, fsync_told, readlink_told, new_file_of}
 use Rattle.fid_model.specs.Files.{write_told}

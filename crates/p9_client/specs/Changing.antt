@@ -7,7 +7,8 @@ use Rattle.p9_rmsg.specs.Replies.{Reply}
 use Rattle.p9_rmsg.specs.Replies.Reply.{lerror as r_lerror}
 use Rattle.p9_tmsg.specs.declared.message.Tsetattr.{Tsetattr}
 use Rattle.fid_model.specs.Fids.{ServerState, Fid, kept_state}
-use Rattle.fid_model.specs.Setattr.{Changes as Changed, changes, run, steps, steps_at, IsAfterFront}
+use Rattle.tree_model.specs.AttributeSteps.{run, IsAfterFront}
+use Rattle.fid_model.specs.Setattr.{Changes as Changed, changes, steps, steps_at}
 use Rattle.fid_model.specs.Moments.{Moment, Answered, Keeps, Untouched}
 
 -- ---- what is told

@@ -10,7 +10,8 @@ ghost use Rattle.fid_model.specs.Fids.OpenState.{Opened};
 ghost use Rattle.tree_model.specs.Samples.{hello};
 ghost use Rattle.fid_model.specs.Samples.{server, with_listing, with_open, top_qid};
 ghost use Rattle.fid_model.specs.Setattr.{changes};
-ghost use Rattle.p9_client.specs.Opening.{created, opened_told, is_readable_at, read_told};
+ghost use Rattle.p9_client.specs.Opening.{created, emptied_by, opened_told, is_readable_at};
+ghost use Rattle.p9_client.specs.Opening.{read_told};
 ghost use Rattle.p9_client.specs.Changing.{changed, done, set_by};
 ghost use Rattle.p9_client.specs.Listing.{entries_told};
 
@@ -58,4 +59,5 @@ pub fn changing()
     ensures no_fid { set_by server (changes 1 384 0 0 0 0 0 0 0) None ≡ (Err EBADF, server) }
     ensures failed { done (r_lerror EIO) ≡ Err EIO }
     ensures all_done { done r_link ≡ Ok tt }
+    ensures not_opened { emptied_by server 9 512 None ≡ (Err EBADF, server) }
 {}

@@ -11,7 +11,7 @@ ghost use Rattle.p9_tmsg.specs.Messages.Message.{walk};
 ghost use Rattle.fid_model.specs.Calls.{attach_told, walk_one_told};
 ghost use Rattle.fid_model.specs.Moments.{Answered, FidAnswered, Keeps, SameTree, Untouched};
 ghost use Rattle.p9_client.specs.Views.{IsRoomy, FidGone, FidGoneOrNot, qid_answer};
-ghost use Rattle.p9_client.specs.Opening.{copied_told, created_told, opened_told};
+ghost use Rattle.p9_client.specs.Opening.{copied_told, created_told, emptied_told, opened_told};
 ghost use Rattle.p9_client.specs.Changing.{Changes};
 
 use crate::exchange::exchange;
@@ -149,6 +149,25 @@ pub fn open<N: Nine>(
 {
     let message = Tmessage::Lopen(Tlopen { fid, flags });
     match exchange(alloc, nine, &message)? {
+        Rmessage::Lopen(reply) => Ok(Ok(reply.qid)),
+        Rmessage::Lerror(reply) => Ok(Err(reply.ecode)),
+        _ => unreachable!(),
+    }
+}
+
+/// Opens a fid by flags of `open(2)` that may have O_TRUNC among them, which empties the file.
+pub fn open_truncated<N: Nine>(
+    alloc: Global,
+    nine: &mut N,
+    fid: u32,
+    flags: u32,
+) -> Result<Result<Qid, u32>, NoMemory>
+    requires roomy { IsRoomy (N.at nine.old).state }
+    ensures { Changes qid_answer (λ s. emptied_told s fid flags) result
+        (N.at nine.old) (N.at nine.new) }
+{
+    let opened = Tlopen { fid, flags };
+    match exchange(alloc, nine, &Tmessage::Lopen(opened))? {
         Rmessage::Lopen(reply) => Ok(Ok(reply.qid)),
         Rmessage::Lerror(reply) => Ok(Err(reply.ecode)),
         _ => unreachable!(),

@@ -1,10 +1,9 @@
 -- Tlcreate: the fid of a directory names a new file.
-use Rattle.std.proofs.Common.{◌≡◌, ◌⊎◌, inl, inr, ⊎_elim, ℕ, ◌+◌, ◌<◌, ◌≤◌, Bool, true, cond, List}
+use Rattle.std.proofs.Common.{◌≡◌, ◌⊎◌, inl, inr, ⊎_elim, ℕ, ◌+◌, ◌<◌, Bool, true, cond, List}
 use Rattle.std.proofs.Common.{refl, sym, ap, ◌∙◌, subst, Option, Some, None, Result, Ok, Err, arith}
 use Rattle.std.specs.Prelude.{◌==◌, is_some}
 use Rattle.std.specs.FinMap.{get, insert, len, len-insert, contains_key}
 use Rattle.std.specs.Cmp.{nat_cmp_total}
-use Rattle.port_base.specs.Names.{name_fault}
 use Rattle.port_base.specs.declared.errno.TheConstants.{EBADF}
 use Rattle.tree_model.specs.Tree.{Tree, keep, is_linked, body_at, is_directory_at}
 use Rattle.tree_model.specs.Good.{IsGoodTree}
@@ -22,10 +21,9 @@ use Rattle.p9_wire.specs.declared.qid.Qid.{Qid as QidStruct}
 use Rattle.p9_wire.specs.Qids.{qid_of as qid_plain}
 use Rattle.p9_tmsg.specs.Messages.Message.{lcreate}
 use Rattle.p9_rmsg.specs.Replies.{Reply}
-use Rattle.p9_rmsg.specs.Replies.Reply.{lcreate as r_lcreate, lerror}
+use Rattle.p9_rmsg.specs.Replies.Reply.{lcreate as r_lcreate}
 use Rattle.fid_model.specs.Fids.{Fids, Fid, ServerState, closed, fid_weight, fid_count, kept_state}
 use Rattle.fid_model.specs.Fids.{is_held as is_named}
-use Rattle.fid_model.specs.FidCalls.{by_fid}
 use Rattle.fid_model.specs.TreeCalls.{unless_some}
 use Rattle.fid_model.specs.Files.{new_file_of, new_file_refused}
 use Rattle.fid_model.specs.Answers.{core, answer, opened, lcreate_answer, qid_told}

@@ -1,6 +1,6 @@
 -- Treaddir: the page of a directory that a fid has open, or all is as it was.
-use Rattle.std.proofs.Common.{◌≡◌, ℕ, Bool, true, false, cond, not, List, sym, ap, ◌∙◌, subst, refl}
-use Rattle.std.proofs.Common.{Option, Some, None, Result, Ok, Err}
+use Rattle.std.proofs.Common.{◌≡◌, ℕ, Bool, true, false, cond, not, List, ap, ◌∙◌, refl}
+use Rattle.std.proofs.Common.{Some, Result, Ok, Err}
 use Rattle.std.specs.Result.{IsErrAnd}
 use Rattle.std.specs.FinMap.{get}
 use Rattle.port_base.specs.declared.errno.TheConstants.{EBADF, ENOTDIR}
@@ -14,13 +14,13 @@ use Rattle.tree_host.specs.Calls.{Causes}
 use Rattle.p9_rmsg.specs.Replies.{Reply}
 use Rattle.p9_rmsg.specs.Replies.Reply.{readdir as was_listed}
 use Rattle.p9_tmsg.specs.Messages.Message.{readdir}
-use Rattle.fid_model.specs.Fids.{Fids, Fid, OpenState, ServerState, is_open, is_held as is_named}
+use Rattle.fid_model.specs.Fids.{Fids, Fid, ServerState, is_open, is_held as is_named}
 use Rattle.fid_model.specs.FidCalls.{by_fid}
 use Rattle.fid_model.specs.Listings.{listed_page, page_by, page_room}
 use Rattle.p9_server.specs.Paging.{page_told}
 use Rattle.p9_server.specs.Steps.{IsStep, server_state, ino_told, open_told}
 use Rattle.p9_server.proofs.Showing.{passed_on}
-use Rattle.p9_server.proofs.Asking.{by_known, told_step, refused_step, refused_so, failed_step}
+use Rattle.p9_server.proofs.Asking.{by_known, told_step, refused_so, failed_step}
 
 -- ---- by whether it is a directory, and is open
 

@@ -1,43 +1,26 @@
 -- A page of a directory: entry by entry what is added to it, and what a fid is answered.
-use Rattle.std.proofs.Common.{◌≡◌, ℕ, ◌+◌, ◌-◌, ◌<◌, ◌≤◌, Bool, true, false, cond, not, List, []}
+use Rattle.std.proofs.Common.{◌≡◌, ℕ, ◌-◌, ◌<◌, ◌≤◌, Bool, true, false, cond, List, []}
 use Rattle.std.proofs.Common.{◌∷◌, ◌++◌, length, refl, sym, ap, ◌∙◌, subst, Option, Some, None}
 use Rattle.std.proofs.Common.{Result, Ok, Err, arith, append_assoc, append-nil, length-append}
-use Rattle.std.specs.Prelude.{flat_map, min, option_and_then}
-use Rattle.std.specs.Result.{IsErrAnd}
-use Rattle.std.proofs.lemmas.Bool.{cases_lt}
+use Rattle.std.specs.Prelude.{option_and_then}
 use Rattle.std.proofs.lemmas.List.Concat.{flat_map-cons}
-use Rattle.std.specs.FinMap.{get}
-use Rattle.port_base.specs.Names.{name_fault}
-use Rattle.port_base.specs.declared.errno.TheConstants.{EBADF, ENOTDIR}
-use Rattle.p9_wire.specs.declared.protocol.TheConstants.{DIRENT_HEADER_SIZE}
-use Rattle.tree_model.specs.Tree.{Tree, Body, DirEntry, body_at, is_directory, is_directory_at}
+use Rattle.port_base.specs.declared.errno.TheConstants.{ENOTDIR}
+use Rattle.tree_model.specs.Tree.{Tree, Body, body_at, is_directory_at}
 use Rattle.tree_model.specs.Tree.Body.{File, Directory, Link}
 use Rattle.tree_model.specs.Good.{IsGoodTree}
-use Rattle.tree_model.specs.Finding.{entries_at, entries_of}
+use Rattle.tree_model.specs.Finding.{entries_of}
 use Rattle.tree_model.specs.Attributes.{Qid, qid_of, entry_type}
 use Rattle.p9_wire.specs.Values.{qid_spelling, le16, le64}
 use Rattle.tree_model.specs.Reading.{Entry, entry_after_of, entry_after_among}
-use Rattle.tree_model.specs.Sound.{IsKept}
-use Rattle.tree_model.specs.Settings.{Settings}
 use Rattle.tree_model.specs.declared.attributes.HostError.{HostError}
 use Rattle.tree_model.specs.declared.attributes.HostError.TheVariants.{Errno, Fault, NoMemory}
 use Rattle.tree_model.specs.Pages.{page_of}
 use Rattle.tree_model.proofs.Pages.{page_ends, page_takes, page_stops, named_after}
 use Rattle.tree_host.specs.Host.{Answers}
-use Rattle.tree_host.specs.Calls.{Causes}
 use Rattle.p9_rmsg.specs.Dirents.{dirent_spelling}
-use Rattle.p9_rmsg.specs.Replies.{Reply}
-use Rattle.p9_rmsg.specs.Replies.Reply.{readdir as was_listed, lerror}
-use Rattle.p9_tmsg.specs.Messages.Message.{readdir}
-use Rattle.fid_model.specs.Fids.{Fids, Fid, OpenState, ServerState, is_open, is_held as is_named}
-use Rattle.fid_model.specs.FidCalls.{by_fid}
 use Rattle.fid_model.specs.Listings.{entry_told, entry_size, entries_spelling, listed_page}
-use Rattle.fid_model.specs.Listings.{page_by, page_room}
 use Rattle.fid_model.proofs.Listings.{length-entry}
 use Rattle.p9_server.specs.Paging.{page_told, Takes}
-use Rattle.p9_server.specs.Steps.{IsStep, server_state, ino_told, open_told}
-use Rattle.p9_server.proofs.Showing.{passed_on}
-use Rattle.p9_server.proofs.Asking.{by_known, told_step, refused_so, failed_step}
 
 -- ---- an entry's bytes
 

@@ -1,14 +1,13 @@
 -- A session begins without fids.
 use Rattle.std.proofs.Common.{◌≡◌, ℕ, ◌≤◌, ◌<◌, ◌^◌, Bool, true, false, cond, List, length, refl}
-use Rattle.std.proofs.Common.{sym, ap, ◌∙◌, subst, Result, Ok, Err, OnOk, arith}
+use Rattle.std.proofs.Common.{sym, ap, ◌∙◌, subst, Ok, Err, arith}
 use Rattle.std.specs.Prelude.{min, nat_lt, codes, bytes_eq}
 use Rattle.std.specs.FinMap.{empty}
 use Rattle.port_base.specs.declared.errno.TheConstants.{EINVAL}
 use Rattle.tree_model.specs.Tree.{Tree, keep}
 use Rattle.tree_model.specs.Sound.{IsKept}
 use Rattle.tree_model.specs.Settings.{Settings}
-use Rattle.tree_model.specs.declared.attributes.HostError.{HostError}
-use Rattle.tree_model.specs.declared.attributes.HostError.TheVariants.{Errno, NoMemory}
+use Rattle.tree_model.specs.declared.attributes.HostError.TheVariants.{Errno}
 use Rattle.p9_tmsg.specs.Messages.Message.{version}
 use Rattle.p9_rmsg.specs.Replies.{Reply}
 use Rattle.p9_rmsg.specs.Replies.Reply.{version as agreed, lerror}
@@ -16,7 +15,7 @@ use Rattle.fid_model.specs.Fids.{Fids, ServerState, kept_state, is_held as is_na
 use Rattle.fid_model.specs.Sessions.{spoken}
 use Rattle.fid_model.specs.Answers.{core}
 use Rattle.p9_server.specs.Steps.{IsStep, server_state}
-use Rattle.p9_server.proofs.Stepping.{pair, step_ok, step_refused, step_no_memory}
+use Rattle.p9_server.proofs.Stepping.{pair, step_ok, step_refused}
 
 -- what is spoken is short
 spoken_for : (b : Bool) → length (cond b (codes "9P2000.L") (codes "unknown")) ≤ 8

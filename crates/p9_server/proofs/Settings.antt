@@ -1,24 +1,23 @@
 -- Steps of a Tsetattr, one after another.
-use Rattle.std.proofs.Common.{◌≡◌, ◌⊎◌, inl, inr, ⊎_elim, ℕ, ◌+◌, ◌<◌, ◌≤◌, ◌^◌, Bool, true, false}
-use Rattle.std.proofs.Common.{cond, ◌&&◌, List, [], ◌∷◌, ◌++◌, refl, sym, ap, ◌∙◌, subst, Option}
+use Rattle.std.proofs.Common.{◌≡◌, inl, inr, ⊎_elim, ℕ, ◌<◌, ◌≤◌, ◌^◌, Bool, true, false}
+use Rattle.std.proofs.Common.{cond, ◌&&◌, ◌||◌, List, [], ◌∷◌, ◌++◌, refl, sym, ap, ◌∙◌, subst, Option}
 use Rattle.std.proofs.Common.{Some, None, Result, Ok, Err, arith}
 use Rattle.std.specs.Prelude.{min, MatchResult, option_map, nat_lt, ◌-◌}
 use Rattle.std.proofs.lemmas.Bool.Decides.{nat_tests}
 use Rattle.std.specs.FinMap.{get}
-use Rattle.port_base.specs.declared.errno.TheConstants.{EBADF, EINVAL, EIO}
+use Rattle.port_base.specs.declared.errno.TheConstants.{EBADF, EINVAL}
 use Rattle.tree_model.specs.Tree.{Tree, Record, Body, body_at}
 use Rattle.tree_model.specs.Tree.Body.{File, Directory, Link}
 use Rattle.tree_model.specs.Sound.{IsKept, AreStored}
 use Rattle.tree_model.specs.Settings.{Settings}
 use Rattle.tree_model.specs.Attributes.{stat_of, attr_or_missing, attr_of, kind_of}
 use Rattle.tree_model.specs.Attributing.{refused_at, set_len_of, set_times_of, is_timely}
-use Rattle.tree_model.specs.Attributing.{times_refused, with_changed, retimed}
+use Rattle.tree_model.specs.Attributing.{with_changed, retimed}
 use Rattle.tree_model.specs.Making.{unless_refused}
 use Rattle.tree_model.specs.declared.attributes.Attr.{Attr}
-use Rattle.tree_model.specs.declared.attributes.Kind.{Kind}
 use Rattle.tree_model.specs.declared.attributes.Stamp.{Stamp}
 use Rattle.tree_model.specs.declared.attributes.TimeSet.{TimeSet}
-use Rattle.tree_model.specs.declared.attributes.TimeSet.TheVariants.{Keep, Now, At}
+use Rattle.tree_model.specs.declared.attributes.TimeSet.TheVariants.{At}
 use Rattle.tree_model.specs.declared.attributes.HostError.{HostError}
 use Rattle.tree_model.specs.declared.attributes.HostError.TheVariants.{Errno, Fault, NoMemory}
 use Rattle.tree_host.specs.Holds.{Holds, hold_count, is_held}
@@ -26,13 +25,15 @@ use Rattle.tree_host.specs.Host.{Answers, Leaves}
 use Rattle.tree_host.specs.Calls.{Causes}
 use Rattle.p9_tmsg.specs.Messages.Message.{setattr}
 use Rattle.p9_rmsg.specs.Replies.{Reply}
-use Rattle.p9_rmsg.specs.Replies.Reply.{setattr as were_set, lerror}
+use Rattle.p9_rmsg.specs.Replies.Reply.{setattr as were_set}
 use Rattle.fid_model.specs.Fids.{Fids, Fid, OpenState, ServerState, kept_state, is_held as is_named}
-use Rattle.fid_model.specs.Setattr.{Step, IsAfterFront, Changes, changes, ctime_steps, mode_steps}
-use Rattle.fid_model.specs.Setattr.{owner_steps, size_steps, times_steps, new_time, resize_step}
-use Rattle.fid_model.specs.Setattr.{run, run_on, size_refused, step_if, step_unless, steps}
+use Rattle.tree_model.specs.AttributeSteps.{Step, IsAfterFront, ctime_steps}
+use Rattle.tree_model.specs.AttributeSteps.{mode_steps, owner_steps, size_steps, times_steps}
+use Rattle.tree_model.specs.AttributeSteps.{new_time, resize_step, run, run_on, size_refused}
+use Rattle.tree_model.specs.AttributeSteps.{step_if, step_unless}
+use Rattle.fid_model.specs.Setattr.{Changes, changes, is_open_to_read_alone, new_attributes, steps}
 use Rattle.fid_model.specs.Setattr.{steps_at}
-use Rattle.fid_model.specs.Answers.{core, answer, setattr_by, setattr_reply}
+use Rattle.fid_model.specs.Answers.{answer, setattr_by, setattr_reply}
 use Rattle.fid_model.proofs.FidCounts.{fid_count-named}
 use Rattle.fid_model.proofs.Keeping.{kept_state_kept}
 use Rattle.p9_server.specs.Holding.{AreFids}
@@ -40,6 +41,9 @@ use Rattle.p9_server.specs.Setting.{Runs, kind_size_refused}
 use Rattle.p9_server.specs.Steps.{IsStep, server_state}
 use Rattle.p9_server.proofs.Stepping.{pair, not_steady, step_ok, step_errno, step_refused}
 use Rattle.p9_server.proofs.Taking.{only_fault}
+use Rattle.port_base.specs.OpenFlags.{has_flag}
+use Rattle.fid_model.specs.declared.setattr.TheConstants.{P9_SETATTR_ATIME, P9_SETATTR_ATIME_SET}
+use Rattle.fid_model.specs.declared.setattr.TheConstants.{P9_SETATTR_MTIME, P9_SETATTR_MTIME_SET}
 
 -- ---- one list of steps behind another
 
@@ -161,25 +165,25 @@ body_by i (Some r) a is = (
       (let same : attr_of i r ≡ a = cc in same),
 )
 
-kind_by : (state : OpenState) (b : Body) → size_refused state b ≡ kind_size_refused state
+kind_by : (state : OpenState) (b : Body) → size_refused (is_open_to_read_alone state) b ≡ kind_size_refused state
     (kind_of b)
 kind_by state (File bytes) = refl
 kind_by state (Directory es next above) = refl
 kind_by state (Link target) = refl
 
 module _ (f : Fid) (size : ℕ) (t : Tree) (a : Attr) (told : stat_of t f.ino ≡ Ok a) where
-  size_by : refused_at (size_refused f.open_state) (body_at t.records f.ino) ≡ kind_size_refused
+  size_by : refused_at (size_refused (is_open_to_read_alone f.open_state)) (body_at t.records f.ino) ≡ kind_size_refused
       f.open_state a.kind
   size_by = let b = body_by f.ino (get t.records f.ino) a told in ap
-      (refused_at (size_refused f.open_state)) b.1 ∙ kind_by f.open_state b.0
+      (refused_at (size_refused (is_open_to_read_alone f.open_state))) b.1 ∙ kind_by f.open_state b.0
       ∙ ap (kind_size_refused f.open_state) b.2
 
   pub unsized : (e : ℕ) → Some e ≡ kind_size_refused f.open_state a.kind
-      → resize_step f size t ≡ Err e
+      → resize_step (is_open_to_read_alone f.open_state) f.ino size t ≡ Err e
   unsized e is = ap (λ (o : Option ℕ). step_unless o (set_len_of t f.ino size)) (size_by ∙ sym is)
 
   pub resized : None ≡ kind_size_refused f.open_state a.kind
-      → resize_step f size t ≡ set_len_of t f.ino size
+      → resize_step (is_open_to_read_alone f.open_state) f.ino size t ≡ set_len_of t f.ino size
   resized is = ap (λ (o : Option ℕ). step_unless o (set_len_of t f.ino size)) (size_by ∙ sym is)
 
 -- the host fails to tell the kind of what is held by a fault alone
@@ -187,10 +191,10 @@ pub unstated : (f : Fid) (size : ℕ) (t u : Tree) (h : Holds) → AreStored t.r
     → 0 < hold_count h f.ino → u ≡ t → (e : HostError)
     → Answers {A = Attr} (stat_of t f.ino) (Err e)
     → (◌≡◌ {A = Result Attr HostError} (Err e) (Err NoMemory) → ⊥)
-    → Leaves {A = Unit {0}} (resize_step f size t) t u (Err e)
+    → Leaves {A = Unit {0}} (resize_step (is_open_to_read_alone f.open_state) f.ino size t) t u (Err e)
 unstated f size t u h stored held same e a other =
     let is : e ≡ Fault = let fault = only_fault t h f.ino stored held e a other in cc in
-    subst (λ (e : HostError). Leaves {A = Unit {0}} (resize_step f size t) t u (Err e)) (sym is)
+    subst (λ (e : HostError). Leaves {A = Unit {0}} (resize_step (is_open_to_read_alone f.open_state) f.ino size t) t u (Err e)) (sym is)
     (record { exactly = same })
 
 -- ---- times
@@ -265,6 +269,23 @@ clamped_times t ino set0 given0 set1 given1 s0 s1 =
           (refused_at (λ x. cond b None (Some EINVAL)) (body_at t.records ino)) tt
           (late (new_time set0 given0 s0) (new_time set1 given1 s1))) is)
 
+-- times that a host set, with its nanoseconds
+pub times_run : (c : Changes) (ino : ℕ) (t u : Tree) (r : Result (Unit {0}) HostError)
+    → (has_flag P9_SETATTR_ATIME c.valid || has_flag P9_SETATTR_MTIME c.valid) ≡ true
+    → Leaves (set_times_of t ino
+    (new_time (has_flag P9_SETATTR_ATIME c.valid) (has_flag P9_SETATTR_ATIME_SET c.valid)
+    (clamped c.atime))
+    (new_time (has_flag P9_SETATTR_MTIME c.valid) (has_flag P9_SETATTR_MTIME_SET c.valid)
+    (clamped c.mtime))) t u r
+    → Runs (times_steps ino (new_attributes c)) t u r
+times_run c ino t u r wanted l = runs_step
+    (has_flag P9_SETATTR_ATIME c.valid || has_flag P9_SETATTR_MTIME c.valid)
+    (λ t. set_times_of t ino (new_attributes c).atime (new_attributes c).mtime) t u r wanted
+    (subst (λ (x : Result (Unit {0} × Tree) ℕ). Leaves x t u r)
+    (clamped_times t ino (has_flag P9_SETATTR_ATIME c.valid)
+    (has_flag P9_SETATTR_ATIME_SET c.valid) (has_flag P9_SETATTR_MTIME c.valid)
+    (has_flag P9_SETATTR_MTIME_SET c.valid) c.atime c.mtime) l)
+
 -- ---- the step
 
 module _ (t : Tree) (fids : Fids) (msize : ℕ) (settings : Settings)
@@ -333,38 +354,38 @@ module _ (t : Tree) (fids : Fids) (msize : ℕ) (settings : Settings)
 
 -- ---- all steps
 
-module _ (c : Changes) (f : Fid) (t0 t1 t2 t3 : Tree) (mode : Runs (mode_steps c f) t0 t1 (Ok tt))
-    (owner : Runs (owner_steps c f) t1 t2 (Ok tt)) where
+module _ (c : Changes) (f : Fid) (t0 t1 t2 t3 : Tree) (mode : Runs (mode_steps f.ino (new_attributes c)) t0 t1 (Ok tt))
+    (owner : Runs (owner_steps f.ino (new_attributes c)) t1 t2 (Ok tt)) where
   abbrev owned : List Step
-  owned = mode_steps c f ++ owner_steps c f
+  owned = mode_steps f.ino (new_attributes c) ++ owner_steps f.ino (new_attributes c)
 
   to_owner : Runs owned t0 t2 (Ok tt)
-  to_owner = runs_then (mode_steps c f) (owner_steps c f) t0 t1 t2 (Ok tt) mode owner
+  to_owner = runs_then (mode_steps f.ino (new_attributes c)) (owner_steps f.ino (new_attributes c)) t0 t1 t2 (Ok tt) mode owner
 
   abbrev sized : List Step
-  sized = owned ++ size_steps c f
+  sized = owned ++ size_steps (is_open_to_read_alone f.open_state) f.ino (new_attributes c)
 
   -- an error at the size
-  pub size_stopped : (e : HostError) → Runs (size_steps c f) t2 t3 (Err e)
+  pub size_stopped : (e : HostError) → Runs (size_steps (is_open_to_read_alone f.open_state) f.ino (new_attributes c)) t2 t3 (Err e)
       → Runs (steps c f) t0 t3 (Err e)
   size_stopped e size =
-      runs_stopped (sized ++ times_steps c f) (ctime_steps c f) t0 t3 e
-      (runs_stopped sized (times_steps c f) t0 t3 e
-      (runs_then owned (size_steps c f) t0 t2 t3 (Err e) to_owner size))
+      runs_stopped (sized ++ times_steps f.ino (new_attributes c)) (ctime_steps f.ino (new_attributes c)) t0 t3 e
+      (runs_stopped sized (times_steps f.ino (new_attributes c)) t0 t3 e
+      (runs_then owned (size_steps (is_open_to_read_alone f.open_state) f.ino (new_attributes c)) t0 t2 t3 (Err e) to_owner size))
 
-  module _ (size : Runs (size_steps c f) t2 t3 (Ok tt)) (t4 : Tree) where
+  module _ (size : Runs (size_steps (is_open_to_read_alone f.open_state) f.ino (new_attributes c)) t2 t3 (Ok tt)) (t4 : Tree) where
     to_size : Runs sized t0 t3 (Ok tt)
-    to_size = runs_then owned (size_steps c f) t0 t2 t3 (Ok tt) to_owner size
+    to_size = runs_then owned (size_steps (is_open_to_read_alone f.open_state) f.ino (new_attributes c)) t0 t2 t3 (Ok tt) to_owner size
 
     -- an error at the times
-    pub times_stopped : (e : HostError) → Runs (times_steps c f) t3 t4 (Err e)
+    pub times_stopped : (e : HostError) → Runs (times_steps f.ino (new_attributes c)) t3 t4 (Err e)
         → Runs (steps c f) t0 t4 (Err e)
-    times_stopped e times = runs_stopped (sized ++ times_steps c f) (ctime_steps c f) t0 t4 e
-        (runs_then sized (times_steps c f) t0 t3 t4 (Err e) to_size times)
+    times_stopped e times = runs_stopped (sized ++ times_steps f.ino (new_attributes c)) (ctime_steps f.ino (new_attributes c)) t0 t4 e
+        (runs_then sized (times_steps f.ino (new_attributes c)) t0 t3 t4 (Err e) to_size times)
 
     -- and what the last step answers
-    pub all_run : Runs (times_steps c f) t3 t4 (Ok tt)
-        → (t5 : Tree) (r : Result (Unit {0}) HostError) → Runs (ctime_steps c f) t4 t5 r
+    pub all_run : Runs (times_steps f.ino (new_attributes c)) t3 t4 (Ok tt)
+        → (t5 : Tree) (r : Result (Unit {0}) HostError) → Runs (ctime_steps f.ino (new_attributes c)) t4 t5 r
         → Runs (steps c f) t0 t5 r
-    all_run times t5 r ctime = runs_then (sized ++ times_steps c f) (ctime_steps c f) t0 t4 t5 r
-        (runs_then sized (times_steps c f) t0 t3 t4 (Ok tt) to_size times) ctime
+    all_run times t5 r ctime = runs_then (sized ++ times_steps f.ino (new_attributes c)) (ctime_steps f.ino (new_attributes c)) t0 t4 t5 r
+        (runs_then sized (times_steps f.ino (new_attributes c)) t0 t3 t4 (Ok tt) to_size times) ctime

@@ -16,6 +16,7 @@ use Rattle.tree_host.specs.Holds.{Holds, hold_count}
 use Rattle.tree_host.specs.Host.{Answers}
 use Rattle.tree_host.specs.Calls.{Causes}
 use Rattle.port_base.specs.declared.errno.TheConstants.{EBADF}
+use Rattle.p9_tmsg.specs.Messages.{Message}
 use Rattle.p9_tmsg.specs.Messages.Message.{getattr}
 use Rattle.p9_rmsg.specs.Replies.{Reply}
 use Rattle.p9_rmsg.specs.Replies.Reply.{getattr as shown, lerror}
@@ -32,6 +33,14 @@ use Rattle.p9_server.proofs.Stepping.{step_no_memory}
 pub passed_on : {A E : Type 0} (P : Result A E → Type 0) (r : Result A E) (e : E)
     → IsErrAnd r (λ y. y ≡ e) → P (Err e) → P r
 passed_on P r e is h = let p = err_from_is_err_and r is in subst P (sym (p.1 ∙ ap Err p.2)) h
+
+-- a step that ends at a `?` is one that ends with its error
+pub stopped_step : {A : Type 0} {m : Message} {reply : A → Reply} {s0 s1 : ServerState}
+    {steady : Bool} {f0 f1 : ℕ} (r : Result A HostError) (e : HostError) → IsErrAnd r (λ y. y ≡ e)
+    → IsStep m reply s0 s1 steady f0 f1 (Err e) → IsStep m reply s0 s1 steady f0 f1 r
+stopped_step {A = A} {m = m} {reply = reply} {s0 = s0} {s1 = s1} {steady = steady} {f0 = f0}
+    {f1 = f1} r e is h =
+    passed_on (λ (r : Result A HostError). IsStep m reply s0 s1 steady f0 f1 r) r e is h
 
 -- ---- fids that are named
 

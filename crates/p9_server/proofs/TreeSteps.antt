@@ -1,6 +1,6 @@
 -- Messages that ask the host for one change of the tree: what is asked of fids and names comes
 -- first, then the call.
-use Rattle.std.proofs.Common.{◌≡◌, ℕ, ◌<◌, Bool, List, refl, sym, ap, ◌∙◌, subst, Option, Some}
+use Rattle.std.proofs.Common.{◌≡◌, ℕ, Bool, List, refl, sym, ap, ◌∙◌, subst, Option, Some}
 use Rattle.std.proofs.Common.{None, Result, Ok, Err}
 use Rattle.std.specs.Prelude.{nat_lt}
 use Rattle.std.specs.FinMap.{get}

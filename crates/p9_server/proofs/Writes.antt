@@ -1,8 +1,7 @@
 -- Bytes that are written through a fid.
-use Rattle.std.proofs.Common.{◌≡◌, ℕ, ◌-◌, ◌<◌, ◌≤◌, ◌^◌, ◌%◌, Bool, true, false, cond, List}
-use Rattle.std.proofs.Common.{length, take, refl, sym, ap, ◌∙◌, subst, Option, Some, None, Result}
+use Rattle.std.proofs.Common.{◌≡◌, ℕ, ◌<◌, ◌≤◌, ◌^◌, ◌%◌, Bool, true, false, cond, List}
+use Rattle.std.proofs.Common.{length, refl, sym, ap, ◌∙◌, subst, Option, Some, None, Result}
 use Rattle.std.proofs.Common.{Ok, Err, arith}
-use Rattle.std.specs.Prelude.{option_copied, min}
 use Rattle.std.proofs.lemmas.Grind.{common_steps}
 use Rattle.std.specs.FinMap.{get}
 use Rattle.port_base.specs.declared.errno.TheConstants.{EBADF}
@@ -27,7 +26,7 @@ use Rattle.fid_model.proofs.FidCounts.{fid_count-named}
 use Rattle.p9_server.specs.Holding.{AreFids}
 use Rattle.p9_server.specs.Steps.{IsStep, server_state}
 use Rattle.p9_server.proofs.Stepping.{step_fault, step_no_memory}
-use Rattle.p9_server.proofs.TreeSteps.{Refuses, refused_step, failed_step, done_step}
+use Rattle.p9_server.proofs.TreeSteps.{refused_step, failed_step, done_step}
 
 -- ---- how many bytes are written
 

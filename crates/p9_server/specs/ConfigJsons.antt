@@ -1,6 +1,6 @@
 -- A configuration as a JSON value: an object with the six fields as keys; a map of owners is an
 -- object with decimal keys.
-use Rattle.std.specs.Prelude.{◌≡◌, ◌≢◌, ◌<◌, ◌^◌, ℕ, List, Bool, nat_lt, Option, Some, None, Result}
+use Rattle.std.specs.Prelude.{◌≡◌, ◌≢◌, ◌<◌, ◌^◌, ℕ, List, nat_lt, Option, Some, None, Result}
 use Rattle.std.specs.Prelude.{Ok}
 use Rattle.std.specs.Prelude.{Err, ok_or, codes, if◌then◌else◌, fold, option_and_then}
 use Rattle.std.specs.List.{AllByRecursion}

@@ -1,5 +1,5 @@
 -- Steps of a Tsetattr on a host's tree.
-use Rattle.std.specs.Prelude.{◌≡◌, ℕ, Bool, List, Option, Some, None, Result, Ok, Err}
+use Rattle.std.specs.Prelude.{◌≡◌, ℕ, List, Option, Some, None, Result, Ok, Err}
 use Rattle.std.specs.Prelude.{if◌then◌else◌}
 use Rattle.port_base.specs.declared.errno.TheConstants.{EISDIR, EINVAL, ELOOP}
 use Rattle.tree_model.specs.Tree.{Tree}
@@ -9,8 +9,8 @@ use Rattle.tree_model.specs.declared.attributes.HostError.{HostError}
 use Rattle.tree_model.specs.declared.attributes.HostError.TheVariants.{Errno, Fault, NoMemory}
 use Rattle.p9_tmsg.specs.declared.message.Tsetattr.{Tsetattr}
 use Rattle.fid_model.specs.Fids.{OpenState}
-use Rattle.fid_model.specs.Setattr.{Changes, Step, IsAfterFront, changes, is_open_to_read_alone}
-use Rattle.fid_model.specs.Setattr.{run}
+use Rattle.tree_model.specs.AttributeSteps.{Step, IsAfterFront, run}
+use Rattle.fid_model.specs.Setattr.{Changes, changes, is_open_to_read_alone}
 
 abbrev pub changes_of : Tsetattr → Changes
 changes_of m = changes m.valid m.mode m.uid m.gid m.size m.atime_sec m.atime_nsec m.mtime_sec

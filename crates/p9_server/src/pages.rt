@@ -67,16 +67,13 @@ fn fitting_entry<H: Host>(
     ensures cause { Counts (H.calls host.old) (H.calls host.new) result }
     ensures steady { (H.calls host.new).steady ≡ (H.calls host.old).steady }
 {
-    match host.entry_after(dir, cookie) {
-        Ok(Some(entry)) => {
-            if room < DIRENT_HEADER_SIZE as usize + entry.name.len() {
-                return Ok(None);
-            }
-            Ok(Some(entry))
-        }
-        Ok(None) => Ok(None),
-        Err(e) => Err(e),
+    let Some(entry) = host.entry_after(dir, cookie)? else {
+        return Ok(None);
+    };
+    if room < DIRENT_HEADER_SIZE as usize + entry.name.len() {
+        return Ok(None);
     }
+    Ok(Some(entry))
 }
 
 /// The entries of a directory above an offset, whole, as many as fit so many bytes. ENOTDIR for
@@ -97,22 +94,11 @@ pub fn list_page<H: Host>(
     ensures cause { Counts (H.calls host.old) (H.calls host.new) result }
     ensures steady { (H.calls host.new).steady ≡ (H.calls host.old).steady }
 {
-    let mut bytes = match Vec::with_capacity(alloc, room) {
-        Ok(bytes) => bytes,
-        Err(_) => return Err(HostError::NoMemory),
-    };
+    let mut bytes = Vec::with_capacity(alloc, room)?;
     let mut cookie = offset;
-    'entries: loop {
-        match fitting_entry(host, dir, cookie, room - bytes.len()) {
-            Ok(Some(entry)) => {
-                match push_entry(&mut bytes, &entry) {
-                    Ok(()) => {}
-                    Err(_) => return Err(HostError::NoMemory),
-                }
-                cookie = entry.cookie;
-            }
-            Ok(None) => return Ok(bytes),
-            Err(e) => return Err(e),
-        }
+    'entries: while let Some(entry) = fitting_entry(host, dir, cookie, room - bytes.len())? {
+        push_entry(&mut bytes, &entry)?;
+        cookie = entry.cookie;
     }
+    Ok(bytes)
 }

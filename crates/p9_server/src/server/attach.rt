@@ -43,13 +43,8 @@ impl<H: Host> Server<H> {
         if let Some(e) = self.attach_refused(fid) {
             return Err(HostError::Errno(e));
         }
-        let attr = match attach_path(&mut self.host, self.share.root()) {
-            Ok(attr) => attr,
-            Err(e) => return Err(e),
-        };
-        match name_by_fid(&mut self.host, &mut self.fids, fid, attr.ino) {
-            Ok(()) => Ok(qid_of(&attr)),
-            Err(e) => Err(e),
-        }
+        let attr = attach_path(&mut self.host, self.share.root())?;
+        name_by_fid(&mut self.host, &mut self.fids, fid, attr.ino)?;
+        Ok(qid_of(&attr))
     }
 }

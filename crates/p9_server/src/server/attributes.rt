@@ -4,8 +4,9 @@ ghost use Rattle.port_base.specs.OpenFlags.{has_flag};
 ghost use Rattle.p9_tmsg.specs.Messages.Message.{setattr};
 ghost use Rattle.p9_rmsg.specs.Replies.Reply.{setattr as were_set};
 ghost use Rattle.tree_host.specs.Holds.{hold_count};
-ghost use Rattle.fid_model.specs.Setattr.{ctime_steps, mode_steps, new_owner, new_time};
-ghost use Rattle.fid_model.specs.Setattr.{owner_steps, size_steps, steps, times_steps};
+ghost use Rattle.tree_model.specs.AttributeSteps.{ctime_steps, mode_steps, new_owner, new_time};
+ghost use Rattle.tree_model.specs.AttributeSteps.{owner_steps, size_steps, times_steps};
+ghost use Rattle.fid_model.specs.Setattr.{is_open_to_read_alone, new_attributes, steps};
 ghost use Rattle.p9_server.specs.Setting.{Runs, changes_of, kind_size_refused};
 ghost use Rattle.p9_server.specs.Walking.{Counts};
 ghost use Rattle.p9_server.specs.Steps.{moment_of, Steps};
@@ -15,12 +16,12 @@ use crate::fid_state::FidState;
 use fid_model::setattr::{
     P9_SETATTR_ATIME, P9_SETATTR_ATIME_SET, P9_SETATTR_CTIME, P9_SETATTR_GID, P9_SETATTR_MODE,
     P9_SETATTR_MTIME, P9_SETATTR_MTIME_SET, P9_SETATTR_NAMED, P9_SETATTR_SIZE, P9_SETATTR_UID,
-    UNCHANGED_ID,
 };
 use p9_tmsg::Tsetattr;
 use port_base::errno::{EBADF, EINVAL, EISDIR, ELOOP};
 use port_base::oflag::has_flag;
 use tree_host::Host;
+use tree_model::attributes::UNCHANGED_ID;
 use tree_model::{HostError, Kind, Stamp, TimeSet};
 
 // The owner that becomes that of the inode, if one is given that isn't to stay.
@@ -77,7 +78,7 @@ fn size_refused(state: &FidState, kind: Kind) -> Option<u32>
 
 fn set_mode<H: Host>(host: &mut H, state: &FidState, m: &Tsetattr) -> Result<(), HostError>
     requires { 0 < hold_count (H.holds host.old) state.now.ino }
-    ensures ran { Runs (mode_steps (changes_of m.now) state.now) (H.tree host.old)
+    ensures ran { Runs (mode_steps state.now.ino (new_attributes (changes_of m.now))) (H.tree host.old)
         (H.tree host.new) result }
     ensures holds { H.holds host.new ≡ H.holds host.old }
     ensures cause { Counts (H.calls host.old) (H.calls host.new) result }
@@ -91,7 +92,7 @@ fn set_mode<H: Host>(host: &mut H, state: &FidState, m: &Tsetattr) -> Result<(),
 
 fn set_owner<H: Host>(host: &mut H, state: &FidState, m: &Tsetattr) -> Result<(), HostError>
     requires { 0 < hold_count (H.holds host.old) state.now.ino }
-    ensures ran { Runs (owner_steps (changes_of m.now) state.now) (H.tree host.old)
+    ensures ran { Runs (owner_steps state.now.ino (new_attributes (changes_of m.now))) (H.tree host.old)
         (H.tree host.new) result }
     ensures holds { H.holds host.new ≡ H.holds host.old }
     ensures cause { Counts (H.calls host.old) (H.calls host.new) result }
@@ -107,7 +108,8 @@ fn set_owner<H: Host>(host: &mut H, state: &FidState, m: &Tsetattr) -> Result<()
 
 fn set_size<H: Host>(host: &mut H, state: &FidState, m: &Tsetattr) -> Result<(), HostError>
     requires { 0 < hold_count (H.holds host.old) state.now.ino }
-    ensures ran { Runs (size_steps (changes_of m.now) state.now) (H.tree host.old)
+    ensures ran { Runs (size_steps (is_open_to_read_alone state.now.open_state) state.now.ino
+        (new_attributes (changes_of m.now))) (H.tree host.old)
         (H.tree host.new) result }
     ensures holds { H.holds host.new ≡ H.holds host.old }
     ensures cause { Counts (H.calls host.old) (H.calls host.new) result }
@@ -116,10 +118,7 @@ fn set_size<H: Host>(host: &mut H, state: &FidState, m: &Tsetattr) -> Result<(),
     if !has_flag(m.valid, P9_SETATTR_SIZE) {
         return Ok(());
     }
-    let attr = match host.stat(state.ino()) {
-        Ok(attr) => attr,
-        Err(e) => return Err(e),
-    };
+    let attr = host.stat(state.ino())?;
     if let Some(e) = size_refused(state, attr.kind) {
         return Err(HostError::Errno(e));
     }
@@ -128,7 +127,7 @@ fn set_size<H: Host>(host: &mut H, state: &FidState, m: &Tsetattr) -> Result<(),
 
 fn set_times<H: Host>(host: &mut H, state: &FidState, m: &Tsetattr) -> Result<(), HostError>
     requires { 0 < hold_count (H.holds host.old) state.now.ino }
-    ensures ran { Runs (times_steps (changes_of m.now) state.now) (H.tree host.old)
+    ensures ran { Runs (times_steps state.now.ino (new_attributes (changes_of m.now))) (H.tree host.old)
         (H.tree host.new) result }
     ensures holds { H.holds host.new ≡ H.holds host.old }
     ensures cause { Counts (H.calls host.old) (H.calls host.new) result }
@@ -154,7 +153,7 @@ fn set_times<H: Host>(host: &mut H, state: &FidState, m: &Tsetattr) -> Result<()
 
 fn touch_ctime<H: Host>(host: &mut H, state: &FidState, m: &Tsetattr) -> Result<(), HostError>
     requires { 0 < hold_count (H.holds host.old) state.now.ino }
-    ensures ran { Runs (ctime_steps (changes_of m.now) state.now) (H.tree host.old)
+    ensures ran { Runs (ctime_steps state.now.ino (new_attributes (changes_of m.now))) (H.tree host.old)
         (H.tree host.new) result }
     ensures holds { H.holds host.new ≡ H.holds host.old }
     ensures cause { Counts (H.calls host.old) (H.calls host.new) result }

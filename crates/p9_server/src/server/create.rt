@@ -52,12 +52,10 @@ fn check_new_file<H: Host>(host: &mut H, dir: u64, name: &[u8], flags: u32) -> R
     ensures cause { Counts (H.calls host.old) (H.calls host.new) result }
     ensures steady { (H.calls host.new).steady ≡ (H.calls host.old).steady }
 {
-    match host.stat(dir) {
-        Ok(attr) => match new_file_refused(attr.kind, name, flags) {
-            Some(e) => Err(HostError::Errno(e)),
-            None => Ok(()),
-        },
-        Err(e) => Err(e),
+    let attr = host.stat(dir)?;
+    match new_file_refused(attr.kind, name, flags) {
+        Some(e) => Err(HostError::Errno(e)),
+        None => Ok(()),
     }
 }
 
@@ -76,14 +74,9 @@ fn create_file<H: Host>(
     ensures cause { Counts (H.calls host.old) (H.calls host.new) result }
     ensures steady { (H.calls host.new).steady ≡ (H.calls host.old).steady }
 {
-    match check_new_file(host, dir, name, flags) {
-        Ok(()) => {}
-        Err(e) => return Err(e),
-    }
-    match host.create(dir, name, mode) {
-        Ok(ino) => told_of(host, ino),
-        Err(e) => Err(e),
-    }
+    check_new_file(host, dir, name, flags)?;
+    let ino = host.create(dir, name, mode)?;
+    told_of(host, ino)
 }
 
 impl<H: Host> Server<H> {
@@ -106,14 +99,8 @@ impl<H: Host> Server<H> {
         ensures fixed { (self.new.msize ≡ self.old.msize) × (self.new.share ≡ self.old.share) }
         ensures asked { self.new.asked ≡ self.old.asked }
     {
-        let dir = match self.ino_of(fid) {
-            Ok(dir) => dir,
-            Err(e) => return Err(e),
-        };
-        let attr = match create_file(&mut self.host, dir, name, flags, mode) {
-            Ok(attr) => attr,
-            Err(e) => return Err(e),
-        };
+        let dir = self.ino_of(fid)?;
+        let attr = create_file(&mut self.host, dir, name, flags, mode)?;
         self.fids
             .replace(fid as u64, FidState::opened(attr.ino, flags));
         self.host.release(dir);

@@ -36,13 +36,9 @@ impl<H: Host> Server<H> {
             ≡ as_errno
             (at_fid (map.get self.now.fids fid) (λ ino. unless_fault name.now (Ok ino))) }
     {
-        match self.ino_of(fid) {
-            Ok(ino) => match check_name(name) {
-                Ok(()) => Ok(ino),
-                Err(e) => Err(e),
-            },
-            Err(e) => Err(e),
-        }
+        let ino = self.ino_of(fid)?;
+        check_name(name)?;
+        Ok(ino)
     }
 
     // Makes a directory. Its group isn't looked at.
@@ -61,14 +57,9 @@ impl<H: Host> Server<H> {
         ensures fixed { (self.new.msize ≡ self.old.msize) × (self.new.share ≡ self.old.share) }
         ensures asked { self.new.asked ≡ self.old.asked }
     {
-        let dir = match self.ino_for(dfid, name) {
-            Ok(dir) => dir,
-            Err(e) => return Err(e),
-        };
-        match self.host.mkdir(dir, name, mode) {
-            Ok(attr) => Ok(qid_of(&attr)),
-            Err(e) => Err(e),
-        }
+        let dir = self.ino_for(dfid, name)?;
+        let attr = self.host.mkdir(dir, name, mode)?;
+        Ok(qid_of(&attr))
     }
 
     // Gives the file of a fid one more name, in the directory of another.
@@ -82,14 +73,8 @@ impl<H: Host> Server<H> {
         ensures fixed { (self.new.msize ≡ self.old.msize) × (self.new.share ≡ self.old.share) }
         ensures asked { self.new.asked ≡ self.old.asked }
     {
-        let ino = match self.ino_of(fid) {
-            Ok(ino) => ino,
-            Err(e) => return Err(e),
-        };
-        let dir = match self.ino_for(dfid, name) {
-            Ok(dir) => dir,
-            Err(e) => return Err(e),
-        };
+        let ino = self.ino_of(fid)?;
+        let dir = self.ino_for(dfid, name)?;
         self.host.link(ino, dir, name)
     }
 
@@ -110,18 +95,10 @@ impl<H: Host> Server<H> {
         ensures fixed { (self.new.msize ≡ self.old.msize) × (self.new.share ≡ self.old.share) }
         ensures asked { self.new.asked ≡ self.old.asked }
     {
-        let olddir = match self.ino_of(olddirfid) {
-            Ok(olddir) => olddir,
-            Err(e) => return Err(e),
-        };
-        let newdir = match self.ino_for(newdirfid, oldname) {
-            Ok(newdir) => newdir,
-            Err(e) => return Err(e),
-        };
-        match check_name(newname) {
-            Ok(()) => self.host.rename(olddir, oldname, newdir, newname),
-            Err(e) => Err(e),
-        }
+        let olddir = self.ino_of(olddirfid)?;
+        let newdir = self.ino_for(newdirfid, oldname)?;
+        check_name(newname)?;
+        self.host.rename(olddir, oldname, newdir, newname)
     }
 
     // Takes a name away: with no flags that of a file or a link, with `P9_AT_REMOVEDIR` that of a
@@ -136,10 +113,7 @@ impl<H: Host> Server<H> {
         ensures fixed { (self.new.msize ≡ self.old.msize) × (self.new.share ≡ self.old.share) }
         ensures asked { self.new.asked ≡ self.old.asked }
     {
-        let dir = match self.ino_for(dirfd, name) {
-            Ok(dir) => dir,
-            Err(e) => return Err(e),
-        };
+        let dir = self.ino_for(dirfd, name)?;
         if flags == 0 {
             return self.host.unlink(dir, name);
         }

@@ -44,21 +44,11 @@ impl<H: Host> Nine for Server<H> {
         writer: &mut K,
     ) -> Result<(), WireError> {
         self.asked = self.asked.saturating_add(1);
-        let frame = match read_frame(self.alloc, reader, self.msize) {
-            Ok(frame) => frame,
-            Err(e) => return Err(e),
-        };
-        match make_room(writer, REPLY_ROOM) {
-            Ok(()) => {}
-            Err(e) => return Err(e),
-        }
-        match self.answer(frame.msg) {
-            Ok(reply) => match reserve_long(&reply, writer) {
-                Ok(()) => send_reply(&reply, frame.tag, writer),
-                Err(e) => Err(e),
-            },
-            Err(e) => Err(e),
-        }
+        let frame = read_frame(self.alloc, reader, self.msize)?;
+        make_room(writer, REPLY_ROOM)?;
+        let reply = self.answer(frame.msg)?;
+        reserve_long(&reply, writer)?;
+        send_reply(&reply, frame.tag, writer)
     }
 
     fn msize(&self) -> u32 {

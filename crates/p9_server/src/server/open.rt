@@ -50,14 +50,8 @@ impl<H: Host> Server<H> {
         ensures fixed { (self.new.msize ≡ self.old.msize) × (self.new.share ≡ self.old.share) }
         ensures asked { self.new.asked ≡ self.old.asked }
     {
-        let ino = match self.ino_of(fid) {
-            Ok(ino) => ino,
-            Err(e) => return Err(e),
-        };
-        let attr = match open_inode(&mut self.host, ino, flags) {
-            Ok(attr) => attr,
-            Err(e) => return Err(e),
-        };
+        let ino = self.ino_of(fid)?;
+        let attr = open_inode(&mut self.host, ino, flags)?;
         self.fids.replace(fid as u64, FidState::opened(ino, flags));
         Ok(qid_of(&attr))
     }
@@ -77,22 +71,12 @@ impl<H: Host> Server<H> {
         ensures steady { (H.calls self.new.host).steady ≡ (H.calls self.old.host).steady }
         ensures asked { self.new.asked ≡ self.old.asked }
     {
-        let ino = match self.readable_ino(fid) {
-            Ok(ino) => ino,
-            Err(e) => return Err(e),
-        };
+        let ino = self.readable_ino(fid)?;
         let most = count.min(self.msize - RREAD_HEADER_SIZE) as usize;
-        let mut bytes = match vec![in self.alloc; 0u8; most] {
-            Ok(bytes) => bytes,
-            Err(_) => return Err(HostError::NoMemory),
-        };
-        match self.host.read_at(ino, offset, &mut bytes) {
-            Ok(n) => {
-                bytes.truncate(n);
-                Ok(bytes)
-            }
-            Err(e) => Err(e),
-        }
+        let mut bytes = vec![in self.alloc; 0u8; most]?;
+        let count = self.host.read_at(ino, offset, &mut bytes)?;
+        bytes.truncate(count);
+        Ok(bytes)
     }
 }
 
@@ -119,12 +103,7 @@ fn open_inode<H: Host>(host: &mut H, ino: u64, flags: u32) -> Result<Attr, HostE
     ensures cause { Counts (H.calls host.old) (H.calls host.new) result }
     ensures steady { (H.calls host.new).steady ≡ (H.calls host.old).steady }
 {
-    match host.open_check(ino, flags) {
-        Ok(()) => {}
-        Err(e) => return Err(e),
-    }
-    match empty_where(host, ino, flags) {
-        Ok(()) => host.stat(ino),
-        Err(e) => Err(e),
-    }
+    host.open_check(ino, flags)?;
+    empty_where(host, ino, flags)?;
+    host.stat(ino)
 }

@@ -73,17 +73,12 @@ impl<H: Host> Server<H> {
             Ok(start) => start,
             Err(e) => return Err(HostError::Errno(e)),
         };
-        let mut qids = match Vec::with_capacity(self.alloc, names.len()) {
-            Ok(qids) => qids,
-            Err(_) => return Err(HostError::NoMemory),
-        };
+        let mut qids = Vec::with_capacity(self.alloc, names.len())?;
         let at = match reach(&mut self.host, &self.share, start, names, &mut qids) {
             Ok(at) => at,
             Err(e) => return told_so_far(qids, e),
         };
-        match name_by_fid(&mut self.host, &mut self.fids, newfid, at) {
-            Ok(()) => Ok(qids),
-            Err(e) => Err(e),
-        }
+        name_by_fid(&mut self.host, &mut self.fids, newfid, at)?;
+        Ok(qids)
     }
 }

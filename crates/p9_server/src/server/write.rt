@@ -29,10 +29,8 @@ fn write_place<H: Host>(host: &mut H, state: &FidState, offset: u64) -> Result<u
     if !state.appends() {
         return Ok(offset);
     }
-    match host.stat(state.ino()) {
-        Ok(attr) => Ok(attr.size),
-        Err(e) => Err(e),
-    }
+    let attr = host.stat(state.ino())?;
+    Ok(attr.size)
 }
 
 impl<H: Host> Server<H> {
@@ -55,13 +53,8 @@ impl<H: Host> Server<H> {
             return Err(HostError::Errno(EBADF));
         }
         let ino = state.ino();
-        let place = match write_place(&mut self.host, state, offset) {
-            Ok(place) => place,
-            Err(e) => return Err(e),
-        };
-        match self.host.write_at(ino, place, bytes) {
-            Ok(n) => Ok(n as u32),
-            Err(e) => Err(e),
-        }
+        let place = write_place(&mut self.host, state, offset)?;
+        let count = self.host.write_at(ino, place, bytes)?;
+        Ok(count as u32)
     }
 }

@@ -1,10 +1,9 @@
 -- The parts are those of the split.
-use Rattle.std.proofs.Common.{◌≡◌, List, ℕ, [], ◌∷◌, Ok, false, ap, ◌∙◌, sym, rules, tests, refl, Bor}
-use Rattle.std.proofs.Common.{length, Bool, not, arith}
+use Rattle.std.proofs.Common.{List, ℕ, Ok, false, ap, ◌∙◌, sym, rules, tests, refl, Bor}
 use Rattle.std.specs.Prelude.{◌==◌, fold}
 use Rattle.std.proofs.lemmas.Iterator.Consumers.{YieldsList-end}
 use Rattle.std.proofs.lemmas.Iterator.Splits.{YieldsList-from_slice_split}
-use Rattle.p9_server.specs.ConfigTexts.{with_part, casefold_of}
+use Rattle.p9_server.specs.ConfigTexts.{with_part}
 use Rattle.p9_server.proofs.ConfigParts.{with_part-push, some_text}
 use Rattle.p9_server.proofs.config_text.casefold_of.Goals as goal
 

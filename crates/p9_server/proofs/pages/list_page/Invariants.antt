@@ -1,6 +1,5 @@
 -- What is there of a page, and the entries that have room behind it.
-use Rattle.std.proofs.Common.{◌≡◌, ◌≤◌, ◌++◌, ◌-◌, length}
-use Rattle.fid_model.specs.Listings.{listed_page}
+use Rattle.std.proofs.Common.{◌≡◌, ◌-◌, length}
 use Rattle.p9_server.proofs.PageSteps.{Listing}
 use Rattle.p9_server.proofs.pages.list_page.Given as goal
 

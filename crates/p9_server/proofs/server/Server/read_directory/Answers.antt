@@ -1,7 +1,6 @@
 -- A page of what a fid has open, or all is as it was.
-use Rattle.std.proofs.Common.{◌≡◌, Vec, ℕ, List, Result, Ok, Err, refl, subst, rules}
+use Rattle.std.proofs.Common.{◌≡◌, Vec, ℕ, List, Ok, Err, refl, subst, rules}
 use Rattle.tree_host.specs.Host.{Answers}
-use Rattle.tree_model.specs.declared.attributes.HostError.{HostError}
 use Rattle.p9_tmsg.specs.Messages.Message.{readdir}
 use Rattle.p9_rmsg.specs.Replies.Reply.{readdir as was_listed}
 use Rattle.fid_model.specs.Listings.{page_by, page_room}

@@ -1,5 +1,5 @@
 -- The target of a link, or all is as it was.
-use Rattle.std.proofs.Common.{refl, ap, sym, ◌∙◌, Vec, List, ℕ, length, arith}
+use Rattle.std.proofs.Common.{refl, ap, ◌∙◌, Vec, List, ℕ, length, arith}
 use Rattle.std.specs.Prelude.{◌+◌}
 use Rattle.p9_tmsg.specs.Messages.Message.{readlink}
 use Rattle.p9_rmsg.specs.Replies.Reply.{readlink as target}

@@ -1,9 +1,8 @@
 -- A session begins without fids, or all is as it was.
-use Rattle.std.proofs.Common.{ap, ◌∙◌, arith}
+use Rattle.std.proofs.Common.{ap}
 use Rattle.tree_host.specs.Calls.{Calls}
 use Rattle.p9_rmsg.specs.Replies.Reply.{version as agreed}
 use Rattle.p9_rmsg.specs.declared.message.Rversion.{Rversion}
-use Rattle.fid_model.specs.Sessions.{spoken}
 use Rattle.p9_server.proofs.HoldCounts.{kept_named}
 use Rattle.p9_server.proofs.Emptying.{sound_empty}
 use Rattle.p9_server.proofs.Asking.{lt_true, lt_false}

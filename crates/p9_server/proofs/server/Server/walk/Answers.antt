@@ -7,7 +7,9 @@ use Rattle.fid_model.specs.Fids.{is_held}
 use Rattle.p9_server.proofs.HoldCounts.{kept_named}
 use Rattle.p9_server.proofs.NamedFids.{sound_room, sound_with, named_few}
 use Rattle.p9_server.proofs.WalkSteps.{start_held, start_room, walk_unstarted, walk_stopped}
-use Rattle.p9_server.proofs.WalkSteps.{walk_no_memory}
+use Rattle.p9_server.proofs.WalkSteps.{walk_no_memory, walk_unstarted_memory}
+use Rattle.tree_model.specs.declared.attributes.HostError.TheVariants.{NoMemory}
+use Rattle.p9_server.proofs.Showing.{stopped_step}
 use Rattle.p9_server.proofs.server.Server.walk.Goals as goal
 
 pub returns-in-Err-clause-step : goal.returns-in-Err-clause-step
@@ -19,6 +21,17 @@ returns-in-Err-clause-step g c =
     walk_unstarted (λ (v : Vec _ _). v.items) tree s.fids s.msize s.share c.args.fid
     c.args.newfid c.args.names.now kept (g.H.Host.calls s.host).steady c.in-Err.e
     (g.H.Host.calls s.host).faults c.in-Err.ensures
+
+pub returns-in_err-qids-clause-step : goal.returns-in_err-qids-clause-step
+returns-in_err-qids-clause-step g c =
+    let s = c.args.self.now in
+    let tree = g.H.Host.tree s.host in
+    let kept = kept_named (g.H.Host.holds s.host) s.fids s.sound.held tree
+    (g.met.H.Host.stored s.host).kept in
+    stopped_step c.from_residual.result NoMemory c.from_residual.ensures.1
+    (walk_unstarted_memory (λ (v : Vec _ _). v.items) tree s.fids s.msize s.share c.args.fid
+    c.args.newfid c.args.names.now kept (g.H.Host.calls s.host).steady
+    (g.H.Host.calls s.host).faults)
 
 pub reach-requires-clause-held : goal.reach-requires-clause-held
 reach-requires-clause-held g c =
@@ -64,19 +77,20 @@ invariant_of-self-2 g c =
           c.in-Ok.ensures) c.name_by_fid.result e.fids e.memory);
     }
 
-pub returns-in-Err-name_by_fid-clause-step : goal.returns-in-Err-name_by_fid-clause-step
-returns-in-Err-name_by_fid-clause-step g c =
+pub returns-in_err-name_by_fid-clause-step : goal.returns-in_err-name_by_fid-clause-step
+returns-in_err-name_by_fid-clause-step g c =
     let s = c.args.self.now in
     let tree = g.H.Host.tree s.host in
     let kept = kept_named (g.H.Host.holds s.host) s.fids s.sound.held tree
     (g.met.H.Host.stored s.host).kept in
     let w = c.in-Ok-reach.ensures in
-    let e = c.in-Err-name_by_fid.ensures in
-    walk_no_memory (λ (v : Vec _ _). v.items) tree s.fids s.msize s.share c.args.fid
+    let e = c.in_err-name_by_fid.ensures in
+    stopped_step c.from_residual-in_err-name_by_fid.result c.in_err-name_by_fid.field-0.0 c.from_residual-in_err-name_by_fid.ensures.1
+    (walk_no_memory (λ (v : Vec _ _). v.items) tree s.fids s.msize s.share c.args.fid
     c.args.newfid c.args.names.now kept (g.H.Host.calls s.host).steady c.in-Ok.start
     c.in-Ok.ensures
     (g.H.Host.tree c.name_by_fid.new.host) (g.H.Host.calls s.host).faults
     (g.H.Host.calls c.name_by_fid.new.host).faults c.name_by_fid.new.fids
     (e.tree ∙ ap (keep (is_held c.name_by_fid.new.fids)) w.tree)
-    (ap (λ (k : Calls). k.faults) e.calls ∙ w.cause.counted) c.in-Err-name_by_fid.e e.memory.0
-    e.memory.1
+    (ap (λ (k : Calls). k.faults) e.calls ∙ w.cause.counted) c.in_err-name_by_fid.field-0.0 e.memory.0
+    e.memory.1)

@@ -7,12 +7,12 @@ use Rattle.fid_model.specs.Answers.{emptied}
 use Rattle.p9_server.proofs.Opening.{then_told}
 use Rattle.p9_server.proofs.server.open.open_inode.Goals as goal
 
-pub returns-in-Ok-empty_where-clause-answer : goal.returns-in-Ok-empty_where-clause-answer
-returns-in-Ok-empty_where-clause-answer g c =
+pub returns-clause-answer : goal.returns-clause-answer
+returns-clause-answer g c =
     let h = c.args.host.now in
     let n = c.empty_where.new.host in
-    let o = c.in-Ok.ensures in
-    let e = c.in-Ok-empty_where.ensures in
+    let o = c.in_ok-open_check.ensures in
+    let e = c.in_ok-empty_where.ensures in
     let s = c.stat.ensures in
     then_told (g.H.Host.tree h) (g.H.Host.tree n) c.args.ino c.args.flags o.answer.exactly
     (subst (λ (v : Tree). Leaves (emptied v c.args.ino c.args.flags) v (g.H.Host.tree n) (Ok tt))

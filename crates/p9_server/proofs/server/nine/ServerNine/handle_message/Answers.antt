@@ -4,8 +4,8 @@ use Rattle.p9_server.proofs.Replying.{answered_sent, kept_twice}
 use Rattle.std.proofs.Common.{◌∙◌}
 use Rattle.p9_server.proofs.server.nine.ServerNine.handle_message.Goals as goal
 
-pub returns-in-Ok-reserve_long-clause-handled : goal.returns-in-Ok-reserve_long-clause-handled
-returns-in-Ok-reserve_long-clause-handled g c =
+pub returns-clause-handled : goal.returns-clause-handled
+returns-clause-handled g c =
     let s = c.args.self.now in
     let n = c.answer.new.self in
     answered_sent (moment_of (g.H.Host.tree s.host) (g.H.Host.calls s.host) s.fids s.msize s.share
@@ -17,10 +17,10 @@ returns-in-Ok-reserve_long-clause-handled g c =
     (g.S.Source.faults c.args.reader.now) (g.S.Source.faults c.read_frame.new.reader)
     (g.K.Sink.faults c.args.writer.now) (g.K.Sink.faults c.reserve_long.new.writer)
     (g.K.Sink.faults c.send_reply.new.writer)
-    c.in-Ok.frame c.in-Ok.ensures.frame
+    c.in_ok-frame.frame c.in_ok-frame.ensures.frame
     (kept_twice (g.K.Sink.sent c.args.writer.now) (g.K.Sink.sent c.make_room.new.writer)
     (g.K.Sink.sent c.reserve_long.new.writer) c.make_room.ensures.sent
     c.reserve_long.ensures.sent)
     (c.reserve_long.ensures.faults ∙ c.make_room.ensures.faults)
-    c.in-Ok-answer.reply c.in-Ok-answer.ensures.answered c.send_reply.result
+    c.in_ok-reply.reply c.in_ok-reply.ensures.answered c.send_reply.result
     c.send_reply.ensures.sent
