@@ -7,3 +7,5 @@ pub mod Leaving
 pub mod Moving
 pub mod Sampling
 pub mod Rising
+pub mod Indexing
+pub mod Putting

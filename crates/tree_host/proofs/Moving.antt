@@ -16,7 +16,7 @@ use Rattle.tree_model.specs.Tree.{is_directory_at, is_linked, keep}
 use Rattle.tree_model.specs.Tree.Body.{File, Directory, Link}
 use Rattle.tree_model.specs.Good.{IsAt, IsGoodTree}
 use Rattle.tree_model.specs.Sound.{IsKept, IsKeptBut, AreStored, has_no_links}
-use Rattle.tree_model.specs.Finding.{entry_named, lookup_of}
+use Rattle.tree_model.specs.Finding.{entry_named, entries_at, ino_among, lookup_of}
 use Rattle.tree_model.specs.Making.{change, joined_by, with_entries, next_cookie, unless_refused}
 use Rattle.std.specs.Result.{result_ok}
 use Rattle.tree_model.specs.Creating.{stamped}
@@ -31,7 +31,8 @@ use Rattle.tree_model.proofs.Files.{good_is_counted}
 use Rattle.tree_model.proofs.Keeping.{keep_good, keep_kept, keep_stored}
 use Rattle.tree_model.proofs.Sweeping.{kept_is_swept, no_links}
 use Rattle.tree_model.proofs.Leaving.{entry_in, without_kept, without_stored}
-use Rattle.tree_model.proofs.Moving.{IsMove, moved_good, moved_kept, moved_kept_but, moved_stored}
+use Rattle.tree_model.proofs.Moves.{IsMove}
+use Rattle.tree_model.proofs.Moving.{moved_good, moved_kept, moved_kept_but, moved_stored}
 use Rattle.tree_model.proofs.Renaming.{change_body, stored_directory, free_of, empty_place, move_is}
 use Rattle.tree_host.specs.Holds.{Holds, is_held}
 use Rattle.tree_host.specs.Host.{IsHeldIn, Leaves}
@@ -71,10 +72,10 @@ without-push name (f ∷ es) x e is = by_test (bytes_eq f.name name) is
       by_test true is later = refl
       by_test false is later = ap (λ es. f ∷ es) (later is)
 
-abbrev parted_body : List ℕ → Body → Body
+abbrev pub parted_body : List ℕ → Body → Body
 parted_body name b = with_entries b (without name (listed b)) (next_cookie b)
 
-abbrev joined_body : List ℕ → ℕ → Body → Body
+abbrev pub joined_body : List ℕ → ℕ → Body → Body
 joined_body name ino b = with_entries b (listed b
     ++ (record { cookie = next_cookie b; name = name; ino = ino } ∷ [])) (next_cookie b + 1)
 
@@ -107,7 +108,7 @@ names_joins newname ino moment r =
     } in left) (with_entries-is_directory r.body _ _)
 
 -- changes can be made in either order where they can at the one record that both change
-changes_swap : (f h : Record → Record) (rs : Records) (a b : ℕ)
+pub changes_swap : (f h : Record → Record) (rs : Records) (a b : ℕ)
     → ((r : Record) → IsAt rs a r → a ≡ b → f (h r) ≡ h (f r))
     → change f (change h rs a) b ≡ change h (change f rs b) a
 changes_swap f h rs a b swap = ⊎_elim
@@ -131,25 +132,27 @@ changes_swap f h rs a b swap = ⊎_elim
           ∙ sym (change_keeps h (change f rs a) a q nq ∙ change_keeps f rs a q nq))
           (cases_eq q a))
 
+-- what is replaced can go before the new entry comes
+pub replaced_later : (rs : Records) (moment : Stamp) (dir : ℕ) (name : List ℕ) (ino : ℕ)
+    (r : Result ℕ ℕ) → ino_among false name (entries_at rs dir) ≡ r
+    → replaced_in moment dir name (result_ok r) (change (joined_by name ino) rs dir) ≡ change
+    (joined_by name ino) (replaced_in moment dir name (result_ok r) rs) dir
+replaced_later rs moment dir name ino (Err e) is = refl
+replaced_later rs moment dir name ino (Ok i) is =
+    let w = entry_in rs dir name i is in
+    ap (λ rs. change (parted_by name moment) rs dir)
+    (changes_swap (one_name_less moment) (joined_by name ino) rs dir i
+    (λ r at same. names_joins name ino moment r))
+    ∙ changes_swap (parted_by name moment) (joined_by name ino)
+    (change (one_name_less moment) rs i) dir dir (λ r at same.
+    let x = change_body (one_name_less moment) rs i dir (λ r. refl) w.d w.at in
+    parts_joins name name ino moment w.e r
+    (ap (λ b. entry_named name (listed b))
+    (ap (λ (r : Record). r.body) (same_some r x.0 (sym at ∙ x.1)) ∙ x.2) ∙ w.goes))
+
 module _ (t : Tree) (olddir : ℕ) (oldname : List ℕ) (newdir : ℕ) (newname : List ℕ) (ino : ℕ) where
   abbrev joins : Records → Records
   joins rs = change (joined_by newname ino) rs newdir
-
-  replaced_later : (r : Result ℕ ℕ) → lookup_of t newdir newname ≡ r
-      → replaced_in t.moment newdir newname (result_ok r) (joins t.records) ≡ joins
-      (replaced_in t.moment newdir newname (result_ok r) t.records)
-  replaced_later (Err e) is = refl
-  replaced_later (Ok i) is =
-      let w = entry_in t.records newdir newname i is in
-      ap (λ rs. change (parted_by newname t.moment) rs newdir)
-      (changes_swap (one_name_less t.moment) (joined_by newname ino) t.records newdir i
-      (λ r at same. names_joins newname ino t.moment r))
-      ∙ changes_swap (parted_by newname t.moment) (joined_by newname ino)
-      (change (one_name_less t.moment) t.records i) newdir newdir (λ r at same.
-      let x = change_body (one_name_less t.moment) t.records i newdir (λ r. refl) w.d w.at in
-      parts_joins newname newname ino t.moment w.e r
-      (ap (λ b. entry_named newname (listed b))
-      (ap (λ (r : Record). r.body) (same_some r x.0 (sym at ∙ x.1)) ∙ x.2) ∙ w.goes))
 
   abbrev after : Result ℕ ℕ → Tree
   after r = with_moved (without_replaced t newdir newname (result_ok r)) olddir oldname newdir
@@ -180,7 +183,8 @@ module _ (t : Tree) (olddir : ℕ) (oldname : List ℕ) (newdir : ℕ) (newname 
   order_is_free (Err e) is move = ap rest (parted_later t.records move.old.e move.old.d move.old.at
       move.old.goes)
   order_is_free (Ok i) is move =
-      ap (λ rs. rest (change (parted_by oldname t.moment) rs olddir)) (replaced_later (Ok i) is)
+      ap (λ rs. rest (change (parted_by oldname t.moment) rs olddir))
+      (replaced_later t.records t.moment newdir newname ino (Ok i) is)
       ∙ ap rest (parted_later (without_entry t newdir newname i).records move.old.e move.old.d
       move.old.at move.old.goes)
 

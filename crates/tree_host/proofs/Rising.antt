@@ -32,7 +32,7 @@ low_of (e ∷ es) next from order low le = (
       (let last = order.1 0 e (omega arith) in omega arith),
 )
 
-rises : (es : List DirEntry) (next : ℕ) → AreInOrder es next → CookiesRise 0 es next
+pub rises : (es : List DirEntry) (next : ℕ) → AreInOrder es next → CookiesRise 0 es next
 rises es next order = low_of es next 0 order (λ k d within. omega arith) (omega arith)
 
 at_least : (from : ℕ) (es : List DirEntry) (end : ℕ) → CookiesRise from es end
@@ -120,7 +120,7 @@ first_above cookie (e ∷ es) (suc i) le parted =
     (test_below e.cookie cookie (parted.0 0 e (omega arith) (omega arith))))
 
 -- what a look-up at a place gives
-past : (es : List DirEntry) (i : ℕ) → length es ≤ i → slice_get es i ≡ None
+pub past : (es : List DirEntry) (i : ℕ) → length es ≤ i → slice_get es i ≡ None
 past [] i le = refl
 past (e ∷ es) zero le = absurd (omega arith)
 past (e ∷ es) (suc i) le = past es i (omega arith)

@@ -1,6 +1,7 @@
 pub mod Holds
 pub mod Host
 pub mod NamePlaces
+pub mod NameIndex
 pub mod Stored
 pub mod Walking
 pub mod Kept

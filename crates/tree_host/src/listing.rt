@@ -1,12 +1,14 @@
 //! The entries of a directory as they are kept in memory.
 ghost use Rattle.std.specs.Prelude.{◌≡◌, ◌+◌, ◌-◌, ◌^◌, ◌<◌, ◌++◌, ◌∷◌, [], IfSome, OnOk, OnErr};
-ghost use Rattle.std.specs.Prelude.{option_copied, bytes_eq, length, nat_le};
+ghost use Rattle.std.specs.Prelude.{option_copied, length, nat_le, nat_lt};
 ghost use Rattle.tree_model.specs.Finding.{entry_named};
 ghost use Rattle.tree_model.specs.Reading.{entry_above};
 ghost use Rattle.tree_model.specs.Unlinking.{without};
-ghost use Rattle.tree_host.specs.NamePlaces.{place_among, AreInOrder};
+ghost use Rattle.tree_host.specs.NamePlaces.{place_among, without_at, AreInOrder};
+ghost use Rattle.tree_host.specs.NameIndex.{IsIndexOf, Records};
 
 use std::alloc::{AllocError, Global};
+use std::collections::BTreeMap;
 use std::marker::Model;
 
 /// A name in a directory, with its cookie and the inode that it names.
@@ -43,20 +45,64 @@ impl DirEntry {
     {
         &self.name
     }
+}
 
-    fn is_named(&self, name: &[u8]) -> bool
-        ensures { result ≡ bytes_eq self.now.name name.now }
-    {
-        self.name.as_slice() == name
+// Gives a name a cookie. Without memory nothing changes.
+fn give_cookie(
+    index: &mut BTreeMap<Vec<u8>, u64>,
+    name: Vec<u8>,
+    cookie: u64,
+) -> Result<(), AllocError>
+    ensures ok { OnOk result (Records name.items cookie index.old index.new) }
+    ensures err { OnErr result (index.new.entries ≡ index.old.entries) }
+{
+    index.insert(name, cookie)?;
+    Ok(())
+}
+
+// Adds an entry and the cookie of its name, or, without memory for both, neither.
+fn enter(
+    entries: &mut Vec<DirEntry>,
+    index: &mut BTreeMap<Vec<u8>, u64>,
+    key: Vec<u8>,
+    entry: DirEntry,
+) -> Result<(), AllocError>
+    ensures ok { OnOk result ((entries.new.items ≡ entries.old.items ++ entry ∷ [])
+        × Records key.items entry.cookie index.old index.new) }
+    ensures err { OnErr result ((entries.new.items ≡ entries.old.items)
+        × (index.new.entries ≡ index.old.entries)) }
+{
+    let cookie = entry.cookie;
+    let count = entries.len();
+    entries.push(entry)?;
+    match give_cookie(index, key, cookie) {
+        Ok(()) => Ok(()),
+        Err(error) => {
+            entries.truncate(count);
+            Err(error)
+        }
     }
 }
 
-/// The entries of a directory in the order of their cookies, and the cookie that the next one gets.
+// Takes the entry at a place away, where there is a place.
+fn remove_at(entries: &mut Vec<DirEntry>, place: Option<usize>)
+    requires { IfSome place (λ k. k < length entries.old.items) }
+    ensures { entries.new.items ≡ without_at place entries.old.items }
+{
+    if let Some(place) = place {
+        entries.remove(place);
+    }
+}
+
+/// The entries of a directory in the order of their cookies, the cookie of each name, and the
+/// cookie that the next entry gets.
 #[derive(Drop)]
 pub struct Listing {
     entries: Vec<DirEntry>,
+    index: BTreeMap<Vec<u8>, u64>,
     next: u64,
     ghost order: { AreInOrder entries.items next },
+    ghost indexed: { IsIndexOf index entries.items },
 }
 
 impl Listing {
@@ -67,6 +113,7 @@ impl Listing {
     {
         Listing {
             entries: Vec::new(alloc),
+            index: BTreeMap::new(alloc),
             next: 1,
         }
     }
@@ -85,11 +132,31 @@ impl Listing {
         self.next
     }
 
+    // Where the entry of a name stands.
+    fn place_of(&self, name: &[u8]) -> Option<usize>
+        ensures found { result ≡ place_among name.now self.now.entries.items }
+        ensures bound { IfSome result (λ k. k < length self.now.entries.items) }
+    {
+        let Some(found) = self.index.get(name) else {
+            return None;
+        };
+        let cookie = *found;
+        let place = self.entries.partition_point(
+            |e: &DirEntry| -> bool
+                ensures { result ≡ nat_lt e.now.cookie cookie }
+            { e.cookie() < cookie },
+        );
+        Some(place)
+    }
+
     /// The entry of a name.
     pub fn find(&self, name: &[u8]) -> Option<&DirEntry>
         ensures { option_copied result ≡ entry_named name.now self.now.entries.items }
     {
-        self.entries.iter().find(|e| e.is_named(name))
+        match self.place_of(name) {
+            Some(place) => self.entries.get(place),
+            None => None,
+        }
     }
 
     /// The first entry above a cookie.
@@ -104,31 +171,27 @@ impl Listing {
         self.entries.get(place)
     }
 
-    /// Adds an entry, where there is memory for it.
-    pub fn push(&mut self, alloc: Global, name: &[u8], ino: u64) -> Result<(), AllocError>
+    /// Adds an entry in the place of the one that has its name, if there is one. Without memory
+    /// nothing changes.
+    pub fn put(&mut self, alloc: Global, name: &[u8], ino: u64) -> Result<(), AllocError>
         requires room { self.old.next < 2 ^ 64 - 1 }
-        ensures ok { OnOk result ((self.new.entries.items ≡ self.old.entries.items ++ record
-            { cookie = self.old.next; name = name.now; ino = ino } ∷ [])
+        ensures ok { OnOk result ((self.new.entries.items ≡ without name.now self.old.entries.items
+            ++ record { cookie = self.old.next; name = name.now; ino = ino } ∷ [])
             × (self.new.next ≡ self.old.next + 1)) }
         ensures err { OnErr result ((self.new.entries.items ≡ self.old.entries.items)
             × (self.new.next ≡ self.old.next)) }
     {
-        let name = Vec::from_slice(alloc, name)?;
-        self.entries.push(DirEntry {
+        let key = Vec::from_slice(alloc, name)?;
+        let entry = DirEntry {
             cookie: self.next,
-            name,
+            name: Vec::from_slice(alloc, name)?,
             ino,
-        })?;
+        };
+        let place = self.place_of(name);
+        enter(&mut self.entries, &mut self.index, key, entry)?;
+        remove_at(&mut self.entries, place);
         self.next += 1;
         Ok(())
-    }
-
-    // Where the entry of a name stands.
-    fn place_of(&self, name: &[u8]) -> Option<usize>
-        ensures found { result ≡ place_among name.now self.now.entries.items }
-        ensures bound { IfSome result (λ k. k < length self.now.entries.items) }
-    {
-        self.entries.iter().position(|e| e.is_named(name))
     }
 
     /// The entry of a name goes, and the others keep their cookies.
@@ -136,11 +199,8 @@ impl Listing {
         ensures entries { self.new.entries.items ≡ without name.now self.old.entries.items }
         ensures next { self.new.next ≡ self.old.next }
     {
-        match self.place_of(name) {
-            Some(place) => {
-                self.entries.remove(place);
-            }
-            None => (),
-        }
+        let place = self.place_of(name);
+        remove_at(&mut self.entries, place);
+        self.index.remove(name);
     }
 }

@@ -6,9 +6,10 @@ ghost use Rattle.tree_model.specs.Tree.{is_directory};
 ghost use Rattle.tree_model.specs.Finding.{entry_named, entries_of, ino_among};
 ghost use Rattle.tree_model.specs.Attributes.{attr_of};
 ghost use Rattle.tree_model.specs.Reading.{above, entry_above, bytes_of, part};
-ghost use Rattle.tree_model.specs.Making.{joined_by, next_cookie, new_name_refused};
+ghost use Rattle.tree_model.specs.Making.{next_cookie, new_name_refused};
 ghost use Rattle.tree_host.specs.Host.{as_errno};
 ghost use Rattle.tree_host.specs.Stored.{body_of};
+ghost use Rattle.tree_host.specs.Kept.{put_by};
 
 mod changes;
 mod reads;
@@ -197,14 +198,14 @@ impl Node {
         None
     }
 
-    /// Adds an entry, where there is memory for it.
+    /// Adds an entry in the place of the one that has its name, where there is memory for it.
     pub fn join(&mut self, alloc: Global, name: &[u8], ino: u64) -> Result<(), AllocError>
         requires room { next_cookie self.old.body < 2 ^ 64 - 1 }
-        ensures ok { OnOk result (self.new ≡ joined_by name.now ino self.old) }
+        ensures ok { OnOk result (self.new ≡ put_by name.now ino self.old) }
         ensures err { OnErr result (self.new ≡ self.old) }
     {
         if let Stored::Names { listing, .. } = &mut self.body {
-            listing.push(alloc, name, ino)?;
+            listing.put(alloc, name, ino)?;
         }
         Ok(())
     }

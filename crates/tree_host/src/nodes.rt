@@ -18,7 +18,7 @@ ghost use Rattle.tree_model.specs.Opening.{found_at};
 ghost use Rattle.tree_model.specs.Attributes.{kind_of};
 ghost use Rattle.tree_model.specs.Placing.{link_refused, one_link_more};
 ghost use Rattle.tree_host.specs.Stored.{links};
-ghost use Rattle.tree_host.specs.Kept.{tree_from};
+ghost use Rattle.tree_host.specs.Kept.{tree_from, put_by, IsFree};
 ghost use Rattle.tree_host.specs.Changing.{change_refused, changed_by, is_small, Makes};
 ghost use Rattle.tree_model.specs.Attributing.{refused_at, write_refused, overwritten_at, fitting};
 ghost use Rattle.tree_model.specs.declared.attributes.Limits.{Limits};
@@ -200,7 +200,8 @@ fn take_away(nodes: &mut Table<Node>, ino: u64)
     nodes.remove(ino);
 }
 
-fn push_into(
+// Adds an entry in the place of the one that has its name, where there is memory for it.
+fn put_into(
     alloc: Global,
     nodes: &mut Table<Node>,
     dir: u64,
@@ -208,7 +209,7 @@ fn push_into(
     ino: u64,
 ) -> Result<(), AllocError>
     requires room { unwrap_or (option_map next_cookie (body_at nodes.old dir)) 0 < 2 ^ 64 - 1 }
-    ensures ok { OnOk result (nodes.new ≡ change (joined_by name.now ino) nodes.old dir) }
+    ensures ok { OnOk result (nodes.new ≡ change (put_by name.now ino) nodes.old dir) }
     ensures err { OnErr result (nodes.new ≡ nodes.old) }
 {
     match nodes.get_mut(dir) {
@@ -227,6 +228,7 @@ pub fn add_node(
     node: Node,
 ) -> Result<(), AllocError>
     requires room { unwrap_or (option_map next_cookie (body_at nodes.old dir)) 0 < 2 ^ 64 - 1 }
+    requires free { IsFree nodes.old dir name.now }
     requires apart { dir ≢ ino }
     requires fresh { map.get nodes.old ino ≡ None }
     ensures ok { OnOk result (nodes.new ≡ change (joined_by name.now ino)
@@ -234,7 +236,7 @@ pub fn add_node(
     ensures err { OnErr result (nodes.new ≡ nodes.old) }
 {
     nodes.insert(ino, node)?;
-    match push_into(alloc, nodes, dir, name, ino) {
+    match put_into(alloc, nodes, dir, name, ino) {
         Ok(()) => Ok(()),
         Err(error) => {
             take_away(nodes, ino);
@@ -262,13 +264,14 @@ pub fn add_name(
     ino: u64,
 ) -> Result<(), AllocError>
     requires room { unwrap_or (option_map next_cookie (body_at nodes.old dir)) 0 < 2 ^ 64 - 1 }
+    requires free { IsFree nodes.old dir name.now }
     requires apart { dir ≢ ino }
     requires few { unwrap_or (option_map links (map.get nodes.old ino)) 0 < 2 ^ 64 - 1 }
     ensures ok { OnOk result (nodes.new ≡ change (joined_by name.now ino)
         (change one_link_more nodes.old ino) dir) }
     ensures err { OnErr result (nodes.new ≡ nodes.old) }
 {
-    push_into(alloc, nodes, dir, name, ino)?;
+    put_into(alloc, nodes, dir, name, ino)?;
     link_more(nodes, ino);
     Ok(())
 }

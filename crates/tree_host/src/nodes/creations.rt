@@ -8,6 +8,7 @@ ghost use Rattle.tree_model.specs.Placing.{one_link_more};
 ghost use Rattle.tree_model.specs.Attributing.{restamped};
 ghost use Rattle.tree_model.specs.Creating.{stamped};
 ghost use Rattle.tree_host.specs.Stored.{links};
+ghost use Rattle.tree_host.specs.Kept.{IsFree};
 ghost use Rattle.tree_host.specs.Holds.{held_more};
 
 use super::{add_name, add_node};
@@ -55,6 +56,7 @@ pub fn make_node(
 ) -> Result<(), AllocError>
     requires room { unwrap_or (option_map next_cookie (body_at nodes.old new.dir)) 0
         < 2 ^ 64 - 1 }
+    requires free { IsFree nodes.old new.dir new.name.now }
     requires apart { new.dir ≢ new.ino }
     requires fresh { map.get nodes.old new.ino ≡ None }
     ensures ok { OnOk result (nodes.new ≡ change (stamped new.entry.moment)
@@ -77,6 +79,7 @@ pub fn create_node(
 ) -> Result<(), AllocError>
     requires room { unwrap_or (option_map next_cookie (body_at nodes.old new.dir)) 0
         < 2 ^ 64 - 1 }
+    requires free { IsFree nodes.old new.dir new.name.now }
     requires apart { new.dir ≢ new.ino }
     requires fresh { map.get nodes.old new.ino ≡ None }
     requires unheld { map.get holds.old new.ino ≡ None }
@@ -102,6 +105,7 @@ pub fn create_node(
 pub fn link_node(alloc: Global, nodes: &mut Table<Node>, new: NewName<'_>) -> Result<(), AllocError>
     requires room { unwrap_or (option_map next_cookie (body_at nodes.old new.dir)) 0
         < 2 ^ 64 - 1 }
+    requires free { IsFree nodes.old new.dir new.name.now }
     requires apart { new.dir ≢ new.ino }
     requires few { unwrap_or (option_map links (map.get nodes.old new.ino)) 0 < 2 ^ 64 - 1 }
     ensures ok { OnOk result (nodes.new ≡ change (stamped new.entry.moment)

@@ -11,11 +11,11 @@ ghost use Rattle.tree_model.specs.Unlinking.{parted_by};
 ghost use Rattle.tree_model.specs.Renaming.{above_at, climbs_past, place_refused, replace_refused};
 ghost use Rattle.tree_model.specs.Renaming.{room_refused, move_refused, moved_below};
 ghost use Rattle.tree_host.specs.Holds.{is_held};
-ghost use Rattle.tree_host.specs.Kept.{tree_from, replaced_in, swept_of};
+ghost use Rattle.tree_host.specs.Kept.{tree_from, replaced_in, displaced_in, swept_of};
 
 use super::creations::stamp;
-use super::removals::{is_empty, part_from, remove_entry};
-use super::{find_in, is_directory, push_into, sweep};
+use super::removals::{is_empty, name_less, part_from};
+use super::{find_in, is_directory, put_into, sweep};
 use crate::node::Node;
 use port_base::errno::{EINVAL, EISDIR, ENOSPC, ENOTDIR, ENOTEMPTY};
 use port_base::table::Table;
@@ -145,19 +145,36 @@ pub fn found(nodes: &Table<Node>, dir: u64, name: &[u8]) -> Option<u64>
     }
 }
 
-fn remove_replaced(
+// What is replaced has a name less, and its directory is stamped.
+fn displace(nodes: &mut Table<Node>, dir: u64, there: Option<u64>, moment: Stamp)
+    ensures { nodes.new ≡ displaced_in moment dir there nodes.old }
+{
+    if let Some(ino) = there {
+        name_less(nodes, ino, moment);
+        stamp(nodes, dir, moment);
+    }
+}
+
+// Adds an entry of a name, in the place of that of the inode that has the name, if there is one.
+fn put_replacing(
+    alloc: Global,
     nodes: &mut Table<Node>,
-    dir: u64,
-    name: &[u8],
+    to: Place<'_>,
+    ino: u64,
     there: Option<u64>,
     moment: Stamp,
-)
-    ensures { nodes.new ≡ replaced_in moment dir name.now there nodes.old }
+) -> Result<(), AllocError>
+    requires room { unwrap_or (option_map next_cookie (body_at nodes.old to.dir)) 0
+        < 2 ^ 64 - 1 }
+    requires there { there ≡ result_ok (ino_among false to.name.now
+        (entries_at nodes.old to.dir)) }
+    ensures ok { OnOk result (nodes.new ≡ replaced_in moment to.entry.dir to.entry.name.now there
+        (change (joined_by to.entry.name.now ino) nodes.old to.entry.dir)) }
+    ensures err { OnErr result (nodes.new ≡ nodes.old) }
 {
-    match there {
-        Some(ino) => remove_entry(nodes, dir, name, ino, moment),
-        None => (),
-    }
+    put_into(alloc, nodes, to.dir, to.name, ino)?;
+    displace(nodes, to.dir, there, moment);
+    Ok(())
 }
 
 fn settle(nodes: &mut Table<Node>, ino: u64, moment: Stamp, dir: u64)
@@ -170,7 +187,7 @@ fn settle(nodes: &mut Table<Node>, ino: u64, moment: Stamp, dir: u64)
 }
 
 /// Adds an entry of the new name, and takes away the one that it replaces and the old one. Without
-/// memory for it nothing changes.
+/// memory nothing changes.
 pub fn move_entry(
     alloc: Global,
     nodes: &mut Table<Node>,
@@ -179,6 +196,8 @@ pub fn move_entry(
 ) -> Result<(), AllocError>
     requires room { unwrap_or (option_map next_cookie (body_at nodes.old moved.to.dir)) 0
         < 2 ^ 64 - 1 }
+    requires there { moved.there ≡ result_ok (ino_among false moved.to.name.now
+        (entries_at nodes.old moved.to.dir)) }
     ensures ok { OnOk result (nodes.new ≡ change (moved_below moment moved.entry.to.dir)
         (change (stamped moment) (change (parted_by moved.entry.from.name.now moment)
         (replaced_in moment moved.entry.to.dir moved.entry.to.name.now moved.entry.there
@@ -192,8 +211,7 @@ pub fn move_entry(
         ino,
         there,
     } = moved;
-    push_into(alloc, nodes, to.dir, to.name, ino)?;
-    remove_replaced(nodes, to.dir, to.name, there, moment);
+    put_replacing(alloc, nodes, to, ino, there, moment)?;
     part_from(nodes, from.dir, from.name, moment);
     stamp(nodes, to.dir, moment);
     settle(nodes, ino, moment, to.dir);

@@ -53,7 +53,8 @@ pub fn find_empty(nodes: &Table<Node>, dir: u64, name: &[u8]) -> Result<u64, Hos
     Ok(ino)
 }
 
-fn name_less(nodes: &mut Table<Node>, ino: u64, moment: Stamp)
+/// An inode has a name less.
+pub fn name_less(nodes: &mut Table<Node>, ino: u64, moment: Stamp)
     ensures { nodes.new ≡ change (one_name_less moment) nodes.old ino }
 {
     match nodes.get_mut(ino) {

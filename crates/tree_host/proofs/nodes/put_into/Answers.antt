@@ -1,10 +1,11 @@
 -- What is written through the borrow of the record is the change of the map.
 use Rattle.std.proofs.Common.{◌≡◌, ap, ◌∙◌, subst, OnSome}
 use Rattle.std.specs.FinMap as map
-use Rattle.tree_model.specs.Making.{joined_by, changed}
+use Rattle.tree_model.specs.Making.{changed}
+use Rattle.tree_host.specs.Kept.{put_by}
 use Rattle.tree_model.proofs.Maps.{rewritten}
 use Rattle.tree_host.proofs.Results.{on_ok, on_err}
-use Rattle.tree_host.proofs.nodes.push_into.Goals as goal
+use Rattle.tree_host.proofs.nodes.put_into.Goals as goal
 
 pub returns-in-Some-clause-ok : goal.returns-in-Some-clause-ok
 returns-in-Some-clause-ok c =
@@ -15,7 +16,7 @@ returns-in-Some-clause-ok c =
     subst (λ o. OnSome o (c.get_mut.follows.lender w ≡ map.insert rs i w)) c.in-Some.is
     (c.get_mut.follows.holds w)
     ∙ ap (λ r. map.insert rs i r) is
-    ∙ ap (λ o. changed (joined_by c.args.name.now c.args.ino) o rs i) c.in-Some.ensures.value)
+    ∙ ap (λ o. changed (put_by c.args.name.now c.args.ino) o rs i) c.in-Some.ensures.value)
 
 pub returns-in-Some-clause-err : goal.returns-in-Some-clause-err
 returns-in-Some-clause-err c =
