@@ -28,9 +28,9 @@ pub struct ScriptProbe {
     failing: FailingCalls,
 }
 
-// Counts a call, and says whether it faults.
+/// Counts a call, and says whether it faults. The count of faults rises at a fault alone.
 #[tactic(auto, using(crate::proofs::ScriptLemmas::due_is_loud))]
-fn strikes(failing: &mut FailingCalls) -> bool
+pub fn strikes(failing: &mut FailingCalls) -> bool
     ensures fault { IsTrue result → FaultedIn (calls_of failing.old) (calls_of failing.new) }
     ensures none { result ≡ false → calls_of failing.new ≡ calls_of failing.old }
 {

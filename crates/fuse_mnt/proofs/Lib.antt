@@ -1,0 +1,9 @@
+mod CopyingLemmas
+mod FlagLemmas
+mod KeptLemmas
+mod KeptMoves
+mod KeptRows
+mod LookupLemmas
+mod MovingLemmas
+mod PathLemmas
+mod RowLemmas
