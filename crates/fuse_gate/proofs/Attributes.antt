@@ -9,6 +9,7 @@ use Rattle.tree_machine.specs.State.{Node as MachineNode, Handle as MachineHandl
 use Rattle.tree_machine.specs.Refusals.{refused_unknown}
 use Rattle.tree_machine.specs.Core.{node_ino, handle_ino, getattr_refusal, getattr_ino, attr_reply}
 use Rattle.tree_machine.specs.Core.{shown_at}
+use Rattle.tree_machine.specs.Setting.{is_read_alone}
 use Rattle.fid_model.specs.Fids.{ServerState, Fid, IsGoodServer, closed}
 use Rattle.fid_model.specs.Moments.{Moment, Untouched, AskedOne}
 use Rattle.fuse_gate.specs.Standing.{IsInStep, machine_of, opened}
@@ -22,7 +23,7 @@ use Rattle.fuse_gate.proofs.Asking.{Tells}
 use Rattle.fuse_gate.proofs.Standings.{node_fid, handle_fid, node_seen, handle_seen}
 use Rattle.fuse_gate.proofs.Serving.{one_alone, one_message, unchanged, served_after}
 
-replied : (x : Result Attr ℕ) → attributes_reply (fuse_shown x) ≡ attr_reply x
+pub replied : (x : Result Attr ℕ) → attributes_reply (fuse_shown x) ≡ attr_reply x
 replied (Ok a) = refl
 replied (Err e) = refl
 
@@ -33,7 +34,7 @@ module _ {g : Gate} {s : ServerState} (st : IsInStep g s) (node : ℕ) where
   node_subject k at =
       let seen = node_seen st node (Some k) at in (
         ap (λ (o : Option MachineNode). refused_unknown o ESTALE) seen,
-        (closed k.ino, node_fid st node k at, sym (ap node_ino seen)),
+        (closed k.ino, node_fid st node k at, sym (ap node_ino seen), refl),
       )
 
   pub node_refused : get g.nodes node ≡ None → IsSubject g s node None (Err ESTALE)
@@ -45,7 +46,12 @@ module _ {g : Gate} {s : ServerState} (st : IsInStep g s) (node : ℕ) where
   handle_subject handle h at =
       let seen = handle_seen st handle (Some h) at in (
         ap (λ (o : Option MachineHandle). refused_unknown o EBADF) seen,
-        (opened h, handle_fid st handle h at, sym (ap handle_ino seen)),
+        (
+          opened h,
+          handle_fid st handle h at,
+          sym (ap handle_ino seen),
+          sym (ap is_read_alone seen),
+        ),
       )
 
   pub handle_refused : (handle : ℕ) → get g.handles handle ≡ None

@@ -13,7 +13,7 @@ use Rattle.tree_model.proofs.Maps.{inserted, insert_keeps, removed, remove_keeps
 use Rattle.tree_model.proofs.Counting.{put_back}
 use Rattle.fid_model.specs.Fids.{ServerState, closed}
 use Rattle.fuse_gate.specs.Standing.{IsInStep, ArePaired, fid_at, handle_of}
-use Rattle.tree_machine.proofs.KindsKept.{KeepsKinds}
+use Rattle.tree_machine.specs.Kinds.{KeepsKinds}
 use Rattle.fuse_gate.specs.Changes.{without, counted_node, with_node}
 use Rattle.fuse_gate.specs.declared.gate.Node.{Node}
 use Rattle.fuse_gate.specs.declared.gate.Gate.{Gate}

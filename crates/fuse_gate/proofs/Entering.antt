@@ -37,11 +37,11 @@ use Rattle.fuse_gate.proofs.Serving.{SentAlone, one_alone, one_more_sent, hurt, 
 use Rattle.fuse_gate.proofs.Changing.{counted_paired, added_paired}
 use Rattle.fuse_gate.proofs.Showing.{some_value}
 
-abbrev entry_of : ℕ → Result FileAttr ℕ → Reply
+abbrev pub entry_of : ℕ → Result FileAttr ℕ → Reply
 entry_of node (Ok a) = Entry node a
 entry_of node (Err e) = Refused e
 
-replied : (node : ℕ) (x : Result Attr ℕ) → entry_of node (fuse_shown x) ≡ entry_reply node x
+pub replied : (node : ℕ) (x : Result Attr ℕ) → entry_of node (fuse_shown x) ≡ entry_reply node x
 replied node (Ok a) = refl
 replied node (Err e) = refl
 

@@ -17,6 +17,8 @@ pub mod Known
 pub mod Showing
 pub mod Beginning
 pub mod Attributes
+pub mod SettingBits
+pub mod SettingAttributes
 pub mod Entering
 pub mod LookingUp
 pub mod Stepping
@@ -27,6 +29,11 @@ pub mod Played
 mod Telling
 mod Stored
 pub mod MakingDirectories
+pub mod EnteringAgain
+pub mod Linking
+pub mod OpenEntries
+pub mod CreatingFiles
+pub mod Creations
 pub mod Replying
 pub mod Reading
 pub mod Paging

@@ -26,7 +26,8 @@ use Rattle.tree_machine.specs.Requests.{effect_of, answer_of}
 use Rattle.tree_machine.specs.Messages.{effect_messages, request_messages, found_messages}
 use Rattle.tree_machine.specs.Messages.{made_messages}
 use Rattle.tree_machine.specs.Faults.{PartOf}
-use Rattle.tree_machine.proofs.KindsKept.{Leaves, KeepsKinds, leaves_kinds}
+use Rattle.tree_machine.specs.Kinds.{KeepsKinds}
+use Rattle.tree_machine.proofs.KindsKept.{Leaves, leaves_kinds}
 use Rattle.tree_machine.proofs.MadeNames.{mkdir_leaves, mkdir_found, mkdir_stays}
 use Rattle.tree_machine.proofs.MadeNames.{changed_tree_good, given_named}
 use Rattle.fid_model.specs.Fids.{ServerState, Fid, IsGoodServer}
@@ -47,7 +48,7 @@ use Rattle.fuse_gate.proofs.Serving.{SentAlone, one_alone, hurt, unchanged, serv
 use Rattle.fuse_gate.proofs.TreeChanging.{held_same}
 
 -- nothing goes, whatever more is held
-kept_more : (u : Tree) (held other : ℕ → Bool) → ((i : ℕ) → held i ≡ true → other i ≡ true)
+pub kept_more : (u : Tree) (held other : ℕ → Bool) → ((i : ℕ) → held i ≡ true → other i ≡ true)
     → IsKept u.records held → keep other u ≡ u
 kept_more u held other more kept = keep_same u other
     (λ i some. either (is_linked u.records i) (held i) (other i) (more i) (kept i some))
@@ -56,7 +57,7 @@ kept_more u held other more kept = keep_same u other
     either true c d m h = refl
     either false c d m h = m h
 
-node_tree : (m : MachineState) (ino : ℕ) (o : Option (ℕ × MachineNode))
+pub node_tree : (m : MachineState) (ino : ℕ) (o : Option (ℕ × MachineNode))
     → (node_for m ino o).1.tree ≡ m.tree
 node_tree m ino (Some known) = refl
 node_tree m ino None = refl

@@ -1,5 +1,5 @@
 -- OPEN.
-use Rattle.std.proofs.Common.{◌≡◌, ◌≢◌, ℕ, ◌+◌, ◌<◌, ◌≤◌, ◌^◌, ◌⊎◌, Bool, true, false, not, [], ◌∷◌}
+use Rattle.std.proofs.Common.{◌≡◌, ◌≢◌, ℕ, ◌+◌, ◌<◌, ◌≤◌, ◌^◌, ◌⊎◌, Bool, true, false, [], ◌∷◌}
 use Rattle.std.proofs.Common.{refl, sym, ap, ◌∙◌, subst, Option, Some, None, Result, Ok, Err, arith}
 use Rattle.std.proofs.Common.{IsSome, inl, inr, ⊎_elim}
 use Rattle.std.specs.Prelude.{◌==◌, option_map}
@@ -11,6 +11,8 @@ use Rattle.port_base.specs.declared.errno.TheConstants.{EIO, EISDIR, ENFILE, ENO
 use Rattle.tree_model.specs.Tree.{Tree, Record, Body, body_at, is_directory_at}
 use Rattle.tree_model.specs.Tree.Body.{File, Directory, Link}
 use Rattle.tree_model.specs.Attributes.{Qid, kind_of, qid_type}
+use Rattle.port_base.specs.OpenFlags.{has_flag}
+use Rattle.port_base.specs.declared.oflag.TheConstants.{O_TRUNC}
 use Rattle.tree_model.specs.Opening.{open_check_of}
 use Rattle.tree_model.proofs.Maps.{inserted, insert_keeps, undone}
 use Rattle.fuse_wire.specs.Request.{open_file}
@@ -20,9 +22,9 @@ use Rattle.tree_machine.specs.Replies.{Reply}
 use Rattle.tree_machine.specs.Replies.Reply.{Refused, Opened}
 use Rattle.tree_machine.specs.Refusals.{refused_if, first_refusal}
 use Rattle.tree_machine.specs.Core.{node_ino, open_refusal, opened as machine_opened}
-use Rattle.tree_machine.specs.Requests.{opens_to_read, refusal_before}
+use Rattle.tree_machine.specs.Requests.{refusal_before}
 use Rattle.tree_machine.specs.Messages.{opened_messages}
-use Rattle.tree_machine.proofs.Opening.{opened_good, to_read}
+use Rattle.tree_machine.proofs.Opening.{opened_good}
 use Rattle.fid_model.specs.Fids.{ServerState, Fids, IsGoodServer, closed, kept_state as kept_server}
 use Rattle.fid_model.specs.Answers.{opened as fid_opened, qid_at}
 use Rattle.fid_model.specs.Calls.{clunked}
@@ -77,17 +79,17 @@ module _ {g : Gate} (n : Moment) (st : IsInStep g n.state) (good : IsGoodServer 
   abbrev refusal : Option ℕ
   refusal = refusal_before n.state.settings m node (open_file flags)
 
-  pub open_unserved : false ≡ opens_to_read flags → refusal ≡ Some ENOSYS
+  pub open_unserved : true ≡ has_flag O_TRUNC flags → refusal ≡ Some ENOSYS
   open_unserved unserved = ap (λ (b : Bool). first_refusal
-      (refused_if (not b) ENOSYS ∷ open_refusal n.state.settings m (get m.nodes node) ∷ []))
+      (refused_if b ENOSYS ∷ open_refusal n.state.settings m (get m.nodes node) ∷ []))
       (sym unserved)
 
-  module _ (reads : true ≡ opens_to_read flags) where
+  module _ (whole : false ≡ has_flag O_TRUNC flags) where
     node_refusal : (o : Option Node) → get g.nodes node ≡ o
         → refusal ≡ first_refusal (open_refusal n.state.settings m (option_map node_of o) ∷ [])
     node_refusal o at =
-        ap (λ (b : Bool). first_refusal (refused_if (not b) ENOSYS
-        ∷ open_refusal n.state.settings m (get m.nodes node) ∷ [])) (sym reads)
+        ap (λ (b : Bool). first_refusal (refused_if b ENOSYS
+        ∷ open_refusal n.state.settings m (get m.nodes node) ∷ [])) (sym whole)
         ∙ ap (λ (o : Option MachineNode). first_refusal (open_refusal n.state.settings m o ∷ []))
         (node_seen st node o at)
 
@@ -129,7 +131,7 @@ module _ {g : Gate} (n : Moment) (st : IsInStep g n.state) (good : IsGoodServer 
         may_open small = record {
           stands = st;
           known = at;
-          served = sym reads;
+          whole = sym whole;
           plain = λ is. absurd (false≢true (sym file ∙ is));
           room =
               sym room;
@@ -368,7 +370,7 @@ module _ {g : Gate} (n : Moment) {id : ℕ} {k : Node} {flags : ℕ} (h : MayOpe
                   let frames = two_sent.messages.frames in
                   let asked = two_sent.messages.asked in
                   let fine = opened_good s.settings (machine_of g s) h.stands.good flags k.ino
-                  (to_read flags h.served).access h.room h.plain checks refl in
+                  h.room h.plain checks refl in
                   subst (λ (x : Gate). ServesOpening k flags (g, n) (x, n2) (Opened g.next))
                   (sym gate)
                   (made opens (opened_messages checks) (Untouched s.tree) (g, n)

@@ -86,8 +86,8 @@ module _ {g : Gate} (n : Moment) (st : IsInStep g n.state) (good : IsGoodServer 
       may_open_directory small = record {
         stands = st;
         known = at;
-        served = refl;
-        plain = λ is. refl;
+        whole = refl;
+        plain = λ is. (refl, refl);
         room = sym room;
         few = few_used st (sym room) small;
       }

@@ -9,29 +9,34 @@ use Rattle.tree_model.specs.Tree.Body.{File, Directory, Link}
 use Rattle.tree_model.specs.Creating.{mkdir_of}
 use Rattle.tree_model.specs.Finding.{find}
 use Rattle.tree_model.specs.Opening.{body_answer, open_check_of, read_body, readlink_body}
+use Rattle.tree_model.specs.AttributeSteps.{run}
 use Rattle.tree_model.specs.Settings.{Settings}
 use Rattle.tree_model.specs.declared.attributes.Attr.{Attr}
 use Rattle.tree_model.specs.declared.attributes.TheConstants.{BLOCK_SIZE}
 use Rattle.tree_model.specs.Good.{IsGoodTree, IsGoodBody}
 use Rattle.fuse_wire.specs.Head.{head_of}
+use Rattle.tree_machine.specs.Setting.{given_handle, set_reply, set_steps}
 use Rattle.fuse_wire.specs.Request.{Request, init, lookup, getattr, unlink, open_file, read, opendir}
 use Rattle.fuse_wire.specs.Request.{readdir, releasedir, flush, release, forget, batch_forget}
 use Rattle.fuse_wire.specs.Request.{rmdir, rename, rename2, symlink, mknod, readlink, statfs, fsync}
-use Rattle.fuse_wire.specs.Request.{fsyncdir, interrupt, destroy, mkdir}
+use Rattle.fuse_wire.specs.Request.{fsyncdir, interrupt, destroy, mkdir, setattr, write, link}
+use Rattle.fuse_wire.specs.Request.{create}
 use Rattle.fuse_wire.specs.Reply.{u32s, u64s, reply_head, reply, init_body, entry_body, attr_body}
-use Rattle.fuse_wire.specs.Reply.{opened_body, statfs_body}
+use Rattle.fuse_wire.specs.Reply.{opened_body, statfs_body, created_body}
 use Rattle.fuse_wire.specs.declared.protocol.TheConstants.{MAX_READ}
 use Rattle.fuse_wire.proofs.Sizes.{length-init_body, length-entry_body, length-attr_body}
-use Rattle.fuse_wire.proofs.Sizes.{length-opened_body, length-statfs_body}
+use Rattle.fuse_wire.proofs.Sizes.{length-opened_body, length-statfs_body, length-created_body}
 use Rattle.tree_machine.specs.State.{MachineState}
 use Rattle.tree_machine.specs.Replies.{Reply, reply_bytes}
 use Rattle.tree_machine.specs.Replies.Reply.{Refused, Granted, Entry, Attributes, Opened, Bytes}
-use Rattle.tree_machine.specs.Replies.Reply.{Sizes, Done}
+use Rattle.tree_machine.specs.Replies.Reply.{Sizes, Done, Created}
 use Rattle.tree_machine.specs.Refusals.{refused_or}
 use Rattle.tree_machine.specs.Core.{node_ino, handle_ino, node_of, node_for, entry_reply, shown_at}
 use Rattle.tree_machine.specs.Core.{looked_up, getattr_ino, attr_reply, opened, bytes_reply}
 use Rattle.tree_machine.specs.Core.{unlink_told, changed_by}
-use Rattle.tree_machine.specs.Naming.{rmdir_told, rename_told, made}
+use Rattle.tree_machine.specs.Naming.{rmdir_told, rename_told, made, link_told, linked}
+use Rattle.tree_model.specs.OpenedFiles.{new_file_of}
+use Rattle.tree_machine.specs.Creating.{created, created_reply}
 use Rattle.tree_machine.specs.Requests.{refusal_before, effect_of, answer_of}
 use Rattle.tree_machine.specs.Step.{request_in_turn}
 use Rattle.tree_machine.proofs.Listing.{listing_short}
@@ -60,6 +65,7 @@ body_size (Granted minor max_readahead) = 64
 body_size (Entry node attr) = 128
 body_size (Attributes attr) = 104
 body_size (Opened handle) = 16
+body_size (Created node attr handle) = 144
 body_size (Bytes bytes) = length bytes
 body_size (Sizes blocks files) = 80
 body_size Done = 0
@@ -75,6 +81,9 @@ written_size unique (Attributes attr) = length-reply unique 0 (attr_body attr)
     ∙ ap (λ n. 16 + n) (length-attr_body attr)
 written_size unique (Opened handle) = length-reply unique 0 (opened_body handle)
     ∙ ap (λ n. 16 + n) (length-opened_body handle)
+written_size unique (Created node attr handle) =
+    length-reply unique 0 (created_body node attr handle)
+    ∙ ap (λ n. 16 + n) (length-created_body node attr handle)
 written_size unique (Bytes bytes) = length-reply unique 0 bytes
 written_size unique (Sizes blocks files) =
     length-reply unique 0 (statfs_body BLOCK_SIZE blocks files)
@@ -114,9 +123,29 @@ made_short s m (Ok (a, t)) =
     let m1 : MachineState = record m { tree = t } in looked_up_short s m1 (Ok a.ino)
 made_short s m (Err e) = tt
 
+linked_short : (s : Settings) (m : MachineState) (ino : ℕ) (r : Result (Unit {0} × Tree) ℕ)
+    → IsShort (linked s m ino r).0
+linked_short s m ino (Ok (u, t)) =
+    let m1 : MachineState = record m { tree = t } in looked_up_short s m1 (Ok ino)
+linked_short s m ino (Err e) = tt
+
+created_entry_short : (node : ℕ) (r : Result Attr ℕ) → IsShort (created_reply node r)
+created_entry_short node (Ok a) = tt
+created_entry_short node (Err e) = tt
+
+created_short : (s : Settings) (m : MachineState) (flags : ℕ) (r : Result (ℕ × Tree) ℕ)
+    → IsShort (created s m flags r).0
+created_short s m flags (Ok (ino, t)) = created_entry_short m.next (shown_at s t ino)
+created_short s m flags (Err e) = tt
+
 attr_short : (r : Result Attr ℕ) → IsShort (attr_reply r)
 attr_short (Ok a) = tt
 attr_short (Err e) = tt
+
+set_short : (s : Settings) (m : MachineState) (ino : ℕ) (r : Result (Unit {0}) ℕ × Tree)
+    → IsShort (set_reply s m ino r).0
+set_short s m ino (Ok u, t) = attr_short (shown_at s t ino)
+set_short s m ino (Err e, t) = tt
 
 opened_short : (m : MachineState) (ino flags : ℕ) (r : Result (Unit {0}) ℕ)
     → IsShort (opened m ino flags r).0
@@ -159,6 +188,9 @@ module _ (s : Settings) (m : MachineState) (good : IsGoodTree m.tree) where
       node_ino (get m.nodes node) in opened_short m ino flags (open_check_of m.tree ino flags)
   effect_short node (read fh offset size flags lock) =
       bytes_short offset size (body_at m.tree.records (handle_ino (get m.handles fh)))
+  effect_short node (setattr asked) = set_short s m (getattr_ino m node (given_handle asked))
+      (run (set_steps m node asked) m.tree)
+  effect_short node (write fh offset bytes) = tt
   effect_short node (unlink name) = changed_short m
       (unlink_told m (node_ino (get m.nodes node)) name)
   effect_short node (rmdir name) = changed_short m
@@ -171,6 +203,10 @@ module _ (s : Settings) (m : MachineState) (good : IsGoodTree m.tree) where
   effect_short node (mknod mode rdev name) = tt
   effect_short node (mkdir mode name) = made_short s m
       (mkdir_of m.tree (node_ino (get m.nodes node)) name mode)
+  effect_short node (link old name) = linked_short s m (node_ino (get m.nodes old))
+      (link_told m (node_ino (get m.nodes old)) (node_ino (get m.nodes node)) name)
+  effect_short node (create flags mode name) = created_short s m flags
+      (new_file_of m.tree (node_ino (get m.nodes node)) name flags mode)
   effect_short node readlink =
       let ino = node_ino (get m.nodes node) in
       target_short (get m.tree.records ino) (λ r at. (good.records ino r at).body)

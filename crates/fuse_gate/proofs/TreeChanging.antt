@@ -16,7 +16,8 @@ use Rattle.tree_machine.specs.Requests.{refusal_before, effect_of}
 use Rattle.tree_machine.specs.Messages.{effect_messages}
 use Rattle.tree_machine.specs.Faults.{PartOf}
 use Rattle.tree_machine.specs.Good.{IsGoodMachine}
-use Rattle.tree_machine.proofs.KindsKept.{Leaves, KeepsKinds, leaves_kinds}
+use Rattle.tree_machine.specs.Kinds.{KeepsKinds}
+use Rattle.tree_machine.proofs.KindsKept.{Leaves, leaves_kinds}
 use Rattle.tree_machine.proofs.Directories.{changed_good}
 use Rattle.fid_model.specs.Fids.{ServerState, IsGoodServer, is_held}
 use Rattle.fid_model.specs.Moments.{Moment, AskedOne, Asks}

@@ -3,7 +3,7 @@ use Rattle.std.specs.Prelude.{◌≡◌, ℕ, ◌+◌, ◌-◌, ◌^◌, ◌<◌
 use Rattle.std.specs.Prelude.{None, IsSome, Result, Ok, Err}
 use Rattle.std.specs.FinMap as map
 use Rattle.port_base.specs.OpenFlags.{access, has_flag}
-use Rattle.port_base.specs.declared.oflag.TheConstants.{O_APPEND}
+use Rattle.port_base.specs.declared.oflag.TheConstants.{O_APPEND, O_RDONLY, O_TRUNC}
 use Rattle.tree_model.specs.Tree.{body_at, is_directory_at}
 use Rattle.tree_model.specs.Attributes.{Qid}
 use Rattle.tree_model.specs.Opening.{open_check_of}
@@ -12,10 +12,11 @@ use Rattle.tree_machine.specs.State.{is_at_limit, COUNT_LIMIT, Node as MachineNo
 use Rattle.tree_machine.specs.Replies.{Reply}
 use Rattle.tree_machine.specs.Replies.Reply.{Bytes}
 use Rattle.tree_machine.specs.Core.{looked_up, node_of, getattr_refusal, getattr_ino, opened}
-use Rattle.tree_machine.specs.Requests.{opens_to_read}
 use Rattle.tree_machine.specs.Messages.{opened_messages, pieces}
+use Rattle.tree_machine.specs.Setting.{is_read_alone, set_through}
 use Rattle.fid_model.specs.Fids.{ServerState, Fid, closed, IsGoodServer}
 use Rattle.fid_model.specs.Answers.{qid_at}
+use Rattle.fid_model.specs.Setattr.{is_open_to_read_alone}
 use Rattle.fid_model.specs.Moments.{Moment, Untouched}
 use Rattle.fuse_gate.specs.Files.{file_at}
 use Rattle.fuse_gate.specs.Standing.{IsInStep, machine_of, piece_of}
@@ -79,13 +80,14 @@ without_handle g id = record g { handles = map.remove g.handles id; used = g.use
 abbrev pub without : ServerState → ℕ → ServerState
 without s fid = record s { fids = map.remove s.fids fid }
 
--- a node may be opened by these flags, a directory not to append, and a number is left for the
--- handle
+-- a node may be opened by these flags, which empty no file, a directory to be read alone, and a
+-- number is left for the handle
 pub record MayOpen (g : Gate) (s : ServerState) (id : ℕ) (n : Node) (flags : ℕ) : Type 0 where
   pub stands : IsInStep g s
   pub known : map.get g.nodes id ≡ Some n
-  pub served : opens_to_read flags ≡ true
-  pub plain : is_directory_at (body_at s.tree.records n.ino) ≡ true → has_flag O_APPEND flags ≡ false
+  pub whole : has_flag O_TRUNC flags ≡ false
+  pub plain : is_directory_at (body_at s.tree.records n.ino) ≡ true
+      → (access flags ≡ O_RDONLY) × (has_flag O_APPEND flags ≡ false)
   pub room : is_at_limit s.settings (machine_of g s) ≡ false
   pub few : g.used < 2 ^ 32
 
@@ -113,12 +115,13 @@ ServesEntry ino old new reply =
     Serves (looked_up old.1.state.settings (machine_at old) (Ok ino))
     (entering_rest (node_of (machine_at old) ino)) (Untouched old.1.state.tree) old new reply
 
--- the fid of what GETATTR asks about, or the refusal
+-- the fid of what GETATTR or SETATTR asks about, and how it is open; or the refusal
 abbrev pub IsSubject : Gate → ServerState → ℕ → Option ℕ → Result ℕ ℕ → Type 0
 IsSubject g s node handle (Ok fid) =
     (getattr_refusal (machine_of g s) node handle ≡ None)
     × ((f : Fid) × (map.get s.fids fid ≡ Some f)
-    × (f.ino ≡ getattr_ino (machine_of g s) node handle))
+    × (f.ino ≡ getattr_ino (machine_of g s) node handle)
+    × (is_open_to_read_alone f.open_state ≡ is_read_alone (set_through (machine_of g s) handle)))
 IsSubject g s node handle (Err e) = getattr_refusal (machine_of g s) node handle ≡ Some e
 
 -- the opening of a node that may be opened

@@ -4,8 +4,11 @@ pub mod Steps
 pub mod Replies
 pub mod Attaching
 pub mod Changes
+pub mod Linking
+pub mod Creation
 pub mod Pump
 pub mod Playing
 pub mod Files
+pub mod Setting
 pub mod Listings
 pub mod Samples

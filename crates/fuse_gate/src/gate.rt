@@ -7,9 +7,11 @@ ghost use Rattle.fuse_gate.specs.Changes.{one_sent, counted_up, counted_down, wi
 ghost use Rattle.fuse_gate.specs.Changes.{without_node, with_handle, without_handle};
 
 mod attach;
+mod create;
 mod forget;
 mod getattr;
 mod init;
+mod link;
 mod lookup;
 mod mkdir;
 mod open;
@@ -21,6 +23,7 @@ mod release;
 mod rename;
 pub mod reply;
 mod serve;
+mod setattr;
 mod show;
 mod special;
 mod step;

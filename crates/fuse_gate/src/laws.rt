@@ -5,7 +5,7 @@ ghost use Rattle.tree_model.specs.Tree.{Tree, linked, is_linked};
 ghost use Rattle.tree_model.specs.Finding.{root_of};
 ghost use Rattle.tree_machine.specs.State.{is_named};
 ghost use Rattle.fid_model.specs.Fids.{ServerState, IsGoodServer};
-ghost use Rattle.tree_machine.proofs.KindsKept.{KeepsKinds};
+ghost use Rattle.tree_machine.specs.Kinds.{KeepsKinds};
 ghost use Rattle.fuse_gate.specs.Standing.{ArePaired, IsInStep, machine_of};
 ghost use Rattle.fuse_gate.specs.declared.gate.Gate.{Gate};
 

@@ -5,13 +5,15 @@ use Rattle.fuse_wire.specs.Layouts.{name_at, only_name, name_behind, two_names, 
 use Rattle.fuse_wire.specs.Layouts.{flags_of, read_in_of, handle_of, sync_in_of}
 use Rattle.fuse_wire.specs.Request.{request_of, request_in, init_of, getattr_of, rename_of}
 use Rattle.fuse_wire.specs.Request.{rename2_of, mknod_of, mkdir_of, forget_of, batch_forget_of}
+use Rattle.fuse_wire.specs.Request.{link_of, create_of}
 use Rattle.fuse_wire.specs.Request.Request.{init, lookup, getattr, open_file, read, flush, release}
 use Rattle.fuse_wire.specs.Request.Request.{forget, batch_forget, unlink, opendir, readdir}
 use Rattle.fuse_wire.specs.Request.Request.{releasedir, rmdir, rename, rename2, symlink, mknod}
 use Rattle.fuse_wire.specs.Request.Request.{readlink, statfs, fsync, fsyncdir, interrupt, destroy}
-use Rattle.fuse_wire.specs.Request.Request.{mkdir}
+use Rattle.fuse_wire.specs.Request.{setattr_of, write_of}
+use Rattle.fuse_wire.specs.Request.Request.{mkdir, setattr, write, link, create}
 use Rattle.fuse_wire.specs.Reply.{u32s, u64s, reply, reply_head, attr_bytes, entry_body, attr_body}
-use Rattle.fuse_wire.specs.Reply.{init_body, opened_body}
+use Rattle.fuse_wire.specs.Reply.{init_body, opened_body, written_body}
 use Rattle.fuse_wire.specs.Listing.{dirent_bytes}
 use Rattle.fuse_wire.specs.declared.attr.FileType.TheVariants.{Directory, Symlink}
 use Rattle.fuse_wire.specs.Samples.{file, framed, least, init_bytes, entry_bytes, attr_reply}
@@ -101,6 +103,48 @@ pub asks_batch_forget : request_of (framed 42 (u32s (1 ∷ 0 ∷ []) ++ u64s (2 
 unfolding framed request_of request_in batch_forget_of u32_at u64_at u32s u64s
 asks_batch_forget = refl
 
+-- mode, size, the moment as the time of access, and a handle
+pub asks_setattr : request_of (framed 4 (u32s (217 ∷ 0 ∷ [])
+    ++ (u64s (4 ∷ 6 ∷ 7 ∷ 8 ∷ 9 ∷ 10 ∷ []) ++ u32s (1 ∷ 2 ∷ 3 ∷ 420 ∷ 0 ∷ 5 ∷ 11 ∷ 0 ∷ []))))
+    ≡ Ok (setattr (record {
+      valid = 217;
+      fh = 4;
+      size = 6;
+      lock_owner = 7;
+      atime = 8;
+      mtime = 9;
+      ctime = 10;
+      atimensec = 1;
+      mtimensec = 2;
+      ctimensec = 3;
+      mode = 420;
+      uid = 5;
+      gid = 11;
+    }))
+unfolding framed request_of request_in setattr_of u32_at u64_at u32s u64s
+asks_setattr = refl
+
+pub setattr_too_short : request_of (framed 4 (replicate 87 0)) ≡ Err 22
+unfolding framed request_of request_in setattr_of u32_at u64_at u32s u64s
+setattr_too_short = refl
+
+pub asks_write : request_of (framed 16 (u64s (2 ∷ 4 ∷ []) ++ (u32s (2 ∷ 0 ∷ [])
+    ++ (u64s (7 ∷ []) ++ (u32s (1 ∷ 0 ∷ []) ++ codes "hi")))))
+    ≡ Ok (write 2 4 (codes "hi"))
+unfolding framed request_of request_in write_of u32_at u64_at u32s u64s
+asks_write = refl
+
+-- three bytes are told, and two are there
+pub write_too_short : request_of (framed 16 (u64s (2 ∷ 4 ∷ []) ++ (u32s (3 ∷ 0 ∷ [])
+    ++ (u64s (7 ∷ []) ++ (u32s (1 ∷ 0 ∷ []) ++ codes "hi"))))) ≡ Err 22
+unfolding framed request_of request_in write_of u32_at u64_at u32s u64s
+write_too_short = refl
+
+pub written : reply 4 0 (written_body 258) ≡ 24 ∷ 0 ∷ 0 ∷ 0 ∷ 0 ∷ 0 ∷ 0 ∷ 0 ∷ 4 ∷ 0 ∷ 0 ∷ 0 ∷ 0 ∷ 0
+    ∷ 0 ∷ 0 ∷ 2 ∷ 1 ∷ 0 ∷ 0 ∷ 0 ∷ 0 ∷ 0 ∷ 0 ∷ []
+unfolding reply reply_head written_body u32s u64s
+written = refl
+
 pub asks_unlink : request_of (framed 10 (codes "hello" ++ 0 ∷ [])) ≡ Ok (unlink (codes "hello"))
 unfolding framed request_of request_in only_name name_at u32_at u64_at u32s u64s
 asks_unlink = refl
@@ -154,6 +198,19 @@ pub asks_mkdir : request_of (framed 9 (u32s (493 ∷ 18 ∷ []) ++ (codes "d" ++
 unfolding framed request_of request_in mkdir_of name_behind only_name name_at u32_at u64_at u32s
     u64s
 asks_mkdir = refl
+
+pub asks_link : request_of (framed 13 (u64s (7 ∷ []) ++ (codes "l" ++ 0 ∷ [])))
+    ≡ Ok (link 7 (codes "l"))
+unfolding framed request_of request_in link_of name_behind only_name name_at u32_at u64_at u32s
+    u64s
+asks_link = refl
+
+pub asks_create : request_of (framed 35
+    (u32s (577 ∷ 420 ∷ 18 ∷ 0 ∷ []) ++ (codes "f" ++ 0 ∷ [])))
+    ≡ Ok (create 577 420 (codes "f"))
+unfolding framed request_of request_in create_of name_behind only_name name_at u32_at u64_at u32s
+    u64s
+asks_create = refl
 
 pub asks_readlink : request_of (framed 5 []) ≡ Ok readlink
 unfolding framed request_of request_in u32_at u64_at u32s u64s

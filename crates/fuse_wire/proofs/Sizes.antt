@@ -4,7 +4,7 @@ use Rattle.std.specs.Prelude.{replicate}
 use Rattle.std.proofs.lemmas.List.{length-replicate}
 use Rattle.fuse_wire.specs.declared.attr.FileAttr.{FileAttr}
 use Rattle.fuse_wire.specs.Reply.{u32s, u64s, attr_bytes, entry_body, attr_body, init_body}
-use Rattle.fuse_wire.specs.Reply.{opened_body, statfs_body}
+use Rattle.fuse_wire.specs.Reply.{opened_body, statfs_body, written_body, created_body}
 use Rattle.fuse_wire.specs.declared.attr.FileType.{FileType}
 use Rattle.fuse_wire.specs.Listing.{padded_size, padding, dirent_bytes}
 
@@ -24,9 +24,18 @@ pub length-init_body : (minor max_readahead : ℕ) → length (init_body minor m
 unfolding init_body u32s
 length-init_body minor max_readahead = refl
 
+pub length-written_body : (size : ℕ) → length (written_body size) ≡ 8
+unfolding written_body u32s
+length-written_body size = refl
+
 pub length-opened_body : (handle : ℕ) → length (opened_body handle) ≡ 16
 unfolding opened_body u32s u64s
 length-opened_body handle = refl
+
+pub length-created_body : (node : ℕ) (attr : FileAttr) (handle : ℕ)
+    → length (created_body node attr handle) ≡ 144
+unfolding created_body entry_body opened_body attr_bytes u32s u64s
+length-created_body node attr handle = refl
 
 pub length-statfs_body : (block_size blocks files : ℕ)
     → length (statfs_body block_size blocks files) ≡ 80

@@ -57,6 +57,14 @@ init_body minor max_readahead =
 unfoldable pub opened_body : ℕ → List ℕ
 opened_body handle = u64s (handle ∷ []) ++ u32s (0 ∷ 0 ∷ [])
 
+-- `fuse_write_out`: how many bytes were written
+unfoldable pub written_body : ℕ → List ℕ
+written_body size = u32s (size ∷ 0 ∷ [])
+
+-- an entry and its handle: `fuse_entry_out` and `fuse_open_out`
+unfoldable pub created_body : ℕ → FileAttr → ℕ → List ℕ
+created_body node attr handle = entry_body node attr ++ opened_body handle
+
 -- `fuse_statfs_out`: the blocks, those that are free and those that may be taken; the files, and
 -- those that are free; the size of a block, the longest name, the size of a block again, and zeros
 unfoldable pub statfs_body : ℕ → ℕ → ℕ → List ℕ

@@ -5,7 +5,7 @@ ghost use Rattle.fuse_wire.specs.Body.{plain};
 ghost use Rattle.fuse_wire.specs.Layouts.{only_name, two_names, flags_of, read_in_of, handle_of};
 ghost use Rattle.fuse_wire.specs.Layouts.{sync_in_of};
 ghost use Rattle.fuse_wire.specs.Request.{init_of, getattr_of, rename_of, rename2_of, mknod_of};
-ghost use Rattle.fuse_wire.specs.Request.{mkdir_of};
+ghost use Rattle.fuse_wire.specs.Request.{mkdir_of, setattr_of, write_of, link_of, create_of};
 ghost use Rattle.fuse_wire.specs.Request.{forget_of, batch_forget_of, asks_read, asks_readdir};
 ghost use Rattle.fuse_wire.specs.Request.{asks_fsync, asks_fsyncdir, asks_symlink, sized};
 ghost use Rattle.fuse_wire.specs.Request.{lookup, unlink, rmdir, readlink, statfs, open_file};
@@ -13,12 +13,14 @@ ghost use Rattle.fuse_wire.specs.Request.{opendir, flush, release, releasedir, i
 
 use crate::fields::{given, u32_at, u64_at};
 use crate::layouts::{
-    BATCH_FORGET_IN_SIZE, FORGET_IN_SIZE, GETATTR_IN_SIZE, INIT_IN_SIZE, INTERRUPT_IN_SIZE,
-    MKDIR_IN_SIZE, MKNOD_IN_SIZE, RENAME_IN_SIZE, RENAME2_IN_SIZE, flags_of, handle_of,
-    name_behind, only_name, read_in_of, sync_in_of, two_names, two_names_behind,
+    BATCH_FORGET_IN_SIZE, CREATE_IN_SIZE, FORGET_IN_SIZE, GETATTR_IN_SIZE, INIT_IN_SIZE,
+    INTERRUPT_IN_SIZE, LINK_IN_SIZE, MKDIR_IN_SIZE, MKNOD_IN_SIZE, RENAME_IN_SIZE, RENAME2_IN_SIZE,
+    SETATTR_IN_SIZE, WRITE_IN_SIZE, flags_of, handle_of, name_behind, only_name, read_in_of,
+    sync_in_of, two_names, two_names_behind,
 };
 use crate::opcode::FUSE_GETATTR_FH;
 use crate::request::{Body, FORGET_ONE_SIZE};
+use crate::setattr::SetAttrIn;
 
 #[tactic(auto, unfolding(crate::specs::Request::init_of))]
 pub(crate) fn init_of(body: &[u8]) -> Option<Body<'_>>
@@ -61,6 +63,30 @@ pub(crate) fn getattr_of(body: &[u8]) -> Option<Body<'_>>
     Some(Body::GetAttr { handle })
 }
 
+#[tactic(auto, unfolding(crate::specs::Request::setattr_of))]
+pub(crate) fn setattr_of(body: &[u8]) -> Option<Body<'_>>
+    ensures { option_map plain result ≡ setattr_of body.now }
+{
+    if body.len() != SETATTR_IN_SIZE {
+        return None;
+    }
+    Some(Body::SetAttr(SetAttrIn {
+        valid: u32_at(body, 0),
+        fh: u64_at(body, 8),
+        size: u64_at(body, 16),
+        lock_owner: u64_at(body, 24),
+        atime: u64_at(body, 32),
+        mtime: u64_at(body, 40),
+        ctime: u64_at(body, 48),
+        atimensec: u32_at(body, 56),
+        mtimensec: u32_at(body, 60),
+        ctimensec: u32_at(body, 64),
+        mode: u32_at(body, 68),
+        uid: u32_at(body, 76),
+        gid: u32_at(body, 80),
+    }))
+}
+
 pub(crate) fn open_of(body: &[u8]) -> Option<Body<'_>>
     ensures { option_map plain result ≡ option_map open_file (flags_of body.now) }
 {
@@ -98,6 +124,25 @@ pub(crate) fn readdir_of(body: &[u8]) -> Option<Body<'_>>
         size: asked.size,
         flags: asked.flags,
         lock: asked.lock,
+    })
+}
+
+#[tactic(auto, unfolding(crate::specs::Request::write_of))]
+pub(crate) fn write_of(body: &[u8]) -> Option<Body<'_>>
+    ensures { option_map plain result ≡ write_of body.now }
+{
+    if body.len() < WRITE_IN_SIZE {
+        return None;
+    }
+    let bytes = &body[WRITE_IN_SIZE..];
+    let count = u32_at(body, 16) as usize;
+    if bytes.len() != count {
+        return None;
+    }
+    Some(Body::Write {
+        fh: u64_at(body, 0),
+        offset: u64_at(body, 8),
+        bytes,
     })
 }
 
@@ -210,6 +255,29 @@ pub(crate) fn mkdir_of(body: &[u8]) -> Option<Body<'_>>
     let name = name_behind(body, MKDIR_IN_SIZE)?;
     Some(Body::MkDir {
         mode: u32_at(body, 0),
+        name,
+    })
+}
+
+#[tactic(auto, unfolding(crate::specs::Request::link_of))]
+pub(crate) fn link_of(body: &[u8]) -> Option<Body<'_>>
+    ensures { option_map plain result ≡ link_of body.now }
+{
+    let name = name_behind(body, LINK_IN_SIZE)?;
+    Some(Body::Link {
+        old: u64_at(body, 0),
+        name,
+    })
+}
+
+#[tactic(auto, unfolding(crate::specs::Request::create_of))]
+pub(crate) fn create_of(body: &[u8]) -> Option<Body<'_>>
+    ensures { option_map plain result ≡ create_of body.now }
+{
+    let name = name_behind(body, CREATE_IN_SIZE)?;
+    Some(Body::Create {
+        flags: u32_at(body, 0),
+        mode: u32_at(body, 4),
         name,
     })
 }

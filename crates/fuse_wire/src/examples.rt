@@ -6,10 +6,11 @@ ghost use Rattle.fuse_wire.specs.Request.Request.{init, lookup, getattr, open_fi
 ghost use Rattle.fuse_wire.specs.Request.Request.{release, forget, batch_forget, unlink, opendir};
 ghost use Rattle.fuse_wire.specs.Request.Request.{readdir, releasedir, rmdir, rename, rename2};
 ghost use Rattle.fuse_wire.specs.Request.Request.{symlink, mknod, readlink, statfs, fsync};
-ghost use Rattle.fuse_wire.specs.Request.Request.{fsyncdir, interrupt, destroy, mkdir};
+ghost use Rattle.fuse_wire.specs.Request.Request.{fsyncdir, interrupt, destroy, mkdir, setattr};
+ghost use Rattle.fuse_wire.specs.Request.Request.{write, link, create};
 ghost use Rattle.fuse_wire.specs.Listing.{dirent_bytes};
 ghost use Rattle.fuse_wire.specs.Reply.{u32s, u64s, reply, entry_body, attr_body, init_body};
-ghost use Rattle.fuse_wire.specs.Reply.{opened_body};
+ghost use Rattle.fuse_wire.specs.Reply.{opened_body, written_body};
 ghost use Rattle.fuse_wire.specs.Samples.{file, framed, least, init_bytes, entry_bytes, attr_reply};
 ghost use Rattle.fuse_wire.specs.Cuts.{cut};
 ghost use Rattle.fuse_wire.specs.Cuts.End.{done, turns_spent, torn, bad_length};
@@ -56,7 +57,7 @@ pub fn files_and_forgets()
 {}
 
 /// What frames ask of names that go, move or are made.
-#[tactic(auto, using(crate::proofs::Sampling::asks_rmdir, crate::proofs::Sampling::asks_rename, crate::proofs::Sampling::asks_rename2, crate::proofs::Sampling::asks_symlink, crate::proofs::Sampling::asks_mknod, crate::proofs::Sampling::asks_mkdir))]
+#[tactic(auto, using(crate::proofs::Sampling::asks_rmdir, crate::proofs::Sampling::asks_rename, crate::proofs::Sampling::asks_rename2, crate::proofs::Sampling::asks_symlink, crate::proofs::Sampling::asks_mknod, crate::proofs::Sampling::asks_mkdir, crate::proofs::Sampling::asks_link, crate::proofs::Sampling::asks_create))]
 pub fn names()
     ensures rmdir { request_of (framed 11 (codes "d" ++ 0 ∷ [])) ≡ Ok (rmdir (codes "d")) }
     ensures rename { request_of (framed 12
@@ -72,6 +73,41 @@ pub fn names()
         ≡ Ok (mknod 4516 259 (codes "p")) }
     ensures mkdir { request_of (framed 9 (u32s (493 ∷ 18 ∷ []) ++ (codes "d" ++ 0 ∷ [])))
         ≡ Ok (mkdir 493 (codes "d")) }
+    ensures link { request_of (framed 13 (u64s (7 ∷ []) ++ (codes "l" ++ 0 ∷ [])))
+        ≡ Ok (link 7 (codes "l")) }
+    ensures create { request_of (framed 35
+        (u32s (577 ∷ 420 ∷ 18 ∷ 0 ∷ []) ++ (codes "f" ++ 0 ∷ [])))
+        ≡ Ok (create 577 420 (codes "f")) }
+{}
+
+/// What frames ask that change a file, and bodies that are too short; how much was written.
+#[tactic(auto, using(crate::proofs::Sampling::asks_setattr, crate::proofs::Sampling::setattr_too_short, crate::proofs::Sampling::asks_write, crate::proofs::Sampling::write_too_short, crate::proofs::Sampling::written))]
+pub fn changes_of_files()
+    ensures setattr { request_of (framed 4 (u32s (217 ∷ 0 ∷ [])
+        ++ (u64s (4 ∷ 6 ∷ 7 ∷ 8 ∷ 9 ∷ 10 ∷ []) ++ u32s (1 ∷ 2 ∷ 3 ∷ 420 ∷ 0 ∷ 5 ∷ 11 ∷ 0 ∷ []))))
+        ≡ Ok (setattr (record {
+          valid = 217;
+          fh = 4;
+          size = 6;
+          lock_owner = 7;
+          atime = 8;
+          mtime = 9;
+          ctime = 10;
+          atimensec = 1;
+          mtimensec = 2;
+          ctimensec = 3;
+          mode = 420;
+          uid = 5;
+          gid = 11;
+        })) }
+    ensures short { request_of (framed 4 (replicate 87 0)) ≡ Err 22 }
+    ensures write { request_of (framed 16 (u64s (2 ∷ 4 ∷ []) ++ (u32s (2 ∷ 0 ∷ [])
+        ++ (u64s (7 ∷ []) ++ (u32s (1 ∷ 0 ∷ []) ++ codes "hi")))))
+        ≡ Ok (write 2 4 (codes "hi")) }
+    ensures fewer { request_of (framed 16 (u64s (2 ∷ 4 ∷ []) ++ (u32s (3 ∷ 0 ∷ [])
+        ++ (u64s (7 ∷ []) ++ (u32s (1 ∷ 0 ∷ []) ++ codes "hi"))))) ≡ Err 22 }
+    ensures written { reply 4 0 (written_body 258) ≡ 24 ∷ 0 ∷ 0 ∷ 0 ∷ 0 ∷ 0 ∷ 0 ∷ 0 ∷ 4 ∷ 0 ∷ 0 ∷ 0 ∷ 0
+        ∷ 0 ∷ 0 ∷ 0 ∷ 2 ∷ 1 ∷ 0 ∷ 0 ∷ 0 ∷ 0 ∷ 0 ∷ 0 ∷ [] }
 {}
 
 /// What frames ask that change no tree.

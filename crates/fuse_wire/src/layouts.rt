@@ -13,10 +13,14 @@ pub const INIT_IN_SIZE: usize = 16;
 /// The size of GETATTR's body (`fuse_getattr_in` of `fuse.h`), in bytes.
 pub const GETATTR_IN_SIZE: usize = 16;
 
+/// The size of SETATTR's body (`fuse_setattr_in` of `fuse.h`), in bytes.
+pub const SETATTR_IN_SIZE: usize = 88;
 /// The size of OPEN's and of OPENDIR's body (`fuse_open_in` of `fuse.h`), in bytes.
 pub const OPEN_IN_SIZE: usize = 8;
 /// The size of READ's and of READDIR's body (`fuse_read_in` of `fuse.h`), in bytes.
 pub const READ_IN_SIZE: usize = 40;
+/// The size of WRITE's body before its bytes (`fuse_write_in` of `fuse.h`), in bytes.
+pub const WRITE_IN_SIZE: usize = 40;
 /// The size of the body of RELEASE, RELEASEDIR and FLUSH (`fuse_release_in`, `fuse_flush_in` of
 /// `fuse.h`), in bytes.
 pub const RELEASE_IN_SIZE: usize = 24;
@@ -33,6 +37,10 @@ pub const INTERRUPT_IN_SIZE: usize = 8;
 pub const MKNOD_IN_SIZE: usize = 16;
 /// The size of MKDIR's body before its name (`fuse_mkdir_in` of `fuse.h`), in bytes.
 pub const MKDIR_IN_SIZE: usize = 8;
+/// The size of LINK's body before its name (`fuse_link_in` of `fuse.h`), in bytes.
+pub const LINK_IN_SIZE: usize = 8;
+/// The size of CREATE's body before its name (`fuse_create_in` of `fuse.h`), in bytes.
+pub const CREATE_IN_SIZE: usize = 16;
 /// The size of RENAME's body before its names (`fuse_rename_in` of `fuse.h`), in bytes.
 pub const RENAME_IN_SIZE: usize = 8;
 /// The size of RENAME2's body before its names (`fuse_rename2_in` of `fuse.h`), in bytes.

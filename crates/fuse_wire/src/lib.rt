@@ -6,6 +6,8 @@ pub mod attr;
 mod bodies;
 mod examples;
 mod fields;
+#[cfg(test)]
+mod file_tests;
 pub mod frames;
 pub mod head;
 pub mod ids;
@@ -16,5 +18,6 @@ pub mod opcode;
 pub mod protocol;
 pub mod reply;
 pub mod request;
+pub mod setattr;
 #[cfg(test)]
 mod tests;

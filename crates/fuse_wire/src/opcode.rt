@@ -6,10 +6,16 @@ ghost use Rattle.fuse_wire.specs.Opcode.{is_silent};
 pub const FUSE_LOOKUP: u32 = 1;
 /// Asks for attributes.
 pub const FUSE_GETATTR: u32 = 3;
+/// Sets attributes.
+pub const FUSE_SETATTR: u32 = 4;
 /// Takes a name out of a directory.
 pub const FUSE_UNLINK: u32 = 10;
 /// Makes a directory.
 pub const FUSE_MKDIR: u32 = 9;
+/// Gives a file one more name.
+pub const FUSE_LINK: u32 = 13;
+/// Makes a file, and opens it.
+pub const FUSE_CREATE: u32 = 35;
 /// Takes the name of an empty directory out of a directory.
 pub const FUSE_RMDIR: u32 = 11;
 /// Moves a name.
@@ -28,6 +34,8 @@ pub const FUSE_STATFS: u32 = 17;
 pub const FUSE_OPEN: u32 = 14;
 /// Reads a file.
 pub const FUSE_READ: u32 = 15;
+/// Writes a file.
+pub const FUSE_WRITE: u32 = 16;
 /// Ends a handle.
 pub const FUSE_RELEASE: u32 = 18;
 /// One of the descriptors of a handle was closed.

@@ -3,7 +3,7 @@ ghost use Rattle.std.specs.Prelude.{◌≡◌, ◌+◌, ◌*◌, ◌≤◌, ◌<
 ghost use Rattle.std.specs.Prelude.{vec_capacity};
 ghost use Rattle.fuse_wire.specs.Reply.{u32s, u64s, negated, reply_head, reply, attr_bytes};
 ghost use Rattle.fuse_wire.specs.Reply.{entry_body, attr_body, init_body, opened_body};
-ghost use Rattle.fuse_wire.specs.Reply.{statfs_body};
+ghost use Rattle.fuse_wire.specs.Reply.{statfs_body, written_body, created_body};
 
 use crate::attr::FileAttr;
 use crate::ids::{Errno, FileHandle, INodeNo, RequestId};
@@ -21,6 +21,12 @@ pub const ATTR_OUT_SIZE: usize = 104;
 
 /// The size of a handle that is given (`fuse_open_out` of `fuse.h`), in bytes.
 pub const OPEN_OUT_SIZE: usize = 16;
+
+/// The size of how much was written (`fuse_write_out` of `fuse.h`), in bytes.
+pub const WRITE_OUT_SIZE: usize = 8;
+
+/// The size of an entry with its handle, CREATE's reply behind its head, in bytes.
+pub const CREATE_OUT_SIZE: usize = ENTRY_OUT_SIZE + OPEN_OUT_SIZE;
 
 /// The size of how much a tree may have (`fuse_statfs_out` of `fuse.h`), in bytes.
 pub const STATFS_OUT_SIZE: usize = 80;
@@ -95,6 +101,8 @@ fn put_head(out: &mut Vec<u8>, unique: RequestId, errno: u32, size: u32)
 fn put_attr(out: &mut Vec<u8>, attr: &FileAttr)
     requires { vec_len out.old + 88 ≤ vec_capacity out.old }
     ensures items { out.new.items ≡ out.old.items ++ attr_bytes attr.now }
+    ensures len { vec_len out.new ≡ vec_len out.old + 88 }
+    ensures capacity { vec_capacity out.old ≤ vec_capacity out.new }
 {
     put_u64s(
         out,
@@ -185,12 +193,41 @@ pub fn reply_bytes(out: &mut Vec<u8>, unique: RequestId, bytes: &[u8])
     put(out, bytes);
 }
 
+/// Appends the reply that tells how many bytes were written, 24 bytes.
+pub fn reply_written(out: &mut Vec<u8>, unique: RequestId, size: u32)
+    requires { vec_len out.old + (OUT_HEADER_SIZE + WRITE_OUT_SIZE) ≤ vec_capacity out.old }
+    ensures { out.new.items ≡ out.old.items ++ reply unique.0 0 (written_body size) }
+{
+    put_head(out, unique, 0, WRITE_OUT_SIZE as u32);
+    put_u32s(out, &[size, 0]);
+}
+
 /// Appends the reply that gives a handle, 32 bytes.
 pub fn reply_opened(out: &mut Vec<u8>, unique: RequestId, handle: FileHandle)
     requires { vec_len out.old + (OUT_HEADER_SIZE + OPEN_OUT_SIZE) ≤ vec_capacity out.old }
     ensures { out.new.items ≡ out.old.items ++ reply unique.0 0 (opened_body handle.0) }
 {
     put_head(out, unique, 0, OPEN_OUT_SIZE as u32);
+    put_u64s(out, &[handle.0]);
+    put_u32s(out, &[0, 0]);
+}
+
+/// Appends the reply that enters a node and gives a handle of it, 160 bytes.
+pub fn reply_created(
+    out: &mut Vec<u8>,
+    unique: RequestId,
+    node: INodeNo,
+    attr: &FileAttr,
+    handle: FileHandle,
+)
+    requires { vec_len out.old + (OUT_HEADER_SIZE + CREATE_OUT_SIZE) ≤ vec_capacity out.old }
+    ensures { out.new.items ≡ out.old.items
+        ++ reply unique.0 0 (created_body node.0 attr.now handle.0) }
+{
+    put_head(out, unique, 0, CREATE_OUT_SIZE as u32);
+    put_u64s(out, &[node.0, 0, VALID_SECS, VALID_SECS]);
+    put_u32s(out, &[0, 0]);
+    put_attr(out, attr);
     put_u64s(out, &[handle.0]);
     put_u32s(out, &[0, 0]);
 }

@@ -6,26 +6,28 @@ ghost use Rattle.fuse_wire.specs.Head.{head_of};
 ghost use Rattle.fuse_wire.specs.Request.{request_in, request_of};
 
 use crate::bodies::{
-    batch_forget_of, destroy_of, flush_of, forget_of, fsync_of, fsyncdir_of, getattr_of, init_of,
-    interrupt_of, lookup_of, mkdir_of, mknod_of, open_of, opendir_of, read_of, readdir_of,
-    readlink_of, release_of, releasedir_of, rename_of, rename2_of, rmdir_of, statfs_of, symlink_of,
-    unlink_of,
+    batch_forget_of, create_of, destroy_of, flush_of, forget_of, fsync_of, fsyncdir_of, getattr_of,
+    init_of, interrupt_of, link_of, lookup_of, mkdir_of, mknod_of, open_of, opendir_of, read_of,
+    readdir_of, readlink_of, release_of, releasedir_of, rename_of, rename2_of, rmdir_of,
+    setattr_of, statfs_of, symlink_of, unlink_of, write_of,
 };
 use crate::fields::u64_at;
 use crate::head::{Head, IN_HEADER_SIZE};
 use crate::ids::Errno;
 use crate::opcode::{
-    FUSE_BATCH_FORGET, FUSE_DESTROY, FUSE_FLUSH, FUSE_FORGET, FUSE_FSYNC, FUSE_FSYNCDIR,
-    FUSE_GETATTR, FUSE_INIT, FUSE_INTERRUPT, FUSE_LOOKUP, FUSE_MKDIR, FUSE_MKNOD, FUSE_OPEN,
-    FUSE_OPENDIR, FUSE_READ, FUSE_READDIR, FUSE_READLINK, FUSE_RELEASE, FUSE_RELEASEDIR,
-    FUSE_RENAME, FUSE_RENAME2, FUSE_RMDIR, FUSE_STATFS, FUSE_SYMLINK, FUSE_UNLINK,
+    FUSE_BATCH_FORGET, FUSE_CREATE, FUSE_DESTROY, FUSE_FLUSH, FUSE_FORGET, FUSE_FSYNC,
+    FUSE_FSYNCDIR, FUSE_GETATTR, FUSE_INIT, FUSE_INTERRUPT, FUSE_LINK, FUSE_LOOKUP, FUSE_MKDIR,
+    FUSE_MKNOD, FUSE_OPEN, FUSE_OPENDIR, FUSE_READ, FUSE_READDIR, FUSE_READLINK, FUSE_RELEASE,
+    FUSE_RELEASEDIR, FUSE_RENAME, FUSE_RENAME2, FUSE_RMDIR, FUSE_SETATTR, FUSE_STATFS,
+    FUSE_SYMLINK, FUSE_UNLINK, FUSE_WRITE,
 };
+use crate::setattr::SetAttrIn;
 use port_base::errno::{EINVAL, ENOSYS};
 
 /// The size of a pair of BATCH_FORGET (`fuse_forget_one` of `fuse.h`), in bytes.
 pub const FORGET_ONE_SIZE: usize = 16;
 
-/// What a request asks, behind its head. Its names are parts of the frame.
+/// What a request asks, behind its head. Its names and bytes are parts of the frame.
 #[derive(Clone, Copy, Debug, PartialEq, Eq)]
 pub enum Body<'a> {
     /// Begins a session.
@@ -43,6 +45,8 @@ pub enum Body<'a> {
     GetAttr {
         handle: Option<u64>,
     },
+    /// Sets attributes of a handle's file, or of the node.
+    SetAttr(SetAttrIn),
     /// Takes a name out of the node, a directory.
     Unlink {
         name: &'a [u8],
@@ -80,6 +84,17 @@ pub enum Body<'a> {
         mode: u32,
         name: &'a [u8],
     },
+    /// Gives the file of another node one more name, in the node, a directory.
+    Link {
+        old: u64,
+        name: &'a [u8],
+    },
+    /// Makes a file of this mode in the node, a directory, and opens it by the flags of `open(2)`.
+    Create {
+        flags: u32,
+        mode: u32,
+        name: &'a [u8],
+    },
     /// Asks for the target of the node, a symbolic link.
     ReadLink,
     /// Asks how much the tree of the node may have.
@@ -95,6 +110,12 @@ pub enum Body<'a> {
         size: u32,
         flags: u32,
         lock: Option<u64>,
+    },
+    /// Writes bytes into a handle's file from `offset` on.
+    Write {
+        fh: u64,
+        offset: u64,
+        bytes: &'a [u8],
     },
     /// Opens the node, a directory. The flags are ignored.
     OpenDir {
@@ -180,9 +201,11 @@ fn body_of(opcode: u32, body: &[u8]) -> Result<Body<'_>, Errno>
     match opcode {
         FUSE_LOOKUP => lookup_of(body).ok_or(Errno(EINVAL)),
         FUSE_GETATTR => getattr_of(body).ok_or(Errno(EINVAL)),
+        FUSE_SETATTR => setattr_of(body).ok_or(Errno(EINVAL)),
         FUSE_INIT => init_of(body).ok_or(Errno(EINVAL)),
         FUSE_OPEN => open_of(body).ok_or(Errno(EINVAL)),
         FUSE_READ => read_of(body).ok_or(Errno(EINVAL)),
+        FUSE_WRITE => write_of(body).ok_or(Errno(EINVAL)),
         FUSE_FLUSH => flush_of(body).ok_or(Errno(EINVAL)),
         FUSE_RELEASE => release_of(body).ok_or(Errno(EINVAL)),
         FUSE_UNLINK => unlink_of(body).ok_or(Errno(EINVAL)),
@@ -192,6 +215,8 @@ fn body_of(opcode: u32, body: &[u8]) -> Result<Body<'_>, Errno>
         FUSE_SYMLINK => symlink_of(body).ok_or(Errno(EINVAL)),
         FUSE_MKNOD => mknod_of(body).ok_or(Errno(EINVAL)),
         FUSE_MKDIR => mkdir_of(body).ok_or(Errno(EINVAL)),
+        FUSE_LINK => link_of(body).ok_or(Errno(EINVAL)),
+        FUSE_CREATE => create_of(body).ok_or(Errno(EINVAL)),
         FUSE_READLINK => readlink_of(body).ok_or(Errno(EINVAL)),
         FUSE_STATFS => statfs_of(body).ok_or(Errno(EINVAL)),
         FUSE_OPENDIR => opendir_of(body).ok_or(Errno(EINVAL)),

@@ -3,8 +3,8 @@ use crate::frames::{Next, next_frame};
 use crate::ids::{Errno, FileHandle, INodeNo, RequestId};
 use crate::listing::{DirEntListBuilder, ReplyDirectory};
 use crate::reply::{
-    reply_attr, reply_bytes, reply_empty, reply_entry, reply_error, reply_init, reply_opened,
-    reply_statfs,
+    reply_attr, reply_bytes, reply_created, reply_empty, reply_entry, reply_error, reply_init,
+    reply_opened, reply_statfs,
 };
 use crate::request::{Body, ForgetOne, FuseRequest};
 use port_base::memory::SliceSource;
@@ -230,7 +230,7 @@ const MKNOD: [u8; 19] = [
 
 #[test]
 fn what_names_links_and_ends_ask(rt: HostRuntime) -> Result<(), Fail> {
-    let cases: [(u8, &[u8], Body<'_>); 12] = [
+    let cases: [(u8, &[u8], Body<'_>); 14] = [
         (11, b"d\0", Body::RmDir { name: b"d" }),
         (
             12,
@@ -276,6 +276,20 @@ fn what_names_links_and_ends_ask(rt: HostRuntime) -> Result<(), Fail> {
                 name: b"d",
             },
         ),
+        (
+            13,
+            b"\x07\0\0\0\0\0\0\0l\0",
+            Body::Link { old: 7, name: b"l" },
+        ),
+        (
+            35,
+            b"\x41\x02\0\0\xa4\x01\0\0\x12\0\0\0\0\0\0\0f\0",
+            Body::Create {
+                flags: 0x241,
+                mode: 0o644,
+                name: b"f",
+            },
+        ),
         (5, b"", Body::ReadLink),
         (17, b"", Body::StatFs),
         (
@@ -301,7 +315,7 @@ fn what_names_links_and_ends_ask(rt: HostRuntime) -> Result<(), Fail> {
 
 #[test]
 fn other_bodies_of_names_links_and_ends_are_refused(rt: HostRuntime) -> Result<(), Fail> {
-    let cases: [(u8, &[u8]); 28] = [
+    let cases: [(u8, &[u8]); 32] = [
         (11, b"d"),
         (11, b"d\0\0"),
         (12, b"\x07\0\0\0\0\0\0"),
@@ -323,6 +337,10 @@ fn other_bodies_of_names_links_and_ends_are_refused(rt: HostRuntime) -> Result<(
         (9, b"\xed\x01\0\0\x12\0\0"),
         (9, b"\xed\x01\0\0\x12\0\0\0d"),
         (9, b"\xed\x01\0\0\x12\0\0\0d\0\0"),
+        (13, b"\x07\0\0\0\0\0\0\0l"),
+        (13, b"\x07\0\0\0\0\0\0\0l\0\0"),
+        (35, b"\x41\x02\0\0\xa4\x01\0\0\x12\0\0\0\0\0\0\0f"),
+        (35, b"\x41\x02\0\0\xa4\x01\0\0\x12\0\0\0\0\0\0"),
         (5, b"\0"),
         (17, b"\0"),
         (20, &HANDLE[..15]),
@@ -373,6 +391,22 @@ fn short_replies(rt: HostRuntime) -> Result<(), Fail> {
         255, 0, 0, 0, 0, 16, 0, 0, 0, 0, 0, 0, 0, 0, 0, 0, 0, 0, 0, 0, 0, 0, 0, 0, 0, 0, 0, 0, 0,
         0, 0, 0, 0, 0, 0, 0,
     ];
+    assert_eq!(rt; out.as_slice(), want.as_slice());
+    Ok(())
+}
+
+#[test]
+fn a_file_is_entered_with_its_handle(rt: HostRuntime) -> Result<(), Fail> {
+    let mut entered = Vec::new(rt.alloc());
+    entered.reserve(144)?;
+    reply_entry(&mut entered, RequestId(2), INodeNo(2), &FILE);
+    let mut out = Vec::new(rt.alloc());
+    out.reserve(160)?;
+    reply_created(&mut out, RequestId(2), INodeNo(2), &FILE, FileHandle(3));
+    assert_eq!(rt; entered.len(), 144);
+    let mut want = Vec::from_slice(rt.alloc(), &[160, 0, 0, 0])?;
+    want.extend_from_slice(&entered[4..])?;
+    want.extend_from_slice(&[3, 0, 0, 0, 0, 0, 0, 0, 0, 0, 0, 0, 0, 0, 0, 0])?;
     assert_eq!(rt; out.as_slice(), want.as_slice());
     Ok(())
 }

@@ -1,5 +1,5 @@
 -- On core requests both machines take the same steps.
-use Rattle.std.proofs.Common.{◌≡◌, ℕ, Bool, true, false, not, List, [], ◌∷◌, ◌++◌, refl, sym, ap}
+use Rattle.std.proofs.Common.{◌≡◌, ℕ, Bool, true, false, List, [], ◌∷◌, ◌++◌, refl, sym, ap}
 use Rattle.std.proofs.Common.{◌∙◌, subst, Option, Some, None, Result, Ok, Err}
 use Rattle.std.specs.Prelude.{IsTrue, if◌then◌else◌}
 use Rattle.std.proofs.lemmas.Bool.{false≢true}
@@ -11,19 +11,22 @@ use Rattle.fuse_wire.specs.Head.{head_of}
 use Rattle.fuse_wire.specs.Request.{Request, request_of, init, lookup, getattr, unlink, open_file}
 use Rattle.fuse_wire.specs.Request.{read, opendir, readdir, releasedir, flush, release, forget}
 use Rattle.fuse_wire.specs.Request.{batch_forget, rmdir, rename, rename2, symlink, mknod, readlink}
-use Rattle.fuse_wire.specs.Request.{statfs, fsync, fsyncdir, interrupt, destroy, mkdir}
+use Rattle.fuse_wire.specs.Request.{statfs, fsync, fsyncdir, interrupt, destroy, mkdir, setattr}
+use Rattle.fuse_wire.specs.Request.{write, link, create}
+use Rattle.port_base.specs.OpenFlags.{has_flag}
+use Rattle.port_base.specs.declared.oflag.TheConstants.{O_TRUNC}
 use Rattle.tree_machine.specs.State.{MachineState, Node, begun}
 use Rattle.tree_machine.specs.Refusals.{refused_if, first_refusal, refused_or}
 use Rattle.tree_machine.specs.Core.{node_ino, opened, open_refusal, link_check, core}
-use Rattle.tree_machine.specs.Requests.{opens_to_read, is_core, answer_of}
+use Rattle.tree_machine.specs.Requests.{is_core, answer_of}
 use Rattle.tree_machine.specs.Step.{is_in_turn, step, core_step, stepped}
 use Rattle.tree_machine.specs.Play.{play, play_from, core_play, core_play_from, told_of}
 use Rattle.tree_machine.specs.Play.{IsCoreRequest, AreCoreRequests}
-use Rattle.tree_machine.proofs.Opening.{checked_alike}
+use Rattle.tree_machine.proofs.Opening.{checked_alike, to_read}
 
 -- flags that are served refuse nothing
-flags_pass : (b : Bool) (o : Option ℕ) → b ≡ true
-    → o ≡ first_refusal (refused_if (not b) ENOSYS ∷ o ∷ [])
+flags_pass : (b : Bool) (o : Option ℕ) → b ≡ false
+    → o ≡ first_refusal (refused_if b ENOSYS ∷ o ∷ [])
 flags_pass b o is = rw is (only o) where
   only : (o : Option ℕ) → o ≡ first_refusal (o ∷ [])
   only None = refl
@@ -39,9 +42,9 @@ module _ (s : Settings) (m : MachineState) (node : ℕ) where
       let o : Option Node = get m.nodes node in
       ap (λ (r : Option ℕ). refused_or m r (opened m (node_ino o) flags
       (link_check (body_at m.tree.records (node_ino o)))))
-      (flags_pass (opens_to_read flags) (open_refusal s m o) h)
+      (flags_pass (has_flag O_TRUNC flags) (open_refusal s m o) (to_read flags h).truncate)
       ∙ ap (λ (r : Result (Unit {0}) ℕ). refused_or m
-      (first_refusal (refused_if (not (opens_to_read flags)) ENOSYS ∷ open_refusal s m o ∷ []))
+      (first_refusal (refused_if (has_flag O_TRUNC flags) ENOSYS ∷ open_refusal s m o ∷ []))
       (opened m (node_ino o) flags r)) (sym
       (checked_alike flags h (body_at m.tree.records (node_ino o))))
   core_alike (read fh offset size flags lock) h = refl
@@ -53,12 +56,16 @@ module _ (s : Settings) (m : MachineState) (node : ℕ) where
   core_alike (release fh) h = refl
   core_alike (forget number) h = refl
   core_alike (batch_forget pairs) h = refl
+  core_alike (setattr asked) h = absurd (false≢true h)
+  core_alike (write fh offset bytes) h = absurd (false≢true h)
   core_alike (rmdir name) h = absurd (false≢true h)
   core_alike (rename newdir old new) h = absurd (false≢true h)
   core_alike (rename2 newdir flags old new) h = absurd (false≢true h)
   core_alike (symlink name target) h = absurd (false≢true h)
   core_alike (mknod mode rdev name) h = absurd (false≢true h)
   core_alike (mkdir mode name) h = absurd (false≢true h)
+  core_alike (link old name) h = absurd (false≢true h)
+  core_alike (create flags mode name) h = absurd (false≢true h)
   core_alike readlink h = absurd (false≢true h)
   core_alike statfs h = absurd (false≢true h)
   core_alike (fsync fh flags) h = absurd (false≢true h)

@@ -1,8 +1,8 @@
 -- OPENDIR, and names that go or move, leave a good state: what is named stays, and keeps its kind.
-use Rattle.std.proofs.Common.{◌≡◌, ℕ, ◌+◌, Bool, true, false, not, List, [], ◌∷◌, refl, sym, ap, ◌∙◌}
+use Rattle.std.proofs.Common.{◌≡◌, ℕ, ◌+◌, Bool, true, false, not, List, [], ◌∷◌, refl}
 use Rattle.std.proofs.Common.{Option, Some, None, Result, Ok, Err, arith}
 use Rattle.std.specs.Prelude.{◌==◌}
-use Rattle.std.specs.FinMap.{get, insert}
+use Rattle.std.specs.FinMap.{insert}
 use Rattle.port_base.specs.Names.{name_fault}
 use Rattle.port_base.specs.declared.errno.TheConstants.{EINVAL, ENFILE, ENOTDIR, ESTALE}
 use Rattle.port_base.specs.declared.oflag.TheConstants.{O_RDONLY}
@@ -19,7 +19,6 @@ use Rattle.tree_machine.specs.Refusals.{refused_if, refused_unknown, first_refus
 use Rattle.tree_machine.specs.Core.{node_ino, with_handle, opendir_refusal, unlink_told, changed_by}
 use Rattle.tree_machine.specs.Naming.{rmdir_told, rename_refusal, rename2_refusal, rename_told}
 use Rattle.tree_machine.specs.Good.{IsGoodMachine, IsOpenable}
-use Rattle.tree_machine.specs.Replies.{Reply}
 use Rattle.tree_machine.specs.Replies.Reply.{Opened}
 use Rattle.tree_machine.proofs.KeptStates.{kept_good, Gives}
 use Rattle.tree_machine.proofs.Handles.{handle_drawn}

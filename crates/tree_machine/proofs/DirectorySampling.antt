@@ -1,40 +1,37 @@
 -- The first example's directory is opened, listed and closed, and its one name goes.
-use Rattle.std.proofs.Common.{◌≡◌, ℕ, ◌+◌, Bool, true, false, cond, List, [], ◌∷◌, ◌++◌, refl, sym, ap}
+use Rattle.std.proofs.Common.{◌≡◌, ℕ, ◌+◌, Bool, false, cond, List, [], ◌∷◌, refl, ap}
 use Rattle.std.proofs.Common.{◌∙◌, Option, Some, None, Result, Ok, Err, arith, length}
-use Rattle.std.specs.Prelude.{codes, drop, min, not, option_map, option_and_then}
+use Rattle.std.specs.Prelude.{codes, drop, not, option_map, option_and_then}
 use Rattle.std.specs.List.{cons_option}
-use Rattle.std.specs.FinMap.{get, insert, remove}
-use Rattle.port_base.specs.declared.errno.TheConstants.{EBADF, ENFILE, ENOENT, ENOTDIR, ESTALE}
+use Rattle.std.specs.FinMap.{get}
+use Rattle.port_base.specs.declared.errno.TheConstants.{ENFILE, ENOTDIR}
 use Rattle.port_base.specs.declared.oflag.TheConstants.{O_RDONLY}
-use Rattle.tree_model.specs.Tree.{Tree, Record, body_at, is_directory_at}
+use Rattle.tree_model.specs.Tree.{Record, is_directory_at}
 use Rattle.tree_model.specs.Attributes.{attr_of}
-use Rattle.tree_model.specs.Finding.{entries_of, ino_among, lookup_of}
+use Rattle.tree_model.specs.Finding.{entries_of, ino_among}
 use Rattle.tree_model.specs.Reading.{Entry}
 use Rattle.tree_model.specs.Pages.{entries_past, entries_past_of, front_within, last_cookie}
 use Rattle.tree_model.specs.Making.{change}
 use Rattle.tree_model.specs.Unlinking.{removed_at, unless_directory, without_entry, parted_by}
-use Rattle.tree_model.specs.Unlinking.{one_name_less, unlink_of}
+use Rattle.tree_model.specs.Unlinking.{one_name_less}
 use Rattle.tree_model.proofs.Maps.{inserted}
 use Rattle.tree_model.proofs.Changing.{change_at, change_keeps}
 use Rattle.fuse_wire.specs.Reply.{u32s, u64s}
 use Rattle.fuse_wire.specs.Listing.{dirent_bytes}
-use Rattle.fuse_wire.specs.Request.{unlink, opendir, readdir, releasedir}
-use Rattle.fuse_wire.specs.declared.protocol.TheConstants.{MAX_READ}
-use Rattle.tree_machine.specs.State.{MachineState, Node, Handle, is_at_limit, is_named}
+use Rattle.fuse_wire.specs.Request.{unlink, opendir, readdir}
+use Rattle.tree_machine.specs.State.{MachineState, Node, Handle, is_named}
 use Rattle.tree_machine.specs.Replies.{Reply}
 use Rattle.tree_machine.specs.Replies.Reply.{Refused, Opened, Bytes, Done}
-use Rattle.tree_machine.specs.Refusals.{refused_if, refused_unknown, first_refusal, refused_or}
-use Rattle.tree_machine.specs.Refusals.{none_or}
+use Rattle.tree_machine.specs.Refusals.{refused_if, first_refusal, refused_or}
 use Rattle.tree_machine.specs.Core.{node_ino, opendir_refusal, readdir_refusal, name_refusal}
 use Rattle.tree_machine.specs.Core.{with_handle, listed, unlink_told, changed_by}
 use Rattle.tree_machine.specs.Listing.{entry_size, listing_bytes, listed_page}
 use Rattle.tree_machine.specs.Requests.{answer_of}
 use Rattle.tree_machine.specs.Messages.{dirent_size, is_last, listing_messages, readdir_messages}
-use Rattle.tree_machine.specs.Messages.{request_messages}
-use Rattle.tree_machine.specs.Samples.{tree, settings, started, with_hello}
+use Rattle.tree_machine.specs.Samples.{tree, settings, with_hello}
 use Rattle.tree_machine.specs.DirectorySamples.{with_root_open, hello_listed}
 use Rattle.tree_machine.proofs.KeptStates.{kept_at, node_is_named}
-use Rattle.tree_machine.proofs.Sampling.{file, file_at, top_at, root_node, found, hello_has_no_fault}
+use Rattle.tree_machine.proofs.Sampling.{file, file_at, top_at, found, hello_has_no_fault}
 use Rattle.tree_machine.proofs.FileSampling.{hello_node, hello_known, root_known, open_limit}
 
 -- ---- OPENDIR

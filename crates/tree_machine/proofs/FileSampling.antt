@@ -132,9 +132,6 @@ open_counted =
     ∙ ap opened_messages open_checked
 
 -- flags that aren't served come first, then a node that isn't there, then a directory
-pub open_flagged : (answer_of settings with_hello 9 (Ok (open_file 1))).0 ≡ Refused ENOSYS
-open_flagged = refl
-
 pub open_cut : (answer_of settings with_hello 9 (Ok (open_file 512))).0 ≡ Refused ENOSYS
 open_cut = refl
 

@@ -14,10 +14,12 @@ use Rattle.tree_model.specs.Tree.{keep, listed, is_linked}
 use Rattle.tree_model.specs.Tree.Body.{File, Directory, Link}
 use Rattle.tree_model.specs.Good.{IsGoodTree}
 use Rattle.tree_model.specs.Attributes.{kind_of}
+use Rattle.tree_model.specs.Creating.{stamped, with_new, with_name}
 use Rattle.tree_model.specs.Attributing.{with_changed}
-use Rattle.tree_model.specs.Creating.{stamped, with_new}
 use Rattle.tree_model.specs.Finding.{lookup_of}
 use Rattle.tree_model.specs.Making.{change, joined_by, with_entries, next_cookie, unless_refused}
+use Rattle.tree_model.specs.Placing.{one_link_more}
+use Rattle.tree_model.specs.Attributing.{restamped}
 use Rattle.tree_model.specs.Renaming.{placed_below, moved_below, with_moved, without_replaced}
 use Rattle.tree_model.specs.Renaming.{move_refused, same_ino, move_to, renamed_at, rename_of}
 use Rattle.tree_model.specs.Settings.{Settings}
@@ -25,6 +27,7 @@ use Rattle.tree_model.specs.Unlinking.{without, without_entry, parted_by, one_na
 use Rattle.tree_model.proofs.Changing.{change_at, change_keeps}
 use Rattle.tree_model.proofs.Maps.{retained, inserted, insert_keeps}
 use Rattle.tree_machine.specs.State.{MachineState, Handle, is_named}
+use Rattle.tree_machine.specs.Kinds.{KeepsKinds}
 use Rattle.tree_machine.specs.Good.{IsGoodMachine, IsOpenable}
 use Rattle.tree_machine.proofs.KeptStates.{kept_at, node_is_named, handle_is_named}
 
@@ -43,18 +46,13 @@ abbrev pub SameKinds : (ℕ → Bool) → Records → Records → Type 0
 SameKinds held rs us =
     (i : ℕ) → held i ≡ true → IsSome (get rs i) → kind_in (get us i) ≡ kind_in (get rs i)
 
--- what is stored before and after is of the same kind
-abbrev pub KeepsKinds : Tree → Tree → Type 0
-KeepsKinds t u = (i : ℕ) (q r : Record) → get t.records i ≡ Some q → get u.records i ≡ Some r
-    → kind_of r.body ≡ kind_of q.body
-
 pub is_there : (o p : Option Record) → kind_in o ≡ kind_in p → IsSome p → IsSome o
 is_there None None is some = absurd (false≢true some)
 is_there None (Some p) is some = absurd cc
 is_there (Some r) p is some = refl
 
 -- whether what is of a kind may be open so
-abbrev openable_kind : Option Kind → Handle → Type 0
+abbrev pub openable_kind : Option Kind → Handle → Type 0
 openable_kind None h = ⊥
 openable_kind (Some kind.File) h = Unit {0}
 openable_kind (Some kind.Directory) h = (h.access ≡ 0) × (h.append ≡ false)
@@ -66,7 +64,7 @@ by_kind (Some (File bytes)) h is = is
 by_kind (Some (Directory es next above)) h is = is
 by_kind (Some (Link target)) h is = is
 
-of_kind : (o : Option Body) (h : Handle) → openable_kind (option_map kind_of o) h → IsOpenable o h
+pub of_kind : (o : Option Body) (h : Handle) → openable_kind (option_map kind_of o) h → IsOpenable o h
 of_kind None h is = is
 of_kind (Some (File bytes)) h is = is
 of_kind (Some (Directory es next above)) h is = is
@@ -123,7 +121,7 @@ module _ (f : Record → Record) (kinds : (r : Record) → kind_of (f r).body �
   mapped_kind None = refl
   mapped_kind (Some r) = ap (λ (k : Kind). Some k) (kinds r)
 
-  change_kind : (rs : Records) (i q : ℕ) → kind_in (get (change f rs i) q) ≡ kind_in (get rs q)
+  pub change_kind : (rs : Records) (i q : ℕ) → kind_in (get (change f rs i) q) ≡ kind_in (get rs q)
   change_kind rs i q = ⊎_elim
       (λ is. ap (λ k. kind_in (get (change f rs i) k)) is ∙ ap kind_in (change_at f rs i)
       ∙ mapped_kind (get rs i) ∙ ap (λ k. kind_in (get rs k)) (sym is))
@@ -171,7 +169,7 @@ there : (o : Option Record) (q : Record) → o ≡ Some q → IsSome o
 there None q is = absurd cc
 there (Some r) q is = refl
 
-stays_kind : (t v : Tree) → KindsStay t.records v.records → KeepsKinds t v
+pub stays_kind : (t v : Tree) → KindsStay t.records v.records → KeepsKinds t v
 stays_kind t v stay i q r at here =
     same_kind q r (ap kind_in (sym here) ∙ stay i (there (get t.records i) q at) ∙ ap kind_in at)
 
@@ -198,7 +196,7 @@ removed_leaves held t u dir name (Ok ino) is = (
   inr (sym (ap (tree_in u) is)),
 )
 
--- ---- a record more
+-- ---- a record more, and one more name
 
 joined_kind : (name : List ℕ) (ino : ℕ) (r : Record)
     → kind_of (joined_by name ino r).body ≡ kind_of r.body
@@ -223,10 +221,24 @@ module _ (t : Tree) (g : IsGoodTree t) (dir : ℕ) (name : List ℕ) (r : Record
       let low = older i (get t.records i) refl some in
       new_kind i ∙ ap kind_in (insert_keeps t.records t.next r i (λ is. absurd (omega arith)))
 
-  -- the record is there
+  -- the record is there, and of its kind
+  pub new_kind_is : kind_in (get (with_new t dir name r).records t.next) ≡ kind_in (Some r)
+  new_kind_is = new_kind t.next ∙ ap kind_in (inserted t.records t.next r)
+
   pub new_there : IsSome (get (with_new t dir name r).records t.next)
   new_there = is_there (get (with_new t dir name r).records t.next) (Some r)
-      (new_kind t.next ∙ ap kind_in (inserted t.records t.next r)) refl
+      new_kind_is refl
+
+pub name_kinds : (t : Tree) (dir : ℕ) (name : List ℕ) (ino : ℕ)
+    → KindsStay t.records (with_name t dir name ino).records
+name_kinds t dir name ino i some =
+    let linked = change one_link_more t.records ino in
+    let joined = change (joined_by name ino) linked dir in
+    change_kind (stamped t.moment) (λ r. refl)
+    (change (restamped t.moment) joined ino) dir i
+    ∙ change_kind (restamped t.moment) (λ r. refl) joined ino i
+    ∙ change_kind (joined_by name ino) (joined_kind name ino) linked dir i
+    ∙ change_kind one_link_more (λ r. refl) t.records ino i
 
 -- ---- a name that moves
 

@@ -5,9 +5,12 @@ pub mod Handles
 pub mod Opening
 pub mod Refusals
 pub mod KindsKept
+pub mod Setting
 pub mod NamingSampling
 pub mod Directories
 pub mod MadeNames
+pub mod LinkedNames
+pub mod CreatedFiles
 pub mod Listing
 pub mod Cores
 pub mod Forgetting

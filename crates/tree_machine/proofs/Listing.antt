@@ -1,14 +1,13 @@
 -- How long a listing is, and how many messages bring it.
-use Rattle.std.proofs.Common.{◌≡◌, ℕ, zero, suc, ◌+◌, ◌-◌, ◌<◌, ◌≤◌, Bool, true, false, cond, List}
-use Rattle.std.proofs.Common.{[], ◌∷◌, ◌++◌, length, min, refl, sym, ap, ◌∙◌, subst, arith}
+use Rattle.std.proofs.Common.{◌≡◌, ℕ, ◌≤◌, List}
+use Rattle.std.proofs.Common.{[], ◌∷◌, length, min, refl, ap, arith}
 use Rattle.std.proofs.Common.{length-append}
 use Rattle.std.specs.Prelude.{sum_by}
-use Rattle.std.specs.List.{flat_map}
 use Rattle.std.proofs.lemmas.List.Concat.{flat_map-cons}
 use Rattle.std.proofs.lemmas.List.Sums.{sum_by-cons}
 use Rattle.tree_model.specs.Tree.{Tree}
 use Rattle.tree_model.specs.Reading.{Entry}
-use Rattle.tree_model.specs.Pages.{entries_past_of, front_within}
+use Rattle.tree_model.specs.Pages.{entries_past_of}
 use Rattle.tree_model.proofs.Pages.{splits_within}
 use Rattle.fuse_wire.proofs.Sizes.{length-dirent_bytes}
 use Rattle.fuse_wire.specs.declared.protocol.TheConstants.{MAX_READ}

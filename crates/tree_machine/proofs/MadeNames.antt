@@ -1,9 +1,8 @@
 -- MKDIR leaves a good state: what is made is stored, is found by its name, and is entered as a node.
-use Rattle.std.proofs.Common.{◌≡◌, ℕ, ◌+◌, ◌<◌, ◌≤◌, Bool, true, false, cond, ◌||◌, List, [], ◌∷◌}
+use Rattle.std.proofs.Common.{◌≡◌, ℕ, ◌+◌, ◌<◌, ◌≤◌, Bool, true, false, cond, List, [], ◌∷◌}
 use Rattle.std.proofs.Common.{◌++◌, refl, sym, ap, ◌∙◌, subst, Option, Some, None, Result, Ok, Err}
 use Rattle.std.proofs.Common.{IsSome, inl, arith, bytes_eq, is_some, nat_lt, min}
 use Rattle.std.specs.Prelude.{option_map, option_and_then, ◌==◌}
-use Rattle.std.proofs.lemmas.Bool.{false≢true}
 use Rattle.std.proofs.lemmas.Bool.Decides.{nat_tests}
 use Rattle.std.proofs.lemmas.Slice.Eq.{bytes_eq-Decides}
 use borrow.Author.Tests.{eqb-true}
@@ -11,7 +10,7 @@ use Rattle.std.specs.FinMap.{get, insert, entries}
 use Rattle.port_base.specs.Names.{name_fault}
 use Rattle.port_base.specs.declared.errno.TheConstants.{ENFILE, ESTALE}
 use Rattle.tree_model.specs.declared.attributes.Attr.{Attr}
-use Rattle.tree_model.specs.Tree.{Tree, Record, Body, DirEntry, is_directory, is_linked}
+use Rattle.tree_model.specs.Tree.{Tree, Record, Body, DirEntry, is_directory}
 use Rattle.tree_model.specs.Tree.{listed, weigh, weight}
 use Rattle.tree_model.specs.Tree.Body.{File, Directory, Link}
 use Rattle.tree_model.specs.Sound.{IsKept}
@@ -30,7 +29,7 @@ use Rattle.tree_model.proofs.Files.{let_in}
 use Rattle.tree_model.proofs.Maps.{insert_keeps}
 use Rattle.tree_machine.specs.State.{MachineState, Node, is_named, is_at_limit, node_weight}
 use Rattle.tree_machine.specs.State.{handle_weight, COUNT_LIMIT}
-use Rattle.tree_machine.specs.Refusals.{refused_if, refused_unknown, first_refusal}
+use Rattle.tree_machine.specs.Refusals.{refused_if, refused_unknown}
 use Rattle.tree_machine.specs.Core.{node_ino, node_for, node_of, looked_up, lookup_refusal}
 use Rattle.tree_machine.specs.Naming.{made}
 use Rattle.tree_machine.specs.Good.{IsGoodMachine}
@@ -70,7 +69,7 @@ entry_last name (x ∷ es) e is none =
 
 -- ---- what was made
 
-unless_made : {A : Type 0} (o : Option ℕ) (x a : A) (t u : Tree)
+pub unless_made : {A : Type 0} (o : Option ℕ) (x a : A) (t u : Tree)
     → unless_refused o x t ≡ Ok (a, u) → (o ≡ None) × (x ≡ a) × (t ≡ u)
 unless_made (Some e) x a t u is = absurd cc
 unless_made {A} None x a t u is =
@@ -159,7 +158,7 @@ module _ (s : Settings) (m : MachineState) (g : IsGoodMachine s m) where
       → IsGoodMachine s (record m { tree = u })
   changed_tree_good u good leaves = tree_changed s m g u good (leaves_named held m.tree u leaves)
 
-  entered_good : (u : Tree) (ino : ℕ) → IsGoodTree u → Leaves held m.tree u
+  pub entered_good : (u : Tree) (ino : ℕ) → IsGoodTree u → Leaves held m.tree u
       → IsSome (get u.records ino) → is_at_limit s m ≡ false
       → Gives s (looked_up s (record m { tree = u }) (Ok ino))
   entered_good u ino good leaves there room =

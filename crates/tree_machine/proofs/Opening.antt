@@ -1,7 +1,7 @@
 -- OPEN leaves a good state, and is refused by a core request's rule where it is one.
-use Rattle.std.proofs.Common.{◌≡◌, ℕ, ◌+◌, ◌≤◌, Bool, true, false, cond, not, ◌||◌, ◌&&◌, [], ◌∷◌}
+use Rattle.std.proofs.Common.{◌≡◌, ◌≢◌, ℕ, ◌+◌, ◌≤◌, ◌<◌, Bool, true, false, cond, not, ◌||◌, ◌&&◌, [], ◌∷◌}
 use Rattle.std.proofs.Common.{refl, sym, ◌∙◌, Option, Some, None, Result, Ok, Err, arith}
-use Rattle.std.specs.Prelude.{◌==◌}
+use Rattle.std.specs.Prelude.{◌==◌, ◌%◌}
 use Rattle.std.proofs.lemmas.Bool.{false≢true}
 use Rattle.std.proofs.lemmas.Bool.Decides.{nat_tests}
 use borrow.Author.Tests.{eqb-true}
@@ -11,7 +11,7 @@ use Rattle.tree_model.specs.Tree.{Body, body_at, is_directory_at}
 use Rattle.tree_model.specs.Tree.Body.{File, Directory, Link}
 use Rattle.tree_model.specs.Attributes.{kind_of}
 use Rattle.tree_model.specs.Opening.{body_answer, unless, open_refused, open_check_of}
-use Rattle.tree_model.specs.Opening.{opens_to_change}
+use Rattle.tree_model.specs.Opening.{kind_refused, opens_to_change}
 use Rattle.tree_model.specs.Settings.{Settings}
 use Rattle.port_base.specs.declared.errno.TheConstants.{EEXIST, EINVAL, EISDIR, ELOOP, ENFILE}
 use Rattle.port_base.specs.declared.errno.TheConstants.{ENOSYS, ENOTDIR, ESTALE}
@@ -36,16 +36,31 @@ link_refused true b x y z h = cc
 link_refused false true x y z h = cc
 link_refused false false x y z h = cc
 
--- what is opened to be read is a file, or a directory that isn't appended to
-pub opened_is_openable : (o : Option Body) (flags : ℕ) (h : Handle) → h.access ≡ 0
-    → (is_directory_at o ≡ true → h.append ≡ false)
+-- what is opened is a file, or a directory that is read alone
+pub opened_is_openable : (o : Option Body) (flags : ℕ) (h : Handle)
+    → (is_directory_at o ≡ true → (h.access ≡ 0) × (h.append ≡ false))
     → body_answer (λ b. unless (open_refused flags (kind_of b))) o ≡ Ok tt → IsOpenable o h
-opened_is_openable None flags h reads plain ok = cc
-opened_is_openable (Some (File bytes)) flags h reads plain ok = tt
-opened_is_openable (Some (Directory es next above)) flags h reads plain ok = (reads, plain refl)
-opened_is_openable (Some (Link target)) flags h reads plain ok =
+opened_is_openable None flags h plain ok = cc
+opened_is_openable (Some (File bytes)) flags h plain ok = tt
+opened_is_openable (Some (Directory es next above)) flags h plain ok = plain refl
+opened_is_openable (Some (Link target)) flags h plain ok =
     link_refused (access flags == 3) (has_flag O_CREAT flags && has_flag O_EXCL flags) EINVAL EEXIST
     ELOOP ok
+
+mod_less : (n : ℕ) → n % 4 < 4
+mod_less n = omega arith
+
+-- what is opened has an access below 3
+opened_access : (o : Option Body) (flags : ℕ)
+    → body_answer (λ b. unless (open_refused flags (kind_of b))) o ≡ Ok tt → access flags < 3
+opened_access None flags ok = absurd cc
+opened_access (Some b) flags ok = by_test (access flags == O_ACCMODE) refl ok where
+  by_test : (x : Bool) → (access flags == O_ACCMODE) ≡ x
+      → unless (cond x (Some EINVAL) (cond (has_flag O_CREAT flags && has_flag O_EXCL flags)
+      (Some EEXIST) (kind_refused flags (kind_of b)))) ≡ Ok tt → access flags < 3
+  by_test true is ok = absurd cc
+  by_test false is ok = let low = mod_less flags in let other : access flags ≢ 3 =
+      grind (arith, nat_tests) in omega arith
 
 -- opened to be read, each body is refused as a link is
 file_opened : (a c e d : Bool) → a ≡ false → c ≡ false → d ≡ false
@@ -113,24 +128,25 @@ checked_alike flags h (Some (Link target)) =
     (other flags 3 r.access (omega arith)) r.create
 
 module _ (s : Settings) (m : MachineState) (g : IsGoodMachine s m) where
-  pub opened_good : (flags ino : ℕ) → access flags ≡ 0 → is_at_limit s m ≡ false
-      → (is_directory_at (body_at m.tree.records ino) ≡ true → has_flag O_APPEND flags ≡ false)
+  pub opened_good : (flags ino : ℕ) → is_at_limit s m ≡ false
+      → (is_directory_at (body_at m.tree.records ino) ≡ true
+      → (access flags ≡ 0) × (has_flag O_APPEND flags ≡ false))
       → (r : Result (Unit {0}) ℕ) → open_check_of m.tree ino flags ≡ r
       → Gives s (opened m ino flags r)
-  opened_good flags ino to_read open_limit plain (Err e) told = kept_good s m g
-  opened_good flags ino to_read open_limit plain (Ok tt) told =
+  opened_good flags ino open_limit plain (Err e) told = kept_good s m g
+  opened_good flags ino open_limit plain (Ok tt) told =
       let v : Handle = record { ino = ino; access = access flags; append = has_flag O_APPEND flags }
       in
       kept_good s (record m { handles = insert m.handles m.next v; next = m.next + 1 })
-      (handle_drawn s m g v (omega (arith, to_read))
-      (opened_is_openable (body_at m.tree.records ino) flags v to_read plain told) open_limit)
+      (handle_drawn s m g v (opened_access (body_at m.tree.records ino) flags told)
+      (opened_is_openable (body_at m.tree.records ino) flags v plain told) open_limit)
 
   pub open_good : (flags : ℕ) (o : Option Node)
-      → first_refusal (refused_if (not (opens_to_read flags)) ENOSYS ∷ open_refusal s m o ∷ [])
+      → first_refusal (refused_if (has_flag O_TRUNC flags) ENOSYS ∷ open_refusal s m o ∷ [])
       ≡ None
       → Gives s (opened m (node_ino o) flags (open_check_of m.tree (node_ino o) flags))
   open_good flags o none =
-      let served = passes (refused_if (not (opens_to_read flags)) ENOSYS) (open_refusal s m o ∷ [])
+      let served = passes (refused_if (has_flag O_TRUNC flags) ENOSYS) (open_refusal s m o ∷ [])
       none in
       let rest = passes (open_refusal s m o) [] served.1 in
       let known = passes (refused_unknown o ESTALE)
@@ -142,14 +158,8 @@ module _ (s : Settings) (m : MachineState) (g : IsGoodMachine s m) where
       in
       let plain = passes (refused_if (is_directory_at (body_at m.tree.records (node_ino o))) EISDIR)
       [] below.1 in
-      let read = is_true (opens_to_read flags) (fails (not (opens_to_read flags)) ENOSYS served.0)
-      in
-      opened_good flags (node_ino o) (to_read flags read).access
+      opened_good flags (node_ino o)
       (fails (is_at_limit s m) ENFILE below.0)
       (λ is. absurd (false≢true (sym (fails (is_directory_at (body_at m.tree.records (node_ino o)))
       EISDIR plain.0) ∙ is)))
       (open_check_of m.tree (node_ino o) flags) refl
-    where
-      is_true : (b : Bool) → not b ≡ false → b ≡ true
-      is_true true h = refl
-      is_true false h = absurd cc

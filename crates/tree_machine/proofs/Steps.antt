@@ -6,7 +6,8 @@ use Rattle.fuse_wire.specs.Head.{head_of}
 use Rattle.fuse_wire.specs.Request.{Request, init, lookup, getattr, unlink, open_file, read, opendir}
 use Rattle.fuse_wire.specs.Request.{readdir, releasedir, flush, release, forget, batch_forget}
 use Rattle.fuse_wire.specs.Request.{rmdir, rename, rename2, symlink, mknod, readlink, statfs, fsync}
-use Rattle.fuse_wire.specs.Request.{fsyncdir, interrupt, destroy, mkdir}
+use Rattle.fuse_wire.specs.Request.{fsyncdir, interrupt, destroy, mkdir, setattr, write, link}
+use Rattle.fuse_wire.specs.Request.{create}
 use Rattle.tree_machine.specs.State.{MachineState, Phase}
 use Rattle.tree_machine.specs.State.Phase.{Started, Over}
 use Rattle.tree_machine.specs.Requests.{refusal_before, effect_of, answer_of}
@@ -22,6 +23,9 @@ use Rattle.tree_machine.proofs.Opening.{open_good}
 use Rattle.tree_machine.proofs.Directories.{opendir_good, unlink_good, rmdir_good}
 use Rattle.tree_machine.proofs.Directories.{rename_good, rename2_good}
 use Rattle.tree_machine.proofs.MadeNames.{mkdir_good}
+use Rattle.tree_machine.proofs.Setting.{set_good}
+use Rattle.tree_machine.proofs.LinkedNames.{link_good}
+use Rattle.tree_machine.proofs.CreatedFiles.{create_good}
 use Rattle.tree_machine.proofs.Handles.{handle_gone}
 use Rattle.tree_machine.proofs.Forgetting.{forgotten_good, all_forgotten_good}
 
@@ -60,6 +64,8 @@ module _ (s : Settings) where
     effect_good node (open_file flags) none = open_good s m g flags (get m.nodes node) none
     effect_good node (read fh offset size flags lock) none = kept_good s m g
     effect_good node (unlink name) none = unlink_good s m g name (get m.nodes node)
+    effect_good node (setattr asked) none = set_good s m g node asked
+    effect_good node (write fh offset bytes) none = absurd cc
     effect_good node (rmdir name) none = rmdir_good s m g name (get m.nodes node)
     effect_good node (rename newdir old new) none =
         rename_good s m g old new (get m.nodes node) (get m.nodes newdir) none
@@ -68,6 +74,9 @@ module _ (s : Settings) where
     effect_good node (symlink name target) none = kept_good s m g
     effect_good node (mknod mode rdev name) none = kept_good s m g
     effect_good node (mkdir mode name) none = mkdir_good s m g mode name (get m.nodes node) none
+    effect_good node (link old name) none = link_good s m g name old node none
+    effect_good node (create flags mode name) none =
+        create_good s m g flags mode name (get m.nodes node) none
     effect_good node readlink none = kept_good s m g
     effect_good node statfs none = kept_good s m g
     effect_good node (fsync fh flags) none = kept_good s m g

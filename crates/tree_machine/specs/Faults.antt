@@ -1,15 +1,17 @@
 -- What a request leaves that isn't carried out whole, for a fault of the host or no memory.
 use Rattle.std.specs.Prelude.{◌≡◌, ◌⊎◌, ℕ, suc, List, [], ◌∷◌, ◌++◌, take, Result, Ok}
 use Rattle.port_base.specs.declared.errno.TheConstants.{EIO}
+use Rattle.tree_model.specs.AttributeSteps.{IsAfterFront as AreStepsDone}
 use Rattle.tree_model.specs.Tree.{Tree}
 use Rattle.tree_model.specs.Settings.{Settings}
 use Rattle.fuse_wire.specs.Head.{head_of}
-use Rattle.fuse_wire.specs.Request.{Request, batch_forget}
+use Rattle.fuse_wire.specs.Request.{Request, batch_forget, setattr}
 use Rattle.tree_machine.specs.State.{MachineState, kept_state}
 use Rattle.tree_machine.specs.Replies.{answer_bytes}
 use Rattle.tree_machine.specs.Replies.Reply.{Refused}
 use Rattle.tree_machine.specs.Forgetting.{all_forgotten, pairs_of}
 use Rattle.tree_machine.specs.Requests.{answer_of}
+use Rattle.tree_machine.specs.Setting.{set_steps}
 use Rattle.tree_machine.specs.Step.{request_in_turn, step}
 
 -- the tree before a request, or the one after it
@@ -20,19 +22,19 @@ IsEither before after t = (t ≡ before) ⊎ (t ≡ after)
 abbrev pub IsAfterFront : {X : Type 0} → (List X → Tree) → List X → Tree → Type 0
 IsAfterFront after all t = (n : ℕ) × (t ≡ after (take n all))
 
--- the trees between: of BATCH_FORGET those after a front part of its pairs (so of SETATTR those
--- after a front part of its steps, and of WRITE of its bytes, once they are served); of no other
--- request
-abbrev pub IsBetween : MachineState → Result Request ℕ → Tree → Type 0
-IsBetween m (Ok (batch_forget pairs)) t =
+-- the trees between: of BATCH_FORGET those after a front part of its pairs, and of SETATTR those
+-- after a front part of its steps (so of WRITE of its bytes, once it is served); of no other request
+abbrev pub IsBetween : MachineState → ℕ → Result Request ℕ → Tree → Type 0
+IsBetween m node (Ok (setattr asked)) t = AreStepsDone (set_steps m node asked) m.tree t
+IsBetween m node (Ok (batch_forget pairs)) t =
     IsAfterFront (λ ps. (kept_state (all_forgotten m ps)).tree) (pairs_of pairs) t
-IsBetween m _ t = ⊥
+IsBetween m node _ t = ⊥
 
 -- the trees that a request may leave that isn't carried out whole: the one before it, the one after
 -- it, and those between
 abbrev pub PartOf : Settings → MachineState → ℕ → Result Request ℕ → Tree → Type 0
 PartOf s m node request t =
-    IsEither m.tree (kept_state (answer_of s m node request).1).tree t ⊎ IsBetween m request t
+    IsEither m.tree (kept_state (answer_of s m node request).1).tree t ⊎ IsBetween m node request t
 
 -- the same of a frame
 abbrev pub IsPartDone : Settings → MachineState → List ℕ → Tree → Type 0

@@ -3,6 +3,7 @@ use Rattle.std.specs.Prelude.{ℕ, List, [], ◌∷◌, ◌++◌, replicate, cod
 use Rattle.std.specs.FinMap.{insert}
 use Rattle.tree_machine.specs.State.{MachineState}
 use Rattle.tree_machine.specs.Samples.{started, with_hello}
+use Rattle.fuse_wire.specs.declared.setattr.SetAttrIn.{SetAttrIn}
 
 -- ---- node 2 is opened to be read
 
@@ -65,3 +66,21 @@ batch_frame =
     ++ ((9 ∷ 0 ∷ 0 ∷ 0 ∷ 0 ∷ 0 ∷ 0 ∷ 0 ∷ 1 ∷ 0 ∷ 0 ∷ 0 ∷ 0 ∷ 0 ∷ 0 ∷ 0 ∷ [])
     ++ ((1 ∷ 0 ∷ 0 ∷ 0 ∷ 0 ∷ 0 ∷ 0 ∷ 0 ∷ 5 ∷ 0 ∷ 0 ∷ 0 ∷ 0 ∷ 0 ∷ 0 ∷ 0 ∷ [])
     ++ (2 ∷ 0 ∷ 0 ∷ 0 ∷ 0 ∷ 0 ∷ 0 ∷ 0 ∷ 1 ∷ 0 ∷ 0 ∷ 0 ∷ 0 ∷ 0 ∷ 0 ∷ 0 ∷ []))))))
+
+-- a SETATTR by handle 4 whose bits are none
+abbrev pub asked : SetAttrIn
+asked = record {
+  valid = 0;
+  fh = 4;
+  size = 6;
+  lock_owner = 7;
+  atime = 8;
+  mtime = 9;
+  ctime = 10;
+  atimensec = 1;
+  mtimensec = 2;
+  ctimensec = 3;
+  mode = 420;
+  uid = 5;
+  gid = 11;
+}

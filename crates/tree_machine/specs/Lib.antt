@@ -5,6 +5,9 @@ pub mod Refusals
 pub mod Listing
 pub mod Core
 pub mod Naming
+pub mod Setting
+pub mod Kinds
+pub mod Creating
 pub mod Requests
 pub mod Step
 pub mod Play

@@ -6,6 +6,7 @@ use Rattle.std.specs.Prelude.{if◌then◌else◌, nat_lt}
 use Rattle.std.specs.FinMap as map
 use Rattle.std.specs.Int.{div_ceil}
 use Rattle.tree_model.specs.Tree.{Tree}
+use Rattle.tree_model.specs.AttributeSteps.{run}
 use Rattle.tree_model.specs.Creating.{mkdir_of}
 use Rattle.tree_model.specs.Finding.{find}
 use Rattle.tree_model.specs.Opening.{open_check_of}
@@ -17,13 +18,17 @@ use Rattle.fuse_wire.specs.Head.{head_of}
 use Rattle.fuse_wire.specs.Request.{Request, init, lookup, getattr, unlink, open_file, read}
 use Rattle.fuse_wire.specs.Request.{opendir, readdir, releasedir, flush, release, forget}
 use Rattle.fuse_wire.specs.Request.{batch_forget, rmdir, rename, rename2, symlink, mknod, readlink}
-use Rattle.fuse_wire.specs.Request.{statfs, fsync, fsyncdir, interrupt, destroy, mkdir}
+use Rattle.fuse_wire.specs.Request.{statfs, fsync, fsyncdir, interrupt, destroy, mkdir, setattr}
+use Rattle.fuse_wire.specs.Request.{write, link, create}
 use Rattle.fuse_wire.specs.declared.protocol.TheConstants.{MAX_READ}
 use Rattle.tree_machine.specs.State.{MachineState, Node, begun}
 use Rattle.tree_machine.specs.Refusals.{none_or}
 use Rattle.tree_machine.specs.Core.{node_ino, handle_ino, node_of, bytes_read}
+use Rattle.tree_machine.specs.Naming.{link_told}
+use Rattle.tree_model.specs.OpenedFiles.{new_file_of}
 use Rattle.tree_machine.specs.Listing.{listed_page}
 use Rattle.tree_machine.specs.Requests.{refusal_before}
+use Rattle.tree_machine.specs.Setting.{set_steps}
 use Rattle.tree_machine.specs.Forgetting.{forgotten, all_forgotten, pairs_of}
 use Rattle.tree_machine.specs.Step.{request_in_turn, step}
 
@@ -40,6 +45,22 @@ found_messages m (Ok ino) = entering_messages (node_of m ino)
 abbrev pub made_messages : MachineState → Result (Attr × Tree) ℕ → ℕ
 made_messages m (Ok (a, t)) = 1 + entering_messages (node_of m a.ino)
 made_messages m (Err e) = 1
+
+-- attributes are set, and asked for where no step was refused
+abbrev pub set_messages : Result (Unit {0}) ℕ → ℕ
+set_messages (Ok u) = 2
+set_messages (Err e) = 1
+
+-- a name is given, and the attributes are told
+abbrev pub linked_messages : Result (Unit {0} × Tree) ℕ → ℕ
+linked_messages (Ok x) = 2
+linked_messages (Err e) = 1
+
+-- the directory's fid is copied, the copy makes and opens a file, its fid is copied for the node,
+-- and the attributes are told; where no file is made, the copy is let go again
+abbrev pub created_messages : Result (ℕ × Tree) ℕ → ℕ
+created_messages (Ok x) = 4
+created_messages (Err e) = 3
 
 -- the node's fid is copied, and the copy opened; where that is refused, the copy is let go again
 abbrev pub opened_messages : Result (Unit {0}) ℕ → ℕ
@@ -94,6 +115,9 @@ effect_messages piece s m node (open_file flags) =
     opened_messages (open_check_of m.tree (node_ino (map.get m.nodes node)) flags)
 effect_messages piece s m node (read fh offset size flags lock) =
     read_messages piece (min size MAX_READ) (bytes_read m offset size (map.get m.handles fh))
+effect_messages piece s m node (setattr asked) =
+    set_messages (run (set_steps m node asked) m.tree).0
+effect_messages piece s m node (write fh offset bytes) = 0
 effect_messages piece s m node (unlink name) = 1
 effect_messages piece s m node (rmdir name) = 1
 effect_messages piece s m node (rename newdir old new) = 1
@@ -102,6 +126,11 @@ effect_messages piece s m node (symlink name target) = 1
 effect_messages piece s m node (mknod mode rdev name) = 1
 effect_messages piece s m node (mkdir mode name) =
     made_messages m (mkdir_of m.tree (node_ino (map.get m.nodes node)) name mode)
+effect_messages piece s m node (link old name) =
+    linked_messages (link_told m (node_ino (map.get m.nodes old))
+    (node_ino (map.get m.nodes node)) name)
+effect_messages piece s m node (create flags mode name) =
+    created_messages (new_file_of m.tree (node_ino (map.get m.nodes node)) name flags mode)
 effect_messages piece s m node readlink = 1
 effect_messages piece s m node statfs = 1
 effect_messages piece s m node (opendir flags) = 2

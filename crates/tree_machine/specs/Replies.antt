@@ -7,16 +7,17 @@ use Rattle.fuse_wire.specs.Head.{head_of}
 use Rattle.fuse_wire.specs.Opcode.{is_silent}
 use Rattle.fuse_wire.specs.declared.attr.FileAttr.{FileAttr}
 use Rattle.fuse_wire.specs.Reply.{reply, init_body, entry_body, attr_body, opened_body}
-use Rattle.fuse_wire.specs.Reply.{statfs_body}
+use Rattle.fuse_wire.specs.Reply.{statfs_body, created_body}
 
--- an error; what INIT grants; a node and its attributes; attributes; a handle; bytes of a file, or
--- a link's target; how many blocks and files a tree may have; no more than that it is done
+-- an error; what INIT grants; a node and its attributes; attributes; a handle; a node, its
+-- attributes and its handle; bytes of a file, or a link's target; how many blocks and files a tree may have; no more than that it is done
 pub data Reply : Type 0 where
   Refused : (errno : ℕ) → Reply
   Granted : (minor max_readahead : ℕ) → Reply
   Entry : (node : ℕ) (attr : FileAttr) → Reply
   Attributes : (attr : FileAttr) → Reply
   Opened : (handle : ℕ) → Reply
+  Created : (node : ℕ) (attr : FileAttr) (handle : ℕ) → Reply
   Bytes : (bytes : List ℕ) → Reply
   Sizes : (blocks files : ℕ) → Reply
   Done : Reply
@@ -49,6 +50,8 @@ reply_bytes unique (Granted minor max_readahead) = reply unique 0 (init_body min
 reply_bytes unique (Entry node attr) = reply unique 0 (entry_body node attr)
 reply_bytes unique (Attributes attr) = reply unique 0 (attr_body attr)
 reply_bytes unique (Opened handle) = reply unique 0 (opened_body handle)
+reply_bytes unique (Created node attr handle) =
+    reply unique 0 (created_body node attr handle)
 reply_bytes unique (Bytes bytes) = reply unique 0 bytes
 reply_bytes unique (Sizes blocks files) =
     reply unique 0 (statfs_body BLOCK_SIZE blocks files)

@@ -13,16 +13,20 @@ use Rattle.tree_model.specs.Tree.{Tree}
 use Rattle.tree_model.specs.Settings.{Settings}
 use Rattle.fuse_wire.specs.Request.{Request, rmdir, rename, rename2, symlink, mknod, readlink}
 use Rattle.fuse_wire.specs.Request.{statfs, open_file, fsync, fsyncdir, interrupt, destroy, mkdir}
+use Rattle.fuse_wire.specs.Request.{setattr, write, link, create}
 use Rattle.tree_machine.specs.State.{MachineState}
 use Rattle.tree_machine.specs.State.Phase.{Over}
 use Rattle.tree_machine.specs.Replies.{Reply}
 use Rattle.tree_machine.specs.Replies.Reply.{Refused, Sizes, Done}
 use Rattle.tree_machine.specs.Refusals.{refused_if, refused_unknown, first_refusal, refused_or}
 use Rattle.tree_machine.specs.Core.{node_ino, opened, open_refusal, name_refusal, bytes_reply}
-use Rattle.tree_machine.specs.Core.{lookup_refusal}
+use Rattle.tree_machine.specs.Core.{getattr_refusal, lookup_refusal}
 use Rattle.tree_machine.specs.Core.{changed_by, core_refusal, core_effect}
 use Rattle.tree_machine.specs.Naming.{rmdir_told, rename_refusal, rename2_refusal, rename_told}
-use Rattle.tree_machine.specs.Naming.{symlink_refusal, made}
+use Rattle.tree_machine.specs.Naming.{symlink_refusal, made, link_refusal, link_told, linked}
+use Rattle.tree_machine.specs.Setting.{given_handle, set_attributes}
+use Rattle.tree_model.specs.OpenedFiles.{new_file_of}
+use Rattle.tree_machine.specs.Creating.{create_refusal, created}
 
 -- to read, with none of O_CREAT, O_TRUNC and O_DIRECTORY
 abbrev pub opens_to_read : ℕ → Bool
@@ -33,12 +37,16 @@ opens_to_read flags =
 -- an OPEN by other flags isn't a core request, nor are these
 abbrev pub is_core : Request → Bool
 is_core (open_file flags) = opens_to_read flags
+is_core (setattr asked) = false
+is_core (write fh offset bytes) = false
 is_core (rmdir name) = false
 is_core (rename newdir old new) = false
 is_core (rename2 newdir flags old new) = false
 is_core (symlink name target) = false
 is_core (mknod mode rdev name) = false
 is_core (mkdir mode name) = false
+is_core (link old name) = false
+is_core (create flags mode name) = false
 is_core readlink = false
 is_core statfs = false
 is_core (fsync fh flags) = false
@@ -51,12 +59,13 @@ is_core _ = true
 abbrev pub sizes_reply : Tree → Reply
 sizes_reply t = Sizes (statfs_of t).blocks (statfs_of t).files
 
--- the refusals that stand before a request's first message; other OPENs aren't served
+-- the refusals that stand before a request's first message; an OPEN that empties isn't served
 abbrev pub refusal_before : Settings → MachineState → ℕ → Request → Option ℕ
 refusal_before s m node (open_file flags) = first_refusal (
-    refused_if (not (opens_to_read flags)) ENOSYS
+    refused_if (has_flag O_TRUNC flags) ENOSYS
     ∷ open_refusal s m (map.get m.nodes node)
     ∷ [])
+refusal_before s m node (setattr asked) = getattr_refusal m node (given_handle asked)
 refusal_before s m node (rmdir name) = name_refusal name (map.get m.nodes node)
 refusal_before s m node (rename newdir old new) =
     rename_refusal old new (map.get m.nodes node) (map.get m.nodes newdir)
@@ -66,6 +75,9 @@ refusal_before s m node (symlink name target) =
     symlink_refusal name target (map.get m.nodes node)
 refusal_before s m node (mknod mode rdev name) = name_refusal name (map.get m.nodes node)
 refusal_before s m node (mkdir mode name) = lookup_refusal s m name (map.get m.nodes node)
+refusal_before s m node (link old name) =
+    link_refusal s m name (map.get m.nodes old) (map.get m.nodes node)
+refusal_before s m node (create flags mode name) = create_refusal s m name (map.get m.nodes node)
 refusal_before s m node readlink = refused_unknown (map.get m.nodes node) ESTALE
 refusal_before s m node statfs = refused_unknown (map.get m.nodes node) ESTALE
 refusal_before s m node (fsync fh flags) = refused_unknown (map.get m.handles fh) EBADF
@@ -78,6 +90,7 @@ refusal_before s m node r = core_refusal s m node r
 abbrev pub effect_of : Settings → MachineState → ℕ → Request → Reply × MachineState
 effect_of s m node (open_file flags) =
     let ino = node_ino (map.get m.nodes node) in opened m ino flags (open_check_of m.tree ino flags)
+effect_of s m node (setattr asked) = set_attributes s m node asked
 effect_of s m node (rmdir name) =
     changed_by m (rmdir_told m (node_ino (map.get m.nodes node)) name)
 effect_of s m node (rename newdir old new) =
@@ -90,6 +103,11 @@ effect_of s m node (symlink name target) = (Refused EACCES, m)
 effect_of s m node (mknod mode rdev name) = (Refused EACCES, m)
 effect_of s m node (mkdir mode name) =
     made s m (mkdir_of m.tree (node_ino (map.get m.nodes node)) name mode)
+effect_of s m node (link old name) =
+    let ino = node_ino (map.get m.nodes old) in
+    linked s m ino (link_told m ino (node_ino (map.get m.nodes node)) name)
+effect_of s m node (create flags mode name) =
+    created s m flags (new_file_of m.tree (node_ino (map.get m.nodes node)) name flags mode)
 effect_of s m node readlink =
     (bytes_reply (readlink_of m.tree (node_ino (map.get m.nodes node))), m)
 effect_of s m node statfs = (sizes_reply m.tree, m)

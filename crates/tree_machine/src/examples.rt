@@ -1,5 +1,5 @@
 //! The first example, computed. Each function makes no call: its contract is the example.
-ghost use Rattle.std.specs.Prelude.{◌≡◌, true, false, Ok, Some, None, [], codes};
+ghost use Rattle.std.specs.Prelude.{◌≡◌, true, false, Ok, Err, Some, None, [], codes};
 ghost use Rattle.std.specs.FinMap as map;
 ghost use Rattle.port_base.specs.declared.errno.TheConstants.{EBADF, EISDIR, ENOSYS, ENOTDIR};
 ghost use Rattle.port_base.specs.declared.errno.TheConstants.{EACCES, EINVAL, ESTALE};
@@ -11,6 +11,12 @@ ghost use Rattle.tree_machine.specs.Replies.Reply.{Refused, Opened, Bytes, Sizes
 ghost use Rattle.tree_machine.specs.State.Phase.{Over};
 ghost use Rattle.tree_machine.specs.Requests.{answer_of, is_core};
 ghost use Rattle.tree_machine.specs.Forgetting.{forgotten};
+ghost use Rattle.tree_machine.specs.Setting.{given_handle, is_read_alone, new_attributes};
+ghost use Rattle.tree_machine.specs.FileSamples.{asked};
+ghost use Rattle.tree_machine.specs.Creating.{create_refusal, created, lacks_two};
+ghost use Rattle.tree_machine.specs.Messages.{created_messages, linked_messages};
+ghost use Rattle.tree_machine.specs.Naming.{link_refusal, linked};
+ghost use Rattle.tree_model.specs.declared.attributes.TimeSet.TheVariants.{Keep, Now, At};
 ghost use Rattle.tree_machine.specs.FileSamples.{open_frame, open_reply, with_open, read_frame};
 ghost use Rattle.tree_machine.specs.FileSamples.{read_reply, release_frame, release_reply};
 ghost use Rattle.tree_machine.specs.FileSamples.{with_closed, forget_frame, with_none};
@@ -49,10 +55,9 @@ fn hello_is_opened()
     ensures messages { messages 4341 settings with_hello open_frame ≡ 2 }
 {}
 
-/// OPEN's refusals in order: flags that aren't served, a node that isn't there, a directory.
-#[tactic(auto, using(crate::proofs::FileSampling::open_flagged, crate::proofs::FileSampling::open_cut, crate::proofs::FileSampling::open_unknown, crate::proofs::FileSampling::open_directory))]
+/// OPEN's refusals in order: a flag that isn't served, a node that isn't there, a directory.
+#[tactic(auto, using(crate::proofs::FileSampling::open_cut, crate::proofs::FileSampling::open_unknown, crate::proofs::FileSampling::open_directory))]
 fn opens_are_refused()
-    ensures written { (answer_of settings with_hello 9 (Ok (open_file 1))).0 ≡ Refused ENOSYS }
     ensures cut { (answer_of settings with_hello 9 (Ok (open_file 512))).0 ≡ Refused ENOSYS }
     ensures unknown { (answer_of settings with_hello 9 (Ok (open_file 0))).0 ≡ Refused ESTALE }
     ensures directory { (answer_of settings with_hello 1 (Ok (open_file 0))).0 ≡ Refused EISDIR }
@@ -176,4 +181,40 @@ fn pieces_are_counted()
     ensures short_third { pieces 4341 131072 10000 ≡ 3 }
     ensures full_and_short { pieces 4341 131072 4341 ≡ 2 }
     ensures none { pieces 4341 0 0 ≡ 1 }
+{}
+
+/// What SETATTR sets: a time that is given, the moment in its place, the bit of the moment without
+/// its time, and ctime alone or beside a mode.
+fn attributes_are_set()
+    ensures given { (new_attributes (record asked { valid = 16 })).atime
+        ≡ At (record { sec = 8; nsec = 1 }) }
+    ensures moment { (new_attributes (record asked { valid = 144 })).atime ≡ Now }
+    ensures no_time { (new_attributes (record asked { valid = 128 })).atime ≡ Keep }
+    ensures times { (new_attributes (record asked { valid = 128 })).sets_times ≡ false }
+    ensures owner { (new_attributes (record asked { valid = 2 })).uid ≡ Some 5 }
+    ensures group { (new_attributes (record asked { valid = 2 })).gid ≡ None }
+    ensures alone { (new_attributes (record asked { valid = 1024 })).touches_ctime ≡ true }
+    ensures beside { (new_attributes (record asked { valid = 1025 })).touches_ctime ≡ false }
+    ensures handle { given_handle (record asked { valid = 64 }) ≡ Some 4 }
+    ensures node { given_handle asked ≡ None }
+    ensures to_read { is_read_alone (Some (record { ino = 2; access = 0; append = false })) ≡ true }
+    ensures closed { is_read_alone None ≡ false }
+{}
+
+/// Files that are made and names that are given: refusals in order, and what is sent then.
+#[tactic(auto, using(crate::proofs::NamingSampling::two_fit, crate::proofs::NamingSampling::two_lack))]
+fn files_are_made_and_linked()
+    ensures unknown { create_refusal settings with_hello (codes ".") None ≡ Some ESTALE }
+    ensures named { create_refusal settings with_hello (codes ".")
+        (Some (record { ino = 1; count = 1 })) ≡ Some EINVAL }
+    ensures two { lacks_two (record settings { limit = 3 }) (begun tree 1) ≡ false }
+    ensures one { lacks_two (record settings { limit = 2 }) (begun tree 1) ≡ true }
+    ensures not_made { created settings with_hello 1 (Err EISDIR) ≡ (Refused EISDIR, with_hello) }
+    ensures made_by { created_messages (Err EISDIR) ≡ 3 }
+    ensures old { link_refusal settings with_hello (codes ".") None None ≡ Some ESTALE }
+    ensures dots { link_refusal settings with_hello (codes ".")
+        (Some (record { ino = 2; count = 1 })) (Some (record { ino = 1; count = 1 }))
+        ≡ Some EINVAL }
+    ensures not_linked { linked settings with_hello 2 (Err EISDIR) ≡ (Refused EISDIR, with_hello) }
+    ensures linked_by { linked_messages (Err EISDIR) ≡ 1 }
 {}

@@ -15,7 +15,12 @@ use port_base::sink::NoMemory;
 
 impl Gate {
     // The fid of a handle that is given, else that of the node, or the refusal.
-    fn subject<N: Nine>(&self, nine: &N, node: u64, handle: Option<u64>) -> Result<u32, u32>
+    pub(super) fn subject<N: Nine>(
+        &self,
+        nine: &N,
+        node: u64,
+        handle: Option<u64>,
+    ) -> Result<u32, u32>
         requires { IsInStep self.now (N.at nine.now).state }
         ensures { IsSubject self.now (N.at nine.now).state node handle result }
     {

@@ -1,7 +1,6 @@
 // OPEN.
 ghost use Rattle.std.specs.Prelude.{◌≡◌, IfOk, OnErr};
 ghost use Rattle.fuse_wire.specs.Request.{open_file};
-ghost use Rattle.tree_machine.specs.Requests.{opens_to_read};
 ghost use Rattle.fid_model.specs.Moments.{Keeps, SameTree};
 ghost use Rattle.fuse_gate.specs.Standing.{IsInStep};
 ghost use Rattle.fuse_gate.specs.Replies.{reply_of};
@@ -13,17 +12,9 @@ use crate::gate::{Gate, Handle, Node};
 use fid_model::Nine;
 use p9_client::{clunk, copy_fid, open};
 use port_base::errno::{EISDIR, ENFILE, ENOSYS, ESTALE};
-use port_base::oflag::{O_APPEND, O_CREAT, O_DIRECTORY, O_RDONLY, O_TRUNC, access_mode, has_flag};
+use port_base::oflag::{O_APPEND, O_TRUNC, access_mode, has_flag};
 use port_base::sink::NoMemory;
 use tree_model::attributes::QTDIR;
-
-// Whether flags are served: to read, and none that makes, cuts or wants a directory.
-fn opens_to_read(flags: u32) -> bool
-    ensures { result ≡ opens_to_read flags }
-{
-    access_mode(flags) == O_RDONLY
-        && !(has_flag(flags, O_CREAT) || has_flag(flags, O_TRUNC) || has_flag(flags, O_DIRECTORY))
-}
 
 // The handle of a node that is opened by these flags.
 fn handle_by(node: Node, flags: u32) -> Handle
@@ -75,7 +66,7 @@ impl Gate {
         }
     }
 
-    // Opens a node to read it, and no directory.
+    // Opens a node that is no directory, by flags that empty no file.
     pub(super) fn open<N: Nine>(
         &mut self,
         nine: &mut N,
@@ -88,7 +79,7 @@ impl Gate {
         ensures unfinished { OnErr result (SameTree (N.at nine.old) (N.at nine.new)) }
         ensures kept { Keeps (N.at nine.old) (N.at nine.new) }
     {
-        if !opens_to_read(flags) {
+        if has_flag(flags, O_TRUNC) {
             return Ok(Reply::Refused(ENOSYS));
         }
         let Some(found) = self.nodes.get(node).copied() else {

@@ -7,9 +7,9 @@ ghost use Rattle.fuse_gate.specs.Replies.{reply_of, IsShort, file_attributes, Ha
 use fuse_wire::attr::FileAttr;
 use fuse_wire::ids::{Errno, FileHandle, INodeNo, RequestId};
 use fuse_wire::reply::{
-    ATTR_OUT_SIZE, ENTRY_OUT_SIZE, INIT_OUT_SIZE, OPEN_OUT_SIZE, OUT_HEADER_SIZE, STATFS_OUT_SIZE,
-    reply_attr, reply_bytes, reply_empty, reply_entry, reply_error, reply_init, reply_opened,
-    reply_statfs,
+    ATTR_OUT_SIZE, CREATE_OUT_SIZE, ENTRY_OUT_SIZE, INIT_OUT_SIZE, OPEN_OUT_SIZE, OUT_HEADER_SIZE,
+    STATFS_OUT_SIZE, reply_attr, reply_bytes, reply_created, reply_empty, reply_entry, reply_error,
+    reply_init, reply_opened, reply_statfs,
 };
 use p9_rmsg::Rgetattr;
 use tree_model::attributes::BLOCK_SIZE;
@@ -20,17 +20,34 @@ pub enum Reply {
     /// The request is refused.
     Refused(u32),
     /// The session begins, with this protocol's minor number.
-    Granted { minor: u32, max_readahead: u32 },
+    Granted {
+        minor: u32,
+        max_readahead: u32,
+    },
     /// A node and its attributes.
-    Entry { node: u64, attr: FileAttr },
+    Entry {
+        node: u64,
+        attr: FileAttr,
+    },
     /// Attributes.
     Attributes(FileAttr),
     /// A handle.
-    Opened { handle: u64 },
+    Opened {
+        handle: u64,
+    },
+    /// A node, its attributes and its handle.
+    Created {
+        node: u64,
+        attr: FileAttr,
+        handle: u64,
+    },
     /// Bytes of a file, at most `MAX_READ`, or the target of a link.
     Bytes(Vec<u8>),
     /// How many blocks and files a tree may have.
-    Sizes { blocks: u64, files: u64 },
+    Sizes {
+        blocks: u64,
+        files: u64,
+    },
     /// The request is granted, without more.
     Done,
 }
@@ -47,6 +64,7 @@ impl Reply {
             Reply::Entry { .. } => ENTRY_OUT_SIZE,
             Reply::Attributes(_) => ATTR_OUT_SIZE,
             Reply::Opened { .. } => OPEN_OUT_SIZE,
+            Reply::Created { .. } => CREATE_OUT_SIZE,
             Reply::Bytes(bytes) => bytes.len(),
             Reply::Sizes { .. } => STATFS_OUT_SIZE,
         };
@@ -70,6 +88,9 @@ pub fn write_reply(out: &mut Vec<u8>, unique: RequestId, reply: &Reply)
         Reply::Entry { node, attr } => reply_entry(out, unique, INodeNo(*node), attr),
         Reply::Attributes(attr) => reply_attr(out, unique, attr),
         Reply::Opened { handle } => reply_opened(out, unique, FileHandle(*handle)),
+        Reply::Created { node, attr, handle } => {
+            reply_created(out, unique, INodeNo(*node), attr, FileHandle(*handle))
+        }
         Reply::Bytes(bytes) => reply_bytes(out, unique, bytes),
         Reply::Sizes { blocks, files } => { reply_statfs(out, unique, BLOCK_SIZE, *blocks, *files) }
         Reply::Done => reply_empty(out, unique),

@@ -15,7 +15,7 @@ use fid_model::Nine;
 use fuse_wire::head::{Head, IN_HEADER_SIZE};
 use fuse_wire::opcode::FUSE_INIT;
 use fuse_wire::request::{Body, FuseRequest};
-use port_base::errno::EPROTO;
+use port_base::errno::{ENOSYS, EPROTO};
 use port_base::sink::NoMemory;
 
 // Whether a request is in turn: INIT begins a session, and comes once.
@@ -48,6 +48,7 @@ impl Gate {
             } => Ok(self.init(major, minor, max_readahead)),
             Body::Lookup { name } => self.lookup(nine, node, name),
             Body::GetAttr { handle } => self.getattr(nine, node, handle),
+            Body::SetAttr(asked) => self.setattr(nine, node, asked),
             Body::OpenFile { flags } => self.open(nine, node, flags),
             Body::Read {
                 fh,
@@ -55,6 +56,7 @@ impl Gate {
                 size,
                 ..
             } => self.read(nine, fh, offset, size),
+            Body::Write { .. } => Ok(Reply::Refused(ENOSYS)),
             Body::OpenDir { .. } => self.opendir(nine, node),
             Body::ReleaseDir { fh } => self.release(nine, fh),
             Body::Unlink { name } => self.unlink(nine, node, name),
@@ -69,6 +71,8 @@ impl Gate {
             Body::Symlink { name, target } => self.symlink(nine, node, name, target),
             Body::MkNod { mode, rdev, name } => self.mknod(nine, node, mode, rdev, name),
             Body::MkDir { mode, name } => self.mkdir(nine, node, mode, name),
+            Body::Link { old, name } => self.link(nine, node, old, name),
+            Body::Create { flags, mode, name } => self.create(nine, node, flags, mode, name),
             Body::ReadLink => self.readlink(nine, node),
             Body::StatFs => self.statfs(nine, node),
             Body::ReadDir {

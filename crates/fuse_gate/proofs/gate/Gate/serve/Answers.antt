@@ -1,11 +1,14 @@
 -- READ, READDIR, FSYNC and FSYNCDIR look at the handle alone, OPENDIR ignores its flags, and
 -- INTERRUPT is passed over.
-use Rattle.std.proofs.Common.{IfOk, sym, subst}
+use Rattle.std.proofs.Common.{IfOk, sym, subst, refl}
+use Rattle.port_base.specs.declared.errno.TheConstants.{ENOSYS}
+use Rattle.fuse_wire.specs.Request.{write}
+use Rattle.fuse_gate.proofs.Serving.{refused_before}
 use Rattle.fuse_wire.specs.Body.{plain}
 use Rattle.fuse_wire.specs.declared.request.Body.{Body}
 use Rattle.fuse_gate.specs.Replies.{reply_of}
 use Rattle.fuse_gate.specs.Steps.{ServesRequest}
-use Rattle.tree_machine.specs.Replies.Reply.{Done}
+use Rattle.tree_machine.specs.Replies.Reply.{Done, Refused}
 use Rattle.fuse_gate.proofs.Beginning.{passed_over}
 use Rattle.fuse_gate.proofs.gate.Gate.serve.Goals as goal
 
@@ -50,3 +53,12 @@ returns-in-Interrupt-clause-served g c =
     (c.args.self.now, g.N.Nine.at c.args.nine.now)
     (c.args.self.now, g.N.Nine.at c.args.nine.now) Done) (sym c.in-Interrupt.is)
     (passed_over c.requires (g.met.N.Nine.good c.args.nine.now))
+
+pub returns-in-Write-clause-served : goal.returns-in-Write-clause-served
+returns-in-Write-clause-served g c =
+    subst (λ (b : Body). ServesRequest c.args.node (plain b)
+    (c.args.self.now, g.N.Nine.at c.args.nine.now)
+    (c.args.self.now, g.N.Nine.at c.args.nine.now) (Refused ENOSYS)) (sym c.in-Write.is)
+    (refused_before {n = g.N.Nine.at c.args.nine.now} c.requires
+    (g.met.N.Nine.good c.args.nine.now) c.args.node
+    (write c.in-Write.fh c.in-Write.offset c.in-Write.bytes.now) ENOSYS refl)

@@ -2,7 +2,7 @@
 use Rattle.std.proofs.Common.{ap, length, arith}
 use Rattle.fuse_gate.specs.declared.gate.reply.Reply.TheVariants.{Refused, Granted, Entry}
 use Rattle.fuse_gate.specs.declared.gate.reply.Reply.TheVariants.{Attributes, Opened, Bytes, Sizes}
-use Rattle.fuse_gate.specs.declared.gate.reply.Reply.TheVariants.{Done}
+use Rattle.fuse_gate.specs.declared.gate.reply.Reply.TheVariants.{Done, Created}
 use Rattle.fuse_gate.proofs.Replying.{room}
 use Rattle.fuse_gate.proofs.gate.reply.write_reply.Goals as goal
 
@@ -25,6 +25,10 @@ reply_attr-requires c = room c.args.unique.0 _ _ c.args.reply.now c.requires.roo
 pub reply_opened-requires : goal.reply_opened-requires
 reply_opened-requires c = room c.args.unique.0 _ _ c.args.reply.now c.requires.room
     (Opened c.in-Opened.handle) c.in-Opened.is
+
+pub reply_created-requires : goal.reply_created-requires
+reply_created-requires c = room c.args.unique.0 _ _ c.args.reply.now c.requires.room
+    (Created c.in-Created.node c.in-Created.attr c.in-Created.handle) c.in-Created.is
 
 pub reply_bytes-requires-clause-room : goal.reply_bytes-requires-clause-room
 reply_bytes-requires-clause-room c = omega (
