@@ -11,11 +11,11 @@ use Rattle.tree_model.specs.Tree.{Tree}
 use Rattle.tree_model.specs.Making.{NewFile, add_file_of}
 use Rattle.tree_model.specs.Opening.{at_path}
 use Rattle.tree_model.specs.Placing.{add_directory_of, add_hard_of, add_link_of}
+use Rattle.tree_machine.specs.declared.limits.TheConstants.{TARGET_LIMIT}
 use Rattle.mount9_run.specs.Reading.{◌>>=◌, check, or_refused, field_at}
 use Rattle.mount9_run.specs.Numbers.{number_field, mode_field}
 use Rattle.mount9_run.specs.HeaderLines.{OWNER_MAX}
 use Rattle.mount9_run.specs.Paths.{is_root, split_last}
-use Rattle.mount9_run.specs.declared.header.records.TheConstants.{TARGET_LIMIT}
 
 -- what a line adds: a directory, a file, a symbolic link, or one more name of what stands at a path
 pub data Item : Type 0 where

@@ -16,9 +16,7 @@ use crate::header::path::path_of_field;
 use crate::path::is_root;
 use port_base::names::is_utf8;
 use std::alloc::Global;
-
-/// The greatest length of a symbolic link's target, in bytes.
-pub const TARGET_LIMIT: usize = 4000;
+use tree_machine::limits::TARGET_LIMIT;
 
 /// What a line adds: a record, or one more name of what stands at the path `old`. Modes are
 /// permission bits, below 4096.
