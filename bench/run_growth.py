@@ -5,57 +5,41 @@ usage: run_growth.py PROGRAM [--files N ..] [--requests N ..] [--repeat N]
 
 PROGRAM is what `rt run` leaves in crates/mount9/out/mount9. Each input is a header of so many files of 100
 bytes, an INIT, and so many requests: a LOOKUP of a name, then a GETATTR of the node that it gave, in turn over
-1,000 names that lie evenly in the directory. So half of the requests walk the directory, and from the second
+1,000 names that lie evenly in the directory. So half of the requests look a name up, and from the second
 round on the node is known. The time is the processor's, the least of the repeats; the peak is the greatest
 resident size.
 """
 import argparse
 import os
-import struct
 import subprocess
 import sys
 import tempfile
 
+import inputs
+
 NAMES = 1000
 SIZE = 100
-INIT, LOOKUP, GETATTR = 26, 1, 3
-
-
-def frame(opcode, unique, node, body):
-    head = struct.pack("<IIQQIIII", 40 + len(body), opcode, unique, node, 0, 0, 0, 0)
-    return head + body
 
 
 def header(files):
-    lines = [
-        "mount9 1",
-        "moment 1700000000 5",
-        "born 1600000000 0",
-        "limits 1048576 65536 65000",
-        "permit yes",
-        "present /mnt",
-        "top 0755 0 0",
-    ]
     content = bytes(range(SIZE)).hex()
-    lines += [f"file 0644 1000 1000 {content} /f{i:05}" for i in range(files)]
-    lines.append("end")
-    return "".join(line + "\n" for line in lines).encode()
+    return inputs.header(f"file 0644 1000 1000 {content} /f{i:05}" for i in range(files))
 
 
 def requests(files, count):
     """The frames, and how many 9P messages they take: 2 for a new node, 3 for a known one, 1 for attributes."""
     names = min(NAMES, files)
-    frames = [frame(INIT, 1, 0, struct.pack("<IIII", 7, 31, 131072, 0) + bytes(48))]
+    frames = [inputs.first_frame()]
     messages = 1
     for i in range(count):
         turn = i // 2
         which = turn % names
         if i % 2 == 0:
             name = f"f{which * files // names:05}".encode()
-            frames.append(frame(LOOKUP, i + 2, 1, name + b"\0"))
+            frames.append(inputs.frame(inputs.LOOKUP, i + 2, 1, name + b"\0"))
             messages += 2 if turn < names else 3
         else:
-            frames.append(frame(GETATTR, i + 2, which + 2, bytes(16)))
+            frames.append(inputs.frame(inputs.GETATTR, i + 2, which + 2, bytes(16)))
             messages += 1
     return b"".join(frames), messages
 

@@ -6,38 +6,25 @@ most 65560 bytes. Printed is the processor's time for one entry, beyond that of 
 three runs each. It needs Python 3.8 or later, and nothing else.
 """
 import os
-import struct
 import subprocess
 import sys
 
-HEADER = """mount9 1
-moment 1700000000 5
-born 1600000000 0
-limits 1048576 65536 65000
-permit yes
-present /mnt
-top 0755 0 0
-"""
+import inputs
+
 TIMES = 20
 MOST = 131072
 
 
-def frame(opcode, unique, node, body):
-    return struct.pack("<IIQQIIII", 40 + len(body), opcode, unique, node, 0, 0, 0, 0) + body
-
-
 def input_of(entries, times):
     """A header of so many files, and the frames that list them so often."""
-    names = ["f%06d" % n for n in range(entries)]
-    header = HEADER + "".join("file 0644 0 0 - /%s\n" % name for name in names) + "end\n"
-    frames = [frame(26, 1, 0, struct.pack("<IIII", 7, 31, 131072, 0) + bytes(48)),
-              frame(27, 2, 1, struct.pack("<II", 0, 0))]
+    header = inputs.header("file 0644 0 0 - /f%06d" % n for n in range(entries))
+    frames = [inputs.first_frame(), inputs.frame(inputs.OPENDIR, 2, 1, inputs.open_body())]
     in_one = MOST // 32
     for _ in range(times):
         for at in range(0, entries + 1, in_one):
-            body = struct.pack("<QQIIQII", 2, at, MOST, 0, 0, 0, 0)
-            frames.append(frame(28, len(frames) + 1, 0, body))
-    return header.encode() + b"".join(frames)
+            body = inputs.read_body(2, at, MOST)
+            frames.append(inputs.frame(inputs.READDIR, len(frames) + 1, 0, body))
+    return header + b"".join(frames)
 
 
 def seconds(program, msize, text):

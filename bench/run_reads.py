@@ -1,38 +1,23 @@
 #!/usr/bin/env python3
 """Times READs of 128 KiB at two sizes of 9P messages: run_reads.py PROGRAM. Prints a table."""
 import resource
-import struct
 import subprocess
 import sys
 
+import inputs
+
 READS = 4000
 SIZE = 131072
-HEADER = """mount9 1
-moment 1700000000 5
-born 1600000000 0
-limits 1048576 65536 65000
-permit yes
-present /mnt
-top 0755 0 0
-file 0644 0 0 {} /f
-end
-"""
-
-
-def frame(opcode, unique, node, body):
-    """A FUSE request frame."""
-    return struct.pack("<IIQQIIII", 40 + len(body), opcode, unique, node, 0, 0, 0, 0) + body
-
 
 def reading(unique):
     """READ of the first 128 KiB by handle 3."""
-    return frame(15, unique, 0, struct.pack("<QQIIQII", 3, 0, SIZE, 0, 0, 0, 0))
+    return inputs.frame(inputs.READ, unique, 0, inputs.read_body(3, 0, SIZE))
 
 
 def session(reads):
     """INIT, LOOKUP, OPEN and so many READs."""
-    init = struct.pack("<IIII", 7, 31, 0, 0)
-    frames = [frame(26, 1, 0, init), frame(1, 2, 1, b"f\0"), frame(14, 3, 2, struct.pack("<II", 0, 0))]
+    frames = [inputs.first_frame(), inputs.frame(inputs.LOOKUP, 2, 1, b"f\0"),
+              inputs.frame(inputs.OPEN, 3, 2, inputs.open_body())]
     return b"".join(frames + [reading(4 + i) for i in range(reads)])
 
 
@@ -54,7 +39,7 @@ def run(program, msize, reads, text):
 
 def main():
     program = sys.argv[1]
-    text = HEADER.format("5a" * SIZE).encode()
+    text = inputs.header(["file 0644 0 0 %s /f" % ("5a" * SIZE)])
     print("| msize | reads | processor seconds | microseconds a read |")
     print("|---:|---:|---:|---:|")
     for msize in (4352, 65560):

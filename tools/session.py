@@ -21,7 +21,11 @@ decimal; a name stands as it is, or as `\\xHH` for a byte.
     READLINK NODE                   STATFS NODE
     FSYNC HANDLE [FLAGS]            FSYNCDIR HANDLE [FLAGS]
     INTERRUPT UNIQUE                DESTROY
-    MKDIR NODE MODE NAME
+    MKDIR NODE MODE NAME            LINK NODE OLDNODE NAME
+    CREATE NODE FLAGS MODE NAME
+    SETATTR NODE [handle=HANDLE] [mode=MODE] [uid=UID] [gid=GID] [size=SIZE] [atime=TIME]
+            [mtime=TIME] [ctime=TIME] [valid=BITS]  (TIME: seconds[.nanoseconds], or now; further bits)
+    WRITE HANDLE OFFSET HEX
     FRAME OPCODE NODE HEX           BYTES HEX  (bytes that need be no frame)
 
 FRAME is any request: the body in hex, or - for none. The unique numbers are 1, 2 and so on.
@@ -32,10 +36,11 @@ import struct
 import subprocess
 import sys
 
-OPCODES = {"LOOKUP": 1, "FORGET": 2, "GETATTR": 3, "OPEN": 14, "READ": 15, "RELEASE": 18,
+OPCODES = {"LOOKUP": 1, "FORGET": 2, "GETATTR": 3, "SETATTR": 4, "OPEN": 14, "READ": 15,
+           "WRITE": 16, "RELEASE": 18,
            "FLUSH": 25, "INIT": 26, "BATCH_FORGET": 42, "UNLINK": 10, "OPENDIR": 27, "READDIR": 28,
            "RELEASEDIR": 29, "READLINK": 5, "SYMLINK": 6, "MKNOD": 8, "MKDIR": 9, "RMDIR": 11, "RENAME": 12,
-           "STATFS": 17, "FSYNC": 20, "FSYNCDIR": 30, "INTERRUPT": 36, "DESTROY": 38, "RENAME2": 45}
+           "LINK": 13, "CREATE": 35, "STATFS": 17, "FSYNC": 20, "FSYNCDIR": 30, "INTERRUPT": 36, "DESTROY": 38, "RENAME2": 45}
 SILENT = {2, 36, 42}
 ERRORS = {1: "EPERM", 2: "ENOENT", 5: "EIO", 9: "EBADF", 13: "EACCES", 17: "EEXIST", 20: "ENOTDIR",
           21: "EISDIR", 22: "EINVAL", 23: "ENFILE", 27: "EFBIG", 28: "ENOSPC", 31: "EMLINK",
@@ -57,6 +62,34 @@ def name_bytes(word):
 def names_bytes(words):
     """Names, each with its zero byte."""
     return b"".join(name_bytes(word) + b"\0" for word in words)
+
+
+# Keys of SETATTR: the bit of `valid`, and for a time that of `now`.
+SETTINGS = {"mode": 0x1, "uid": 0x2, "gid": 0x4, "size": 0x8, "atime": 0x10, "mtime": 0x20,
+            "handle": 0x40, "ctime": 0x400}
+NOW = {"atime": 0x80, "mtime": 0x100}
+
+
+def setattr_body(words):
+    """The body of SETATTR, by words KEY=VALUE."""
+    valid, values, parts = 0, dict.fromkeys(SETTINGS, 0), dict.fromkeys(("atime", "mtime", "ctime"), 0)
+    for word in words:
+        key, value = word.split("=")
+        if key == "valid":
+            valid |= int(value)
+            continue
+        valid |= SETTINGS[key]
+        if value == "now":
+            valid |= NOW[key]
+        elif key in parts:
+            seconds, _, nanoseconds = value.partition(".")
+            values[key], parts[key] = int(seconds), int(nanoseconds or 0)
+        else:
+            values[key] = int(value)
+    return struct.pack("<IIQQQQQQIIIIIIII", valid, 0, values["handle"], values["size"], 0,
+                       values["atime"], values["mtime"], values["ctime"], parts["atime"],
+                       parts["mtime"], parts["ctime"], values["mode"], 0, values["uid"],
+                       values["gid"], 0)
 
 
 def body_of(request, words):
@@ -83,6 +116,16 @@ def body_of(request, words):
         return int(words[0]), struct.pack("<IIII", mode, rdev, 0, 0) + names_bytes(words[3:4])
     if request == "MKDIR":
         return int(words[0]), struct.pack("<II", int(words[1]), 0) + names_bytes(words[2:3])
+    if request == "LINK":
+        return int(words[0]), struct.pack("<Q", int(words[1])) + names_bytes(words[2:3])
+    if request == "CREATE":
+        flags, mode = int(words[1]), int(words[2])
+        return int(words[0]), struct.pack("<IIII", flags, mode, 0, 0) + names_bytes(words[3:4])
+    if request == "SETATTR":
+        return int(words[0]), setattr_body(words[1:])
+    if request == "WRITE":
+        data = bytes.fromhex(words[2]) if len(words) > 2 else b""
+        return 0, struct.pack("<QQIIQII", numbers[0], int(words[1]), len(data), 0, 0, 0, 0) + data
     if request in ("READLINK", "STATFS"):
         return numbers[0], b""
     if request in ("FSYNC", "FSYNCDIR"):
@@ -164,12 +207,17 @@ def reply_in_words(opcode, error, body):
         return "error " + ERRORS.get(error, str(error))
     if opcode == 26:
         return "granted minor=%d max_readahead=%d" % struct.unpack("<II", body[4:12])
-    if opcode in (1, 9):
+    if opcode in (1, 9, 13):
         return "node=%d %s" % (struct.unpack("<Q", body[:8])[0], attributes(body[40:]))
-    if opcode == 3:
+    if opcode == 35:
+        node, handle = struct.unpack("<Q", body[:8]) + struct.unpack("<Q", body[128:136])
+        return "node=%d handle=%d %s" % (node, handle, attributes(body[40:]))
+    if opcode in (3, 4):
         return attributes(body[16:])
     if opcode in (14, 27):
         return "handle=%d" % struct.unpack("<Q", body[:8])
+    if opcode == 16:
+        return "%d bytes written" % struct.unpack("<I", body[:4])
     if opcode == 17:
         return "blocks=%d/%d/%d files=%d/%d bsize=%d namelen=%d" % struct.unpack("<QQQQQII", body[:48])
     if opcode in (5, 15):
