@@ -37,6 +37,8 @@ pub mod Creations
 pub mod Replying
 pub mod Reading
 pub mod Paging
+pub mod WritingPieces
+pub mod WritingHandles
 pub mod Listings
 pub mod ListingPages
 pub mod ListingHandles

@@ -22,14 +22,15 @@ use Rattle.fuse_wire.specs.Request.{rmdir, rename, rename2, symlink, mknod, read
 use Rattle.fuse_wire.specs.Request.{fsyncdir, interrupt, destroy, mkdir, setattr, write, link}
 use Rattle.fuse_wire.specs.Request.{create}
 use Rattle.fuse_wire.specs.Reply.{u32s, u64s, reply_head, reply, init_body, entry_body, attr_body}
-use Rattle.fuse_wire.specs.Reply.{opened_body, statfs_body, created_body}
+use Rattle.fuse_wire.specs.Reply.{opened_body, statfs_body, created_body, written_body}
 use Rattle.fuse_wire.specs.declared.protocol.TheConstants.{MAX_READ}
 use Rattle.fuse_wire.proofs.Sizes.{length-init_body, length-entry_body, length-attr_body}
 use Rattle.fuse_wire.proofs.Sizes.{length-opened_body, length-statfs_body, length-created_body}
+use Rattle.fuse_wire.proofs.Sizes.{length-written_body}
 use Rattle.tree_machine.specs.State.{MachineState}
 use Rattle.tree_machine.specs.Replies.{Reply, reply_bytes}
 use Rattle.tree_machine.specs.Replies.Reply.{Refused, Granted, Entry, Attributes, Opened, Bytes}
-use Rattle.tree_machine.specs.Replies.Reply.{Sizes, Done, Created}
+use Rattle.tree_machine.specs.Replies.Reply.{Sizes, Done, Created, Written}
 use Rattle.tree_machine.specs.Refusals.{refused_or}
 use Rattle.tree_machine.specs.Core.{node_ino, handle_ino, node_of, node_for, entry_reply, shown_at}
 use Rattle.tree_machine.specs.Core.{looked_up, getattr_ino, attr_reply, opened, bytes_reply}
@@ -38,6 +39,7 @@ use Rattle.tree_machine.specs.Naming.{rmdir_told, rename_told, made, link_told, 
 use Rattle.tree_model.specs.OpenedFiles.{new_file_of}
 use Rattle.tree_machine.specs.Creating.{created, created_reply}
 use Rattle.tree_machine.specs.Requests.{refusal_before, effect_of, answer_of}
+use Rattle.tree_machine.specs.Writing.{write_told, written_reply}
 use Rattle.tree_machine.specs.Step.{request_in_turn}
 use Rattle.tree_machine.proofs.Listing.{listing_short}
 use Rattle.fid_model.specs.Moments.{Moment}
@@ -67,6 +69,7 @@ body_size (Attributes attr) = 104
 body_size (Opened handle) = 16
 body_size (Created node attr handle) = 144
 body_size (Bytes bytes) = length bytes
+body_size (Written count) = 8
 body_size (Sizes blocks files) = 80
 body_size Done = 0
 
@@ -85,6 +88,8 @@ written_size unique (Created node attr handle) =
     length-reply unique 0 (created_body node attr handle)
     ∙ ap (λ n. 16 + n) (length-created_body node attr handle)
 written_size unique (Bytes bytes) = length-reply unique 0 bytes
+written_size unique (Written count) = length-reply unique 0 (written_body count)
+    ∙ ap (λ n. 16 + n) (length-written_body count)
 written_size unique (Sizes blocks files) =
     length-reply unique 0 (statfs_body BLOCK_SIZE blocks files)
     ∙ ap (λ n. 16 + n) (length-statfs_body BLOCK_SIZE blocks files)
@@ -162,6 +167,10 @@ bytes_short offset size (Some (File bytes)) = part_short size (drop offset bytes
 bytes_short offset size (Some (Directory es next above)) = tt
 bytes_short offset size (Some (Link target)) = tt
 
+wrote_short : (told : Result (ℕ × Tree) ℕ) → IsShort (written_reply told)
+wrote_short (Ok x) = tt
+wrote_short (Err e) = tt
+
 changed_short : (m : MachineState) (r : Result (Unit {0} × Tree) ℕ) → IsShort (changed_by m r).0
 changed_short m (Ok x) = tt
 changed_short m (Err e) = tt
@@ -190,7 +199,7 @@ module _ (s : Settings) (m : MachineState) (good : IsGoodTree m.tree) where
       bytes_short offset size (body_at m.tree.records (handle_ino (get m.handles fh)))
   effect_short node (setattr asked) = set_short s m (getattr_ino m node (given_handle asked))
       (run (set_steps m node asked) m.tree)
-  effect_short node (write fh offset bytes) = tt
+  effect_short node (write fh offset bytes) = wrote_short (write_told m fh offset bytes)
   effect_short node (unlink name) = changed_short m
       (unlink_told m (node_ino (get m.nodes node)) name)
   effect_short node (rmdir name) = changed_short m

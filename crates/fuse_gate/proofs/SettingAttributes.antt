@@ -46,7 +46,7 @@ use Rattle.fuse_gate.proofs.Held.{test}
 use Rattle.fuse_gate.proofs.SettingBits.{same_attributes}
 use Rattle.fuse_gate.proofs.Standings.{sent_stands}
 use Rattle.fuse_gate.proofs.Serving.{SentAlone, one_alone, one_more_sent, served_in_part}
-use Rattle.fuse_gate.proofs.TreeChanging.{held_same}
+use Rattle.fuse_gate.proofs.TreeChanging.{held_same, stands_with}
 
 -- the reply without more, or the refusal of a step
 abbrev pub after_steps : Result (Unit {0}) ℕ → Reply → Reply
@@ -115,14 +115,6 @@ module _ {g : Gate} (n : Moment) (st : IsInStep g n.state) (good : IsGoodServer 
   all_kept : KeepsAll m.tree ran.1
   all_kept = set_keeps n.state.settings m st.good node asked
 
-  -- after a front part of the steps
-  stands_in_part : (u : Tree) → KeepsAll m.tree u → IsInStep g (record n.state { tree = u })
-  stands_in_part u k = record {
-    good = set_to n.state.settings m st.good u k;
-    paired = tree_paired g n.state u st (stays_kind n.state.tree u k.kinds);
-    roomy = st.roomy;
-  }
-
   kept_alike : keep (is_held n.state.fids) ran.1 ≡ keep held ran.1
   kept_alike = ap (λ (h : ℕ → Bool). keep h ran.1) (sym (held_same n st))
 
@@ -171,7 +163,7 @@ module _ {g : Gate} (n : Moment) (st : IsInStep g n.state) (good : IsGoodServer 
   front_stands t left = ⊎_elim
       (λ is. subst (λ (u : Tree). IsInStep g (record n.state { tree = u }))
       (sym (is ∙ ap (λ (x : Result (Unit {0}) ℕ × ServerState). x.1.tree) told_is)) stands_after)
-      (λ front. stands_in_part t
+      (λ front. stands_with st t
       (front_keeps (set_steps m node asked) (set_tame n.state.settings m st.good node asked) m.tree
       st.good.tree t
       (subst (λ (ss : List Step). IsAfterFront ss n.state.tree t) same_steps

@@ -17,7 +17,8 @@ use Rattle.tree_machine.specs.Messages.{effect_messages}
 use Rattle.tree_machine.specs.Faults.{PartOf}
 use Rattle.tree_machine.specs.Good.{IsGoodMachine}
 use Rattle.tree_machine.specs.Kinds.{KeepsKinds}
-use Rattle.tree_machine.proofs.KindsKept.{Leaves, leaves_kinds}
+use Rattle.tree_machine.proofs.KindsKept.{Leaves, leaves_kinds, stays_kind}
+use Rattle.tree_machine.proofs.Setting.{Keeps as KeepsAll, set_to}
 use Rattle.tree_machine.proofs.Directories.{changed_good}
 use Rattle.fid_model.specs.Fids.{ServerState, IsGoodServer, is_held}
 use Rattle.fid_model.specs.Moments.{Moment, AskedOne, Asks}
@@ -30,6 +31,15 @@ use Rattle.fuse_gate.specs.declared.gate.Gate.{Gate}
 use Rattle.fuse_gate.proofs.Standings.{named_held, sent_stands, stands_kept}
 use Rattle.fuse_gate.proofs.Changing.{tree_paired}
 use Rattle.fuse_gate.proofs.Serving.{SentAlone, one_alone, hurt, served_in_part}
+
+-- in step with another tree, in which all that was stored keeps its kind
+pub stands_with : {g : Gate} {s : ServerState} → IsInStep g s → (u : Tree) → KeepsAll s.tree u
+    → IsInStep g (record s { tree = u })
+stands_with {g = g} {s = s} st u k = record {
+  good = set_to s.settings (machine_of g s) st.good u k;
+  paired = tree_paired g s u st (stays_kind s.tree u k.kinds);
+  roomy = st.roomy;
+}
 
 -- the reply without fields, or the refusal
 abbrev pub done_reply : Result (Unit {0}) ℕ → Reply

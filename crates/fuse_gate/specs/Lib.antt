@@ -11,4 +11,5 @@ pub mod Playing
 pub mod Files
 pub mod Setting
 pub mod Listings
+pub mod Writing
 pub mod Samples

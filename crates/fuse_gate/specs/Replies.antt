@@ -9,7 +9,7 @@ use Rattle.fid_model.specs.Fids.{ServerState}
 use Rattle.fid_model.specs.Calls.{getattr_told}
 use Rattle.tree_machine.specs.Replies.{Reply, fuse_attributes}
 use Rattle.tree_machine.specs.Replies.Reply.{Refused, Granted, Entry, Attributes, Opened, Bytes}
-use Rattle.tree_machine.specs.Replies.Reply.{Sizes, Done, Created}
+use Rattle.tree_machine.specs.Replies.Reply.{Sizes, Done, Created, Written}
 use Rattle.fuse_gate.specs.declared.gate.reply.Reply.{Reply as GateReply}
 use Rattle.fuse_gate.specs.declared.gate.reply.Reply.TheVariants as gate
 
@@ -22,6 +22,7 @@ reply_of (gate.Attributes attr) = Attributes attr
 reply_of (gate.Opened handle) = Opened handle
 reply_of (gate.Created node attr handle) = Created node attr handle
 reply_of (gate.Bytes bytes) = Bytes bytes.items
+reply_of (gate.Written count) = Written count
 reply_of (gate.Sizes blocks files) = Sizes blocks files
 reply_of gate.Done = Done
 

@@ -28,6 +28,7 @@ mod show;
 mod special;
 mod step;
 mod unlink;
+mod write;
 
 pub use attach::AttachError;
 use fid_model::Nine;

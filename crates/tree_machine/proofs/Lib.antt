@@ -14,6 +14,7 @@ pub mod CreatedFiles
 pub mod Listing
 pub mod Cores
 pub mod Forgetting
+pub mod WrittenFiles
 pub mod Steps
 pub mod Hurting
 pub mod Begun

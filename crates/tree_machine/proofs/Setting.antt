@@ -42,11 +42,11 @@ IsTame step = (t u : Tree) → IsGoodTree t → step t ≡ Ok (tt, u) → Keeps 
 
 -- a change of one record that keeps its kind
 module _ (f : Record → Record) (kinds : (r : Record) → kind_of (f r).body ≡ kind_of r.body) where
-  changed_kinds : (ino : ℕ) (t u : Tree) (o : Option ℕ)
-      → unless_refused {A = Unit {0}} o tt (with_changed f ino t) ≡ Ok (tt, u)
+  pub changed_kinds : {A : Type 0} (a b : A) (ino : ℕ) (t u : Tree) (o : Option ℕ)
+      → unless_refused o a (with_changed f ino t) ≡ Ok (b, u)
       → KindsStay t.records u.records
-  changed_kinds ino t u (Some e) is = absurd cc
-  changed_kinds ino t u None is =
+  changed_kinds a b ino t u (Some e) is = absurd cc
+  changed_kinds a b ino t u None is =
       let same : with_changed f ino t ≡ u = ap (tree_in u) is in
       λ i some. ap (λ (x : Tree). kind_in (get x.records i)) (sym same)
       ∙ change_kind f kinds t.records ino i
@@ -55,7 +55,7 @@ pub mode_tame : (ino mode : ℕ) → IsTame (λ t. set_mode_of t ino mode)
 mode_tame ino mode t u g is = record {
   good = call_good t g ino refused_for_link (remoded mode t.moment)
       (λ r at free. mode_good t g ino (mode % 4096) (low_mode mode) r at) tt tt u is;
-  kinds = changed_kinds (remoded mode t.moment) (λ r. refl) ino t u
+  kinds = changed_kinds (remoded mode t.moment) (λ r. refl) tt tt ino t u
       (refused_at refused_for_link (body_at t.records ino)) is;
 }
 
@@ -63,7 +63,7 @@ pub owner_tame : (ino : ℕ) (uid gid : Option ℕ) → IsTame (λ t. set_owner_
 owner_tame ino uid gid t u g is = record {
   good = call_good t g ino never (owned_by uid gid t.moment)
       (λ r at free. owned_good t g ino (unwrap_or uid r.uid) (unwrap_or gid r.gid) r at) tt tt u is;
-  kinds = changed_kinds (owned_by uid gid t.moment) (λ r. refl) ino t u
+  kinds = changed_kinds (owned_by uid gid t.moment) (λ r. refl) tt tt ino t u
       (refused_at never (body_at t.records ino)) is;
 }
 
@@ -71,7 +71,7 @@ pub times_tame : (ino : ℕ) (atime mtime : TimeSet) → IsTame (λ t. set_times
 times_tame ino atime mtime t u g is = record {
   good = call_good t g ino (times_refused atime mtime) (retimed atime mtime t.moment)
       (retimed_good t g ino atime mtime) tt tt u is;
-  kinds = changed_kinds (retimed atime mtime t.moment) (λ r. refl) ino t u
+  kinds = changed_kinds (retimed atime mtime t.moment) (λ r. refl) tt tt ino t u
       (refused_at (times_refused atime mtime) (body_at t.records ino)) is;
 }
 
@@ -79,11 +79,11 @@ pub ctime_tame : (ino : ℕ) → IsTame (λ t. touch_ctime_of t ino)
 ctime_tame ino t u g is = record {
   good = call_good t g ino never (restamped t.moment)
       (λ r at free. restamped_good t g ino r at) tt tt u is;
-  kinds = changed_kinds (restamped t.moment) (λ r. refl) ino t u
+  kinds = changed_kinds (restamped t.moment) (λ r. refl) tt tt ino t u
       (refused_at never (body_at t.records ino)) is;
 }
 
-bytes_kind : (h : List ℕ → List ℕ) (b : Body) → kind_of (with_bytes h b) ≡ kind_of b
+pub bytes_kind : (h : List ℕ → List ℕ) (b : Body) → kind_of (with_bytes h b) ≡ kind_of b
 bytes_kind h (File bytes) = refl
 bytes_kind h (Directory es next above) = refl
 bytes_kind h (Link target) = refl
@@ -93,7 +93,7 @@ length_tame ino size t u g is = record {
   good = call_good t g ino (len_refused t.limits.file size) (rewritten_at t.moment (resized size))
       (resized_good t g ino size) tt tt u is;
   kinds = changed_kinds (rewritten_at t.moment (resized size))
-      (λ r. bytes_kind (resized size) r.body) ino t u
+      (λ r. bytes_kind (resized size) r.body) tt tt ino t u
       (refused_at (len_refused t.limits.file size) (body_at t.records ino)) is;
 }
 
@@ -130,7 +130,7 @@ steps_tame alone ino a =
     (tame_if a.sets_times _ (times_tame ino a.atime a.mtime)))
     (tame_if a.touches_ctime _ (ctime_tame ino))
 
-keeps_refl : (t : Tree) → IsGoodTree t → Keeps t t
+pub keeps_refl : (t : Tree) → IsGoodTree t → Keeps t t
 keeps_refl t g = record { good = g; kinds = λ i some. refl }
 
 some_kind : (t u : Tree) → KindsStay t.records u.records → (i : ℕ) → IsSome (get t.records i)
@@ -141,7 +141,7 @@ some_kind t u stay i some = by_record (get u.records i) (get t.records i) (stay 
   by_record None (Some p) is some = absurd cc
   by_record (Some r) p is some = refl
 
-keeps_trans : (t u v : Tree) → Keeps t u → Keeps u v → Keeps t v
+pub keeps_trans : (t u v : Tree) → Keeps t u → Keeps u v → Keeps t v
 keeps_trans t u v one two = record {
   good = two.good;
   kinds = λ i some. two.kinds i (some_kind t u one.kinds i some) ∙ one.kinds i some;

@@ -26,6 +26,7 @@ use Rattle.tree_machine.proofs.MadeNames.{mkdir_good}
 use Rattle.tree_machine.proofs.Setting.{set_good}
 use Rattle.tree_machine.proofs.LinkedNames.{link_good}
 use Rattle.tree_machine.proofs.CreatedFiles.{create_good}
+use Rattle.tree_machine.proofs.WrittenFiles.{write_good}
 use Rattle.tree_machine.proofs.Handles.{handle_gone}
 use Rattle.tree_machine.proofs.Forgetting.{forgotten_good, all_forgotten_good}
 
@@ -65,7 +66,7 @@ module _ (s : Settings) where
     effect_good node (read fh offset size flags lock) none = kept_good s m g
     effect_good node (unlink name) none = unlink_good s m g name (get m.nodes node)
     effect_good node (setattr asked) none = set_good s m g node asked
-    effect_good node (write fh offset bytes) none = absurd cc
+    effect_good node (write fh offset bytes) none = write_good s m g fh offset bytes
     effect_good node (rmdir name) none = rmdir_good s m g name (get m.nodes node)
     effect_good node (rename newdir old new) none =
         rename_good s m g old new (get m.nodes node) (get m.nodes newdir) none

@@ -5,13 +5,14 @@ use Rattle.tree_model.specs.AttributeSteps.{IsAfterFront as AreStepsDone}
 use Rattle.tree_model.specs.Tree.{Tree}
 use Rattle.tree_model.specs.Settings.{Settings}
 use Rattle.fuse_wire.specs.Head.{head_of}
-use Rattle.fuse_wire.specs.Request.{Request, batch_forget, setattr}
+use Rattle.fuse_wire.specs.Request.{Request, batch_forget, setattr, write}
 use Rattle.tree_machine.specs.State.{MachineState, kept_state}
 use Rattle.tree_machine.specs.Replies.{answer_bytes}
 use Rattle.tree_machine.specs.Replies.Reply.{Refused}
 use Rattle.tree_machine.specs.Forgetting.{all_forgotten, pairs_of}
 use Rattle.tree_machine.specs.Requests.{answer_of}
 use Rattle.tree_machine.specs.Setting.{set_steps}
+use Rattle.tree_machine.specs.Writing.{write_told, written_tree}
 use Rattle.tree_machine.specs.Step.{request_in_turn, step}
 
 -- the tree before a request, or the one after it
@@ -22,10 +23,12 @@ IsEither before after t = (t ≡ before) ⊎ (t ≡ after)
 abbrev pub IsAfterFront : {X : Type 0} → (List X → Tree) → List X → Tree → Type 0
 IsAfterFront after all t = (n : ℕ) × (t ≡ after (take n all))
 
--- the trees between: of BATCH_FORGET those after a front part of its pairs, and of SETATTR those
--- after a front part of its steps (so of WRITE of its bytes, once it is served); of no other request
+-- the trees between: of SETATTR those after a front part of its steps, of WRITE of its bytes, and of
+-- BATCH_FORGET of its pairs; of no other request
 abbrev pub IsBetween : MachineState → ℕ → Result Request ℕ → Tree → Type 0
 IsBetween m node (Ok (setattr asked)) t = AreStepsDone (set_steps m node asked) m.tree t
+IsBetween m node (Ok (write fh offset bytes)) t =
+    IsAfterFront (λ xs. written_tree m.tree (write_told m fh offset xs)) bytes t
 IsBetween m node (Ok (batch_forget pairs)) t =
     IsAfterFront (λ ps. (kept_state (all_forgotten m ps)).tree) (pairs_of pairs) t
 IsBetween m node _ t = ⊥

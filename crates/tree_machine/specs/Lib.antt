@@ -8,6 +8,7 @@ pub mod Naming
 pub mod Setting
 pub mod Kinds
 pub mod Creating
+pub mod Writing
 pub mod Requests
 pub mod Step
 pub mod Play

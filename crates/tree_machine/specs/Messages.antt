@@ -29,6 +29,7 @@ use Rattle.tree_model.specs.OpenedFiles.{new_file_of}
 use Rattle.tree_machine.specs.Listing.{listed_page}
 use Rattle.tree_machine.specs.Requests.{refusal_before}
 use Rattle.tree_machine.specs.Setting.{set_steps}
+use Rattle.tree_machine.specs.Writing.{write_told}
 use Rattle.tree_machine.specs.Forgetting.{forgotten, all_forgotten, pairs_of}
 use Rattle.tree_machine.specs.Step.{request_in_turn, step}
 
@@ -78,6 +79,16 @@ abbrev pub read_messages : ℕ → ℕ → Result (List ℕ) ℕ → ℕ
 read_messages piece size (Ok bytes) = pieces piece size (length bytes)
 read_messages piece size (Err e) = 1
 
+-- a Twrite has 12 bytes more in front of its bytes than an Rread: a fid and an offset
+abbrev pub write_piece : ℕ → ℕ
+write_piece piece = piece - 12
+
+-- bytes are written piece by piece until one is short; a piece that is refused is the last, and
+-- behind others it is one that writes none
+abbrev pub write_messages : ℕ → ℕ → Result (ℕ × Tree) ℕ → ℕ
+write_messages piece size (Ok (n, t)) = pieces piece size n
+write_messages piece size (Err e) = 1
+
 -- how many bytes an entry has in a message: a qid, a cookie, a type, and the name with its length
 abbrev pub dirent_size : Entry → ℕ
 dirent_size e = 24 + length e.name
@@ -117,7 +128,8 @@ effect_messages piece s m node (read fh offset size flags lock) =
     read_messages piece (min size MAX_READ) (bytes_read m offset size (map.get m.handles fh))
 effect_messages piece s m node (setattr asked) =
     set_messages (run (set_steps m node asked) m.tree).0
-effect_messages piece s m node (write fh offset bytes) = 0
+effect_messages piece s m node (write fh offset bytes) =
+    write_messages (write_piece piece) (length bytes) (write_told m fh offset bytes)
 effect_messages piece s m node (unlink name) = 1
 effect_messages piece s m node (rmdir name) = 1
 effect_messages piece s m node (rename newdir old new) = 1

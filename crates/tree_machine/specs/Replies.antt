@@ -7,10 +7,11 @@ use Rattle.fuse_wire.specs.Head.{head_of}
 use Rattle.fuse_wire.specs.Opcode.{is_silent}
 use Rattle.fuse_wire.specs.declared.attr.FileAttr.{FileAttr}
 use Rattle.fuse_wire.specs.Reply.{reply, init_body, entry_body, attr_body, opened_body}
-use Rattle.fuse_wire.specs.Reply.{statfs_body, created_body}
+use Rattle.fuse_wire.specs.Reply.{statfs_body, created_body, written_body}
 
 -- an error; what INIT grants; a node and its attributes; attributes; a handle; a node, its
--- attributes and its handle; bytes of a file, or a link's target; how many blocks and files a tree may have; no more than that it is done
+-- attributes and its handle; bytes of a file, or a link's target; how many bytes were written; how
+-- many blocks and files a tree may have; no more than that it is done
 pub data Reply : Type 0 where
   Refused : (errno : ℕ) → Reply
   Granted : (minor max_readahead : ℕ) → Reply
@@ -19,6 +20,7 @@ pub data Reply : Type 0 where
   Opened : (handle : ℕ) → Reply
   Created : (node : ℕ) (attr : FileAttr) (handle : ℕ) → Reply
   Bytes : (bytes : List ℕ) → Reply
+  Written : (count : ℕ) → Reply
   Sizes : (blocks files : ℕ) → Reply
   Done : Reply
 
@@ -53,6 +55,7 @@ reply_bytes unique (Opened handle) = reply unique 0 (opened_body handle)
 reply_bytes unique (Created node attr handle) =
     reply unique 0 (created_body node attr handle)
 reply_bytes unique (Bytes bytes) = reply unique 0 bytes
+reply_bytes unique (Written count) = reply unique 0 (written_body count)
 reply_bytes unique (Sizes blocks files) =
     reply unique 0 (statfs_body BLOCK_SIZE blocks files)
 reply_bytes unique Done = reply unique 0 []

@@ -27,6 +27,7 @@ use Rattle.tree_machine.specs.Naming.{symlink_refusal, made, link_refusal, link_
 use Rattle.tree_machine.specs.Setting.{given_handle, set_attributes}
 use Rattle.tree_model.specs.OpenedFiles.{new_file_of}
 use Rattle.tree_machine.specs.Creating.{create_refusal, created}
+use Rattle.tree_machine.specs.Writing.{write_refusal, write_told, wrote}
 
 -- to read, with none of O_CREAT, O_TRUNC and O_DIRECTORY
 abbrev pub opens_to_read : ℕ → Bool
@@ -66,6 +67,7 @@ refusal_before s m node (open_file flags) = first_refusal (
     ∷ open_refusal s m (map.get m.nodes node)
     ∷ [])
 refusal_before s m node (setattr asked) = getattr_refusal m node (given_handle asked)
+refusal_before s m node (write fh offset bytes) = write_refusal (map.get m.handles fh)
 refusal_before s m node (rmdir name) = name_refusal name (map.get m.nodes node)
 refusal_before s m node (rename newdir old new) =
     rename_refusal old new (map.get m.nodes node) (map.get m.nodes newdir)
@@ -91,6 +93,7 @@ abbrev pub effect_of : Settings → MachineState → ℕ → Request → Reply �
 effect_of s m node (open_file flags) =
     let ino = node_ino (map.get m.nodes node) in opened m ino flags (open_check_of m.tree ino flags)
 effect_of s m node (setattr asked) = set_attributes s m node asked
+effect_of s m node (write fh offset bytes) = wrote m (write_told m fh offset bytes)
 effect_of s m node (rmdir name) =
     changed_by m (rmdir_told m (node_ino (map.get m.nodes node)) name)
 effect_of s m node (rename newdir old new) =

@@ -14,6 +14,7 @@ pub mod Joining
 pub mod Altering
 pub mod Attributing
 pub mod Rewriting
+pub mod Writing
 pub mod Parting
 pub mod Unlinking
 pub mod Leaving

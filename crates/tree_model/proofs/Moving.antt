@@ -19,7 +19,6 @@ use Rattle.tree_model.specs.Good.{IsAt, IsGoodRecord, IsGoodTree, Climbs, links_
 use Rattle.tree_model.specs.Sound.{IsKept, IsKeptBut, AreStored}
 use Rattle.tree_model.specs.Finding.{entry_named}
 use Rattle.tree_model.specs.Making.{change, joined_by, next_cookie}
-use Rattle.tree_model.specs.Reading.{above}
 use Rattle.tree_model.specs.Creating.{stamped}
 use Rattle.tree_model.specs.Unlinking.{without, parted_by}
 use Rattle.tree_model.specs.Renaming.{above_at, climbs_past, moved_below, with_moved}

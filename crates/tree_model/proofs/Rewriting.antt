@@ -54,7 +54,7 @@ good_bytes h e (Link target) free grows good = absurd (cc)
 
 -- ---- lengths
 
-length_resized : (len : ℕ) (bytes : List ℕ) → length (resized len bytes) ≡ len
+pub length_resized : (len : ℕ) (bytes : List ℕ) → length (resized len bytes) ≡ len
 length_resized len bytes =
     let all = length-append (take len bytes) (replicate (len - length bytes) 0) in
     let front = length-take len bytes in

@@ -8,8 +8,8 @@ use fuse_wire::attr::FileAttr;
 use fuse_wire::ids::{Errno, FileHandle, INodeNo, RequestId};
 use fuse_wire::reply::{
     ATTR_OUT_SIZE, CREATE_OUT_SIZE, ENTRY_OUT_SIZE, INIT_OUT_SIZE, OPEN_OUT_SIZE, OUT_HEADER_SIZE,
-    STATFS_OUT_SIZE, reply_attr, reply_bytes, reply_created, reply_empty, reply_entry, reply_error,
-    reply_init, reply_opened, reply_statfs,
+    STATFS_OUT_SIZE, WRITE_OUT_SIZE, reply_attr, reply_bytes, reply_created, reply_empty, reply_entry,
+    reply_error, reply_init, reply_opened, reply_statfs, reply_written,
 };
 use p9_rmsg::Rgetattr;
 use tree_model::attributes::BLOCK_SIZE;
@@ -43,6 +43,8 @@ pub enum Reply {
     },
     /// Bytes of a file, at most `MAX_READ`, or the target of a link.
     Bytes(Vec<u8>),
+    /// How many bytes were written.
+    Written(u32),
     /// How many blocks and files a tree may have.
     Sizes {
         blocks: u64,
@@ -66,6 +68,7 @@ impl Reply {
             Reply::Opened { .. } => OPEN_OUT_SIZE,
             Reply::Created { .. } => CREATE_OUT_SIZE,
             Reply::Bytes(bytes) => bytes.len(),
+            Reply::Written(_) => WRITE_OUT_SIZE,
             Reply::Sizes { .. } => STATFS_OUT_SIZE,
         };
         OUT_HEADER_SIZE + body
@@ -92,6 +95,7 @@ pub fn write_reply(out: &mut Vec<u8>, unique: RequestId, reply: &Reply)
             reply_created(out, unique, INodeNo(*node), attr, FileHandle(*handle))
         }
         Reply::Bytes(bytes) => reply_bytes(out, unique, bytes),
+        Reply::Written(count) => reply_written(out, unique, *count),
         Reply::Sizes { blocks, files } => { reply_statfs(out, unique, BLOCK_SIZE, *blocks, *files) }
         Reply::Done => reply_empty(out, unique),
     }

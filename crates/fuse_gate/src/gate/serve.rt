@@ -15,7 +15,7 @@ use fid_model::Nine;
 use fuse_wire::head::{Head, IN_HEADER_SIZE};
 use fuse_wire::opcode::FUSE_INIT;
 use fuse_wire::request::{Body, FuseRequest};
-use port_base::errno::{ENOSYS, EPROTO};
+use port_base::errno::EPROTO;
 use port_base::sink::NoMemory;
 
 // Whether a request is in turn: INIT begins a session, and comes once.
@@ -56,7 +56,7 @@ impl Gate {
                 size,
                 ..
             } => self.read(nine, fh, offset, size),
-            Body::Write { .. } => Ok(Reply::Refused(ENOSYS)),
+            Body::Write { fh, offset, bytes } => self.write(nine, fh, offset, bytes),
             Body::OpenDir { .. } => self.opendir(nine, node),
             Body::ReleaseDir { fh } => self.release(nine, fh),
             Body::Unlink { name } => self.unlink(nine, node, name),

@@ -1,14 +1,11 @@
 -- READ, READDIR, FSYNC and FSYNCDIR look at the handle alone, OPENDIR ignores its flags, and
 -- INTERRUPT is passed over.
-use Rattle.std.proofs.Common.{IfOk, sym, subst, refl}
-use Rattle.port_base.specs.declared.errno.TheConstants.{ENOSYS}
-use Rattle.fuse_wire.specs.Request.{write}
-use Rattle.fuse_gate.proofs.Serving.{refused_before}
+use Rattle.std.proofs.Common.{IfOk, OnErr, sym, subst}
 use Rattle.fuse_wire.specs.Body.{plain}
 use Rattle.fuse_wire.specs.declared.request.Body.{Body}
 use Rattle.fuse_gate.specs.Replies.{reply_of}
-use Rattle.fuse_gate.specs.Steps.{ServesRequest}
-use Rattle.tree_machine.specs.Replies.Reply.{Done, Refused}
+use Rattle.fuse_gate.specs.Steps.{ServesRequest, LeavesPartOf}
+use Rattle.tree_machine.specs.Replies.Reply.{Done}
 use Rattle.fuse_gate.proofs.Beginning.{passed_over}
 use Rattle.fuse_gate.proofs.gate.Gate.serve.Goals as goal
 
@@ -56,9 +53,13 @@ returns-in-Interrupt-clause-served g c =
 
 pub returns-in-Write-clause-served : goal.returns-in-Write-clause-served
 returns-in-Write-clause-served g c =
-    subst (λ (b : Body). ServesRequest c.args.node (plain b)
+    subst (λ (b : Body). IfOk c.write.result (λ reply. ServesRequest c.args.node (plain b)
     (c.args.self.now, g.N.Nine.at c.args.nine.now)
-    (c.args.self.now, g.N.Nine.at c.args.nine.now) (Refused ENOSYS)) (sym c.in-Write.is)
-    (refused_before {n = g.N.Nine.at c.args.nine.now} c.requires
-    (g.met.N.Nine.good c.args.nine.now) c.args.node
-    (write c.in-Write.fh c.in-Write.offset c.in-Write.bytes.now) ENOSYS refl)
+    (c.write.new.self, g.N.Nine.at c.write.new.nine) (reply_of reply))) (sym c.in-Write.is)
+    c.write.ensures.served
+
+pub returns-in-Write-clause-unfinished : goal.returns-in-Write-clause-unfinished
+returns-in-Write-clause-unfinished g c =
+    subst (λ (b : Body). OnErr c.write.result (LeavesPartOf c.args.node (plain b)
+    (c.args.self.now, g.N.Nine.at c.args.nine.now) (g.N.Nine.at c.write.new.nine)))
+    (sym c.in-Write.is) c.write.ensures.unfinished

@@ -2,7 +2,7 @@
 use Rattle.std.proofs.Common.{ap, length, arith}
 use Rattle.fuse_gate.specs.declared.gate.reply.Reply.TheVariants.{Refused, Granted, Entry}
 use Rattle.fuse_gate.specs.declared.gate.reply.Reply.TheVariants.{Attributes, Opened, Bytes, Sizes}
-use Rattle.fuse_gate.specs.declared.gate.reply.Reply.TheVariants.{Done, Created}
+use Rattle.fuse_gate.specs.declared.gate.reply.Reply.TheVariants.{Done, Created, Written}
 use Rattle.fuse_gate.proofs.Replying.{room}
 use Rattle.fuse_gate.proofs.gate.reply.write_reply.Goals as goal
 
@@ -37,6 +37,10 @@ reply_bytes-requires-clause-room c = omega (
   room
       c.args.unique.0 _ _ c.args.reply.now c.requires.room (Bytes c.in-Bytes.bytes) c.in-Bytes.is,
 )
+
+pub reply_written-requires : goal.reply_written-requires
+reply_written-requires c = room c.args.unique.0 _ _ c.args.reply.now c.requires.room
+    (Written c.in-Written.count) c.in-Written.is
 
 pub reply_statfs-requires : goal.reply_statfs-requires
 reply_statfs-requires c = room c.args.unique.0 _ _ c.args.reply.now c.requires.room

@@ -7,7 +7,7 @@ use Rattle.fuse_gate.proofs.Replying.{body_size, sized}
 use Rattle.fuse_gate.proofs.gate.reply.Reply.size.Goals as goal
 use Rattle.fuse_gate.proofs.gate.reply.Reply.size.Goals.{in-Granted, in-Entry, in-Attributes}
 use Rattle.fuse_gate.proofs.gate.reply.Reply.size.Goals.{in-Opened, in-Bytes, in-Sizes, in-Refused}
-use Rattle.fuse_gate.proofs.gate.reply.Reply.size.Goals.{in-Refused-2, in-Created}
+use Rattle.fuse_gate.proofs.gate.reply.Reply.size.Goals.{in-Refused-2, in-Created, in-Written}
 
 nothing : (r : Reply) → ((errno : ℕ) × (r ≡ Refused errno)) ⊎ (r ≡ Done)
     → 0 ≡ body_size (reply_of r)
@@ -27,6 +27,8 @@ returns c =
           w.in-Created.is)
       | in-Bytes w ↦ w.body-is ∙ w.len-body.ensures ∙ w.in-Bytes.bytes.ok.0
           ∙ sym (ap (λ (r : Reply). body_size (reply_of r)) w.in-Bytes.is)
+      | in-Written w ↦ w.body-is ∙ sym (ap (λ (r : Reply). body_size (reply_of r))
+          w.in-Written.is)
       | in-Sizes w ↦ w.body-is ∙ sym (ap (λ (r : Reply). body_size (reply_of r)) w.in-Sizes.is)
       | in-Refused w ↦ w.body-is ∙ nothing c.args.self.now w.in-Refused.is
       | in-Refused-2 w ↦ w.body-is ∙ nothing c.args.self.now w.in-Refused.is
