@@ -167,7 +167,7 @@ module _ (g : Gate) (n : Moment) (fid offset : ℕ) (bytes : List ℕ) where
     pub kept : Keeps n n1
 
   -- what is told by the fid, at any moment at which it is open
-  told_by : (o : WritesFile n.state fid) (s : ServerState) → get s.fids fid ≡ Some o.f → (at : ℕ)
+  pub told_by : (o : WritesFile n.state fid) (s : ServerState) → get s.fids fid ≡ Some o.f → (at : ℕ)
       (xs : List ℕ) → write_told s fid at xs ≡ write_of s.tree o.f.ino (write_place s.tree o.f at) xs
   told_by o s is at xs =
       ap (by_open_fid is_writable (λ (f : Fid). write_of s.tree f.ino (write_place s.tree f at) xs))
