@@ -24,7 +24,7 @@ use Rattle.tree_machine.specs.Messages.{set_messages}
 use Rattle.tree_machine.specs.Faults.{PartOf}
 use Rattle.tree_machine.specs.Good.{IsGoodMachine}
 use Rattle.tree_machine.proofs.KeptStates.{kept_at, kept_good}
-use Rattle.tree_machine.proofs.KindsKept.{leaves_kinds, stays_kind}
+use Rattle.tree_machine.proofs.KindsKept.{leaves_kinds}
 use Rattle.tree_machine.proofs.Setting.{Keeps as KeepsAll, front_keeps, set_keeps, set_tame, set_to}
 use Rattle.p9_tmsg.specs.declared.message.Tsetattr.{Tsetattr}
 use Rattle.fid_model.specs.Fids.{ServerState, Fid, IsGoodServer, is_held, kept_state as kept_server}
