@@ -1,5 +1,6 @@
 -- SETATTR: a message sets attributes step by step, and another asks for them all.
-use Rattle.std.proofs.Common.{◌≡◌, ◌≢◌, ℕ, ◌≤◌, Bool, true, refl, sym, ap, ◌∙◌, subst, Option, Some, None}
+use Rattle.std.proofs.Common.{◌≡◌, ◌≢◌, ℕ, ◌≤◌, Bool, true, refl, sym, ap, ◌∙◌, subst, Option, Some}
+use Rattle.std.proofs.Common.{None}
 use Rattle.std.proofs.Common.{Result, Ok, Err, inl, inr, ⊎_elim, List, arith}
 use Rattle.std.specs.FinMap.{get}
 use Rattle.port_base.specs.Faults.{Rose}

@@ -18,7 +18,8 @@ use Rattle.tree_machine.specs.Core.{handle_ino}
 use Rattle.tree_machine.specs.Good.{IsOpenable}
 use Rattle.tree_machine.specs.Messages.{write_messages, write_piece}
 use Rattle.tree_machine.specs.Faults.{PartOf}
-use Rattle.tree_machine.specs.Writing.{place_written, write_refusal, write_told, written_tree, wrote}
+use Rattle.tree_machine.specs.Writing.{place_written, write_refusal, write_told, written_tree}
+use Rattle.tree_machine.specs.Writing.{wrote}
 use Rattle.fid_model.specs.Fids.{IsGoodServer}
 use Rattle.fid_model.specs.Files.{write_told as fid_told}
 use Rattle.fid_model.specs.Moments.{Moment}

@@ -1,5 +1,6 @@
 -- WRITE, piece by piece.
-use Rattle.std.proofs.Common.{◌≡◌, ◌≢◌, ℕ, zero, suc, ◌+◌, ◌-◌, ◌^◌, ◌<◌, ◌≤◌, min, Bool, true, false, cond}
+use Rattle.std.proofs.Common.{◌≡◌, ◌≢◌, ℕ, zero, suc, ◌+◌, ◌-◌, ◌^◌, ◌<◌, ◌≤◌, min, Bool, true}
+use Rattle.std.proofs.Common.{false, cond}
 use Rattle.std.proofs.Common.{List, ◌++◌, length, take, drop, Some, None, Option, Result, Ok, Err}
 use Rattle.std.proofs.Common.{refl, sym, ap, ◌∙◌, subst, arith, ◌⊎◌, ⊎_elim, inl, inr}
 use Rattle.std.proofs.Common.{append_assoc, length-take, length-drop}
@@ -9,7 +10,8 @@ use Rattle.std.proofs.lemmas.List.{drop-drop, take_all, take-append-drop}
 use Rattle.std.proofs.Math.Seq.{take-add}
 use Rattle.port_base.specs.declared.errno.TheConstants.{EBADF, EFBIG, EIO}
 use Rattle.tree_model.specs.Attributes.{attr_or_missing}
-use Rattle.tree_model.specs.Attributing.{write_of, write_refused, fitting, overwritten_at, refused_at}
+use Rattle.tree_model.specs.Attributing.{write_of, write_refused, fitting, overwritten_at}
+use Rattle.tree_model.specs.Attributing.{refused_at}
 use Rattle.tree_model.specs.Attributing.{written}
 use Rattle.tree_model.specs.OpenedFiles.{size_at, size_told}
 use Rattle.tree_model.specs.Tree.{Tree, Record, body_at, keep}
@@ -26,7 +28,8 @@ use Rattle.tree_machine.specs.Replies.Reply.{Refused, Written}
 use Rattle.tree_machine.specs.Messages.{pieces, write_messages, write_piece}
 use Rattle.tree_machine.specs.Writing.{written_reply, written_tree}
 use Rattle.tree_machine.proofs.Pieces.{last_short, last_whole, one_more}
-use Rattle.tree_machine.proofs.Setting.{Keeps as KeepsAll, keeps_refl as tree_same, keeps_trans as tree_then}
+use Rattle.tree_machine.proofs.Setting.{Keeps as KeepsAll, keeps_refl as tree_same}
+use Rattle.tree_machine.proofs.Setting.{keeps_trans as tree_then}
 use Rattle.tree_machine.proofs.WrittenFiles.{write_keeps}
 use Rattle.fid_model.specs.FidCalls.{by_open_fid}
 use Rattle.fid_model.specs.Fids.{ServerState, Fid, IsGoodServer, appends, is_held, is_writable}
