@@ -1,3 +1,5 @@
+pub mod Answers
+pub mod CallFlags
 pub mod Body
 pub mod Cuts
 pub mod Fields

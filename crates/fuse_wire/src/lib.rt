@@ -2,12 +2,16 @@
 //! protocol 7).
 #![tactic(auto)]
 
+pub mod answers;
 pub mod attr;
 mod bodies;
+pub mod call_flags;
+pub mod context;
 mod examples;
 mod fields;
 #[cfg(test)]
 mod file_tests;
+pub mod filesystem;
 pub mod frames;
 pub mod head;
 pub mod ids;
