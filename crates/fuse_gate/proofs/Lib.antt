@@ -3,6 +3,7 @@ pub mod Held
 pub mod Standings
 pub mod Asking
 pub mod Serving
+pub mod Desks
 pub mod Changing
 pub mod Going
 pub mod LettingGo

@@ -14,7 +14,6 @@ use Rattle.port_base.specs.declared.errno.TheConstants.{EBADF, EIO, ENOTDIR}
 use Rattle.tree_model.specs.Tree.{Tree, body_at, is_directory_at}
 use Rattle.tree_model.specs.Reading.{Entry}
 use Rattle.tree_model.specs.Pages.{front_within, page_of, last_cookie}
-use Rattle.fuse_wire.specs.declared.listing.ReplyDirectory.{ReplyDirectory}
 use Rattle.p9_rmsg.specs.Dirents.{Entry as Dirent}
 use Rattle.p9_client.specs.Listing.{entries_by, entries_told}
 use Rattle.fid_model.specs.Listings.{entry_told}
@@ -33,7 +32,7 @@ use Rattle.fuse_gate.specs.Standing.{IsInStep, machine_of, piece_of}
 use Rattle.fuse_gate.specs.Steps.{Serves}
 use Rattle.fuse_gate.specs.Changes.{one_sent}
 use Rattle.fuse_gate.specs.Listings.{told_size, told_bytes, last_told, next_told}
-use Rattle.fuse_gate.specs.Listings.{ListsDirectory, AddsFront}
+use Rattle.fuse_gate.specs.Listings.{ListsDirectory}
 use Rattle.fuse_gate.specs.declared.gate.Gate.{Gate}
 use Rattle.fuse_gate.proofs.Asking.{Tells, answered_tells}
 use Rattle.fuse_gate.proofs.Serving.{SentAlone, none_sent, one_more_sent, hurt, unchanged}
@@ -237,28 +236,23 @@ module _ {g : Gate} (n : Moment) (st : IsInStep g n.state) {fid dir : ℕ}
             ∙ ap (λ (es : List Entry). bytes ++ listing_bytes es) (sym nothing) ∙ r.whole)
             (none_is_last t st.good.tree dir piece short some cookie room (none_came none))
 
-        module _ (old new : ReplyDirectory) (was : old.bytes.items ≡ bytes) (sized : old.size ≡ size)
-            (next : Option ℕ) (adds : AddsFront old new ds next) where
+        module _ (new : List ℕ) (next : Option ℕ)
+            (items : new ≡ bytes ++ flat_map told_bytes (front_within told_size room ds))
+            (says : next ≡ next_told (front_within told_size room ds) ds) where
           abbrev listed : List Entry
           listed = front_within entry_size room (comes cookie)
 
-          listed_is : front_within told_size (old.size - length old.bytes.items) ds
-              ≡ each entry_told listed
-          listed_is = ap (λ (k : ℕ). front_within told_size (k - length old.bytes.items) ds) sized
-              ∙ ap (λ (xs : List ℕ). front_within told_size (size - length xs) ds) was
-              ∙ ap (front_within told_size room) came.1 ∙ front_is room (comes cookie)
+          listed_is : front_within told_size room ds ≡ each entry_told listed
+          listed_is = ap (front_within told_size room) came.1 ∙ front_is room (comes cookie)
 
-          bytes_new : new.bytes.items ≡ bytes ++ listing_bytes listed
-          bytes_new = adds.items
-              ∙ ap (λ (xs : List ℕ). xs
-              ++ flat_map told_bytes (front_within told_size (old.size - length old.bytes.items) ds))
-              was
+          bytes_new : new ≡ bytes ++ listing_bytes listed
+          bytes_new = items
               ∙ ap (λ (xs : List Dirent). bytes ++ flat_map told_bytes xs) listed_is
               ∙ ap (λ (xs : List ℕ). bytes ++ xs) (listing_is listed)
 
           next_is : next ≡ cond (nat_lt (length listed) (length (comes cookie))) None
               (Some (last_cookie 0 (comes cookie)))
-          next_is = adds.told ∙ ap (λ (xs : List Dirent). next_told xs ds) listed_is
+          next_is = says ∙ ap (λ (xs : List Dirent). next_told xs ds) listed_is
               ∙ ap (λ (xs : List Dirent). next_told (each entry_told listed) xs) came.1
               ∙ ap (λ (k : ℕ). cond (nat_lt k (length (each entry_told (comes cookie)))) None
               (Some (last_told 0 (each entry_told (comes cookie))))) (length_is listed)
@@ -268,11 +262,11 @@ module _ {g : Gate} (n : Moment) (st : IsInStep g n.state) {fid dir : ℕ}
               (last_is 0 (comes cookie))
 
           -- an entry has no room
-          pub filled : IsGoodServer n.state → next ≡ None → AllServed (Bytes new.bytes.items)
+          pub filled : IsGoodServer n.state → next ≡ None → AllServed (Bytes new)
           filled good full = ⊎_elim
               (λ less.
               let all = came_full t st.good.tree dir piece short some cookie room less in
-              finished good new.bytes.items
+              finished good new
               (bytes_new ∙ ap (λ (es : List Entry). bytes ++ listing_bytes es) (sym all) ∙ r.whole)
               (full_is_last t st.good.tree dir piece short some cookie room less))
               (λ enough.
@@ -303,23 +297,23 @@ module _ {g : Gate} (n : Moment) (st : IsInStep g n.state) {fid dir : ℕ}
 
             by_steps : length (comes cookie) ≤ length listed
                 → c ≡ last_cookie cookie (comes cookie) → (k : ℕ) → r.steps ≡ k
-                → Paging n.state.tree dir (piece_of n.state) offset size g n g2 n2 c new.bytes.items
+                → Paging n.state.tree dir (piece_of n.state) offset size g n g2 n2 c new
             by_steps enough at zero is = absurd (let low = r.enough in omega arith)
             by_steps enough at (suc k) is =
                 let all = whole t st.good.tree dir piece short some cookie room enough in
                 let rest : List Entry =
                 page_of entry_size (room - sum_by entry_size (comes cookie)) t dir
                 (last_cookie cookie (comes cookie)) in
-                let grown : length new.bytes.items
+                let grown : length new
                 ≡ length bytes + sum_by entry_size (comes cookie) =
                 ap length bytes_new ∙ length-append bytes (listing_bytes listed)
                 ∙ ap (λ (m : ℕ). length bytes + m) (length-listing_bytes listed
                 ∙ ap (sum_by entry_size) all) in
-                let smaller : size - length new.bytes.items
+                let smaller : size - length new
                 ≡ room - sum_by entry_size (comes cookie) =
                 less_room size (length bytes) (sum_by entry_size (comes cookie))
-                (length new.bytes.items) grown in
-                let now : page_of entry_size (size - length new.bytes.items) t dir c ≡ rest =
+                (length new) grown in
+                let now : page_of entry_size (size - length new) t dir c ≡ rest =
                 ap (λ (m : ℕ). page_of entry_size m t dir c) smaller
                 ∙ ap (λ (m : ℕ). page_of entry_size
                 (room - sum_by entry_size (comes cookie)) t dir m) at in
@@ -342,7 +336,7 @@ module _ {g : Gate} (n : Moment) (st : IsInStep g n.state) {fid dir : ℕ}
                   steps = k;
                   enough = subst (λ (es : List Entry). length es < k) (sym now)
                       (fewer_left _ _ _ _ counted one (subst (λ (m : ℕ). length (page_of entry_size room t dir cookie) < m) is r.enough));
-                  whole = ap (λ (es : List Entry). new.bytes.items ++ listing_bytes es) now
+                  whole = ap (λ (es : List Entry). new ++ listing_bytes es) now
                       ∙ ap (λ (xs : List ℕ). xs ++ listing_bytes rest) (bytes_new
                       ∙ ap (λ (es : List Entry). bytes ++ listing_bytes es) all)
                       ∙ append_assoc bytes (listing_bytes (comes cookie)) (listing_bytes rest)
@@ -355,7 +349,7 @@ module _ {g : Gate} (n : Moment) (st : IsInStep g n.state) {fid dir : ℕ}
                 }
 
             went : length (comes cookie) ≤ length listed
-                → Paging n.state.tree dir (piece_of n.state) offset size g n g2 n2 c new.bytes.items
+                → Paging n.state.tree dir (piece_of n.state) offset size g n g2 n2 c new
             went enough =
                 let test : nat_lt (length listed) (length (comes cookie)) ≡ false =
                 grind (arith, nat_tests) in
@@ -369,7 +363,7 @@ module _ {g : Gate} (n : Moment) (st : IsInStep g n.state) {fid dir : ℕ}
             some_size (e ∷ es) some = let sum = sum_by-cons entry_size e es in omega (arith, sum)
 
             -- something was listed
-            pub grows : length bytes < length new.bytes.items
+            pub grows : length bytes < length new
             grows = ⊎_elim
                 (λ less.
                 let test : nat_lt (length listed) (length (comes cookie)) ≡ true =
@@ -388,7 +382,7 @@ module _ {g : Gate} (n : Moment) (st : IsInStep g n.state) {fid dir : ℕ}
 
             -- all that came was listed
             pub goes_on : Paging n.state.tree dir (piece_of n.state) offset size g n g2 n2 c
-                new.bytes.items
+                new
             goes_on = ⊎_elim
                 (λ less.
                 let test : nat_lt (length listed) (length (comes cookie)) ≡ true =

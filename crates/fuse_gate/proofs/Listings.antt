@@ -29,13 +29,17 @@ use Rattle.fuse_gate.specs.Listings.{AddsFront}
 
 -- ---- entries that are added, one after another
 
-pub record Adding (old new : ReplyDirectory) (ds so_far rest : List Dirent) (next : ℕ) : Type
-    0 where
+-- what `add` does to the bytes of a listing
+abbrev pub Added : ℕ → List ℕ → List ℕ → List ℕ → Bool → Type 0
+Added end entry old new true = (end < length old + length entry) × (new ≡ old)
+Added end entry old new false = (length old + length entry ≤ end) × (new ≡ old ++ entry)
+
+pub record Adding (end : ℕ) (old new : List ℕ) (ds so_far rest : List Dirent) (next : ℕ) : Type 0
+    where
   pub all : ds ≡ so_far ++ rest
-  pub items : new.bytes.items ≡ old.bytes.items ++ flat_map told_bytes so_far
-  pub size : new.size ≡ old.size
-  pub front : front_within told_size (old.size - length old.bytes.items) ds
-      ≡ so_far ++ front_within told_size (new.size - length new.bytes.items) rest
+  pub items : new ≡ old ++ flat_map told_bytes so_far
+  pub front : front_within told_size (end - length old) ds
+      ≡ so_far ++ front_within told_size (end - length new) rest
   pub cookie : next ≡ last_told 0 so_far
 
 told_long : (d : Dirent) → length (told_bytes d) ≡ told_size d
@@ -51,74 +55,68 @@ more_bytes xs d = flat_map-append told_bytes xs (d ∷ [])
     ∙ ap (λ (ys : List ℕ). flat_map told_bytes xs ++ ys)
     (flat_map-cons told_bytes d [] ∙ append-nil (told_bytes d))
 
-pub adds_none : (old : ReplyDirectory) (ds : List Dirent) → Adding old old ds [] ds 0
-adds_none old ds = record {
+pub adds_none : (end : ℕ) (old : List ℕ) (ds : List Dirent) → Adding end old old ds [] ds 0
+adds_none end old ds = record {
   all = refl;
-  items = sym (append-nil old.bytes.items);
-  size = refl;
+  items = sym (append-nil old);
   front = refl;
   cookie = refl;
 }
 
-module _ {old mid : ReplyDirectory} {ds so_far : List Dirent} {cookie : ℕ} where
-  pub adds_one : (d : Dirent) (rest : List Dirent) → Adding old mid ds so_far (d ∷ rest) cookie
-      → (new : ReplyDirectory) → Adds (told_bytes d) mid new false
-      → Adding old new ds (so_far ++ d ∷ []) rest d.1.0
+module _ {end : ℕ} {old mid : List ℕ} {ds so_far : List Dirent} {cookie : ℕ} where
+  pub adds_one : (d : Dirent) (rest : List Dirent) → Adding end old mid ds so_far (d ∷ rest) cookie
+      → (new : List ℕ) → Added end (told_bytes d) mid new false
+      → Adding end old new ds (so_far ++ d ∷ []) rest d.1.0
   adds_one d rest a new adds =
       let long = told_long d in
-      let room : told_size d ≤ mid.size - length mid.bytes.items =
+      let room : told_size d ≤ end - length mid =
       (let fits = adds.0 in omega arith) in
-      let grown : length new.bytes.items ≡ length mid.bytes.items + length (told_bytes d) =
-      ap length adds.1 ∙ length-append mid.bytes.items (told_bytes d) in
-      let left : (mid.size - length mid.bytes.items) - told_size d
-      ≡ new.size - length new.bytes.items =
-      (let same = adds.2 in omega arith) in
+      let grown : length new ≡ length mid + length (told_bytes d) =
+      ap length adds.1 ∙ length-append mid (told_bytes d) in
+      let left : (end - length mid) - told_size d ≡ end - length new = omega (arith, grown, long) in
       record {
         all = a.all ∙ sym (append_assoc so_far (d ∷ []) rest);
         items = adds.1 ∙ ap (λ (xs : List ℕ). xs ++ told_bytes d) a.items
-            ∙ append_assoc old.bytes.items (flat_map told_bytes so_far) (told_bytes d)
-            ∙ ap (λ (xs : List ℕ). old.bytes.items ++ xs) (sym (more_bytes so_far d));
-        size = adds.2 ∙ a.size;
+            ∙ append_assoc old (flat_map told_bytes so_far) (told_bytes d)
+            ∙ ap (λ (xs : List ℕ). old ++ xs) (sym (more_bytes so_far d));
         front = a.front
             ∙ ap (λ (xs : List Dirent). so_far ++ xs) (taken told_size
-            (mid.size - length mid.bytes.items) d rest room
+            (end - length mid) d rest room
             ∙ ap (λ n. d ∷ front_within told_size n rest) left)
             ∙ sym (append_assoc so_far (d ∷ []) (front_within told_size
-            (new.size - length new.bytes.items) rest));
+            (end - length new) rest));
         cookie = sym (last_of_more 0 so_far d);
       }
 
-  pub adds_full : (d : Dirent) (rest : List Dirent) → Adding old mid ds so_far (d ∷ rest) cookie
-      → (new : ReplyDirectory) → Adds (told_bytes d) mid new true → AddsFront old new ds None
+  pub adds_full : (d : Dirent) (rest : List Dirent) → Adding end old mid ds so_far (d ∷ rest) cookie
+      → (new : List ℕ) → Added end (told_bytes d) mid new true → AddsFront end old new ds None
   adds_full d rest a new adds =
       let long = told_long d in
-      let none : front_within told_size (mid.size - length mid.bytes.items) (d ∷ rest) ≡ [] =
-      stopped told_size (mid.size - length mid.bytes.items) d rest
+      let none : front_within told_size (end - length mid) (d ∷ rest) ≡ [] =
+      stopped told_size (end - length mid) d rest
       (let over = adds.0 in omega arith) in
-      let run : front_within told_size (old.size - length old.bytes.items) ds ≡ so_far =
+      let run : front_within told_size (end - length old) ds ≡ so_far =
       a.front ∙ ap (λ (xs : List Dirent). so_far ++ xs) none ∙ append-nil so_far in
       let less : nat_lt (length so_far) (length ds) ≡ true =
       (let whole = ap length a.all in let both = length-append so_far (d ∷ rest) in
       let short : length so_far < length ds = omega arith in grind (arith, nat_tests)) in
       record {
-        items = ap (λ (x : ReplyDirectory). x.bytes.items) adds.1 ∙ a.items
-            ∙ ap (λ (xs : List Dirent). old.bytes.items ++ flat_map told_bytes xs) (sym run);
-        size = ap (λ (x : ReplyDirectory). x.size) adds.1 ∙ a.size;
+        items = adds.1 ∙ a.items
+            ∙ ap (λ (xs : List Dirent). old ++ flat_map told_bytes xs) (sym run);
         told = sym (ap (λ (xs : List Dirent). next_told xs ds) run
             ∙ ap (λ (b : Bool). cond b None (Some (last_told 0 ds))) less);
       }
 
-  pub adds_all : Adding old mid ds so_far [] cookie → AddsFront old mid ds (Some cookie)
+  pub adds_all : Adding end old mid ds so_far [] cookie → AddsFront end old mid ds (Some cookie)
   adds_all a =
       let whole : ds ≡ so_far = a.all ∙ append-nil so_far in
-      let run : front_within told_size (old.size - length old.bytes.items) ds ≡ so_far =
+      let run : front_within told_size (end - length old) ds ≡ so_far =
       a.front ∙ append-nil so_far in
       let less : nat_lt (length so_far) (length ds) ≡ false =
       (let long = ap length whole in grind (arith, nat_tests)) in
       record {
-        items = a.items ∙ ap (λ (xs : List Dirent). old.bytes.items ++ flat_map told_bytes xs)
+        items = a.items ∙ ap (λ (xs : List Dirent). old ++ flat_map told_bytes xs)
             (sym run);
-        size = a.size;
         told = ap (λ (k : ℕ). Some k) (a.cookie ∙ ap (last_told 0) (sym whole))
             ∙ sym (ap (λ (xs : List Dirent). next_told xs ds) run
             ∙ ap (λ (b : Bool). cond b None (Some (last_told 0 ds))) less);
@@ -177,13 +175,21 @@ module _ (xs : List DirentStruct) (i : ℕ) (x : DirentStruct) (low : i < length
       ∙ ap (λ (y : DirentStruct). take i xs ++ y ∷ []) (sym is))
       ∙ map-append dirent_of (take i xs) (x ∷ [])
 
-pub adds_as : (old new : ReplyDirectory) (full : Bool) (ino offset ty : ℕ) (name told : List ℕ)
-    (kind : FileType) → kind ≡ type_by ty → told ≡ name
-    → Adds (dirent_bytes ino offset kind told) old new full
-    → Adds (dirent_bytes ino offset (type_by ty) name) old new full
-adds_as old new full ino offset ty name told kind is same adds =
-    subst (λ (k : FileType). Adds (dirent_bytes ino offset k name) old new full) is
-    (subst (λ (b : List ℕ). Adds (dirent_bytes ino offset kind b) old new full) same adds)
+added_of : (end : ℕ) (entry : List ℕ) (old new : ReplyDirectory) (full : Bool)
+    → Adds entry end old new full → Added end entry old.bytes.items new.bytes.items full
+added_of end entry old new true adds =
+    (adds.0, ap (λ (x : ReplyDirectory). x.bytes.items) adds.1)
+added_of end entry old new false adds = (adds.0, adds.1)
+
+pub adds_as : (at end : ℕ) → at ≡ end → (old new : ReplyDirectory) (full : Bool)
+    (ino offset ty : ℕ) (name told : List ℕ) (kind : FileType) → kind ≡ type_by ty → told ≡ name
+    → Adds (dirent_bytes ino offset kind told) at old new full
+    → Added end (dirent_bytes ino offset (type_by ty) name) old.bytes.items new.bytes.items full
+adds_as at end here old new full ino offset ty name told kind is same adds =
+    added_of end (dirent_bytes ino offset (type_by ty) name) old new full
+    (subst (λ (m : ℕ). Adds (dirent_bytes ino offset (type_by ty) name) m old new full) here
+    (subst (λ (k : FileType). Adds (dirent_bytes ino offset k name) at old new full) is
+    (subst (λ (b : List ℕ). Adds (dirent_bytes ino offset kind b) at old new full) same adds)))
 
 -- ---- whether there is an entry
 

@@ -11,5 +11,6 @@ pub mod Playing
 pub mod Files
 pub mod Setting
 pub mod Listings
+pub mod Desks
 pub mod Writing
 pub mod Samples

@@ -10,7 +10,6 @@ use Rattle.tree_model.specs.Pages.{front_within, page_of}
 use Rattle.fuse_wire.specs.Listing.{padded_size, dirent_bytes}
 use Rattle.fuse_wire.specs.declared.attr.FileType.{FileType}
 use Rattle.fuse_wire.specs.declared.attr.FileType.TheVariants.{Directory, RegularFile, Symlink}
-use Rattle.fuse_wire.specs.declared.listing.ReplyDirectory.{ReplyDirectory}
 use Rattle.p9_rmsg.specs.Dirents.{Entry as Dirent}
 use Rattle.tree_machine.specs.Replies.{Reply}
 use Rattle.tree_machine.specs.Replies.Reply.{Bytes}
@@ -42,13 +41,11 @@ last_told cookie (d ∷ ds) = last_told d.1.0 ds
 abbrev pub next_told : List Dirent → List Dirent → Option ℕ
 next_told run ds = if nat_lt (length run) (length ds) then None else Some (last_told 0 ds)
 
--- of entries those that have room were added, and it is told where to read on
-pub record AddsFront (old new : ReplyDirectory) (ds : List Dirent) (next : Option ℕ) : Type 0 where
-  pub items : new.bytes.items ≡ old.bytes.items
-      ++ flat_map told_bytes (front_within told_size (old.size - length old.bytes.items) ds)
-  pub size : new.size ≡ old.size
-  pub told : next ≡ next_told
-      (front_within told_size (old.size - length old.bytes.items) ds) ds
+-- of entries those that have room in so many bytes were added, and it is told where to read on
+pub record AddsFront (end : ℕ) (old new : List ℕ) (ds : List Dirent) (next : Option ℕ) : Type 0
+    where
+  pub items : new ≡ old ++ flat_map told_bytes (front_within told_size (end - length old) ds)
+  pub told : next ≡ next_told (front_within told_size (end - length old) ds) ds
 
 -- the fid is open, and names this directory
 pub record ListsDirectory (s : ServerState) (fid dir : ℕ) : Type 0 where

@@ -8,6 +8,7 @@ ghost use Rattle.fuse_gate.specs.Changes.{without_node, with_handle, without_han
 
 mod attach;
 mod create;
+pub mod desk;
 mod forget;
 mod getattr;
 mod init;

@@ -88,7 +88,7 @@ pub trait AsyncFilesystem {
         ensures added { (listed_by builder.exit.0.now) ≡ listed_by builder.entry.entries.now
             ++ rest_of (listed_by builder.entry.entries.now) (listed_by builder.exit.0.now) }
         ensures told { lists self.old file_handle.0 offset
-            (builder.entry.entries.now.size - length (listed_by builder.entry.entries.now))
+            (builder.entry.end - length (listed_by builder.entry.entries.now))
             (rest_of (listed_by builder.entry.entries.now) (listed_by builder.exit.0.now))
             result self.new }
         ensures ready { OnTold result (ready self.new) };

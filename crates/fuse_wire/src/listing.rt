@@ -47,7 +47,7 @@ pub struct ReplyDirectory {
 }
 
 impl ReplyDirectory {
-    ghost use Rattle.std.specs.Prelude.{◌≡◌, [], IfOk};
+    ghost use Rattle.std.specs.Prelude.{◌≡◌, [], IfOk, vec_len};
     ghost use Rattle.fuse_wire.specs.Listing.{dirent_bytes};
     ghost use Rattle.fuse_wire.specs.Adding.{Adds};
 
@@ -77,10 +77,18 @@ impl ReplyDirectory {
         bytes
     }
 
+    // How many bytes its entries have.
+    fn len(&self) -> usize
+        ensures { result ≡ vec_len self.now.bytes }
+    {
+        self.bytes.len()
+    }
+
     /// Appends an entry; true exactly where it doesn't fit any more, and then nothing changes. It
     /// takes no memory.
     pub fn add(&mut self, ino: INodeNo, offset: u64, kind: FileType, name: &[u8]) -> bool
-        ensures { Adds (dirent_bytes ino.0 offset kind name.now) self.old self.new result }
+        ensures { Adds (dirent_bytes ino.0 offset kind name.now) self.old.size self.old self.new
+            result }
     {
         if padded_size(name.len()) > self.size as usize - self.bytes.len() {
             return true;
@@ -90,32 +98,56 @@ impl ReplyDirectory {
     }
 }
 
-/// What adds entries to a listing.
+/// What adds entries to a listing, in at most so many of its bytes.
 #[derive(Drop)]
 pub struct DirEntListBuilder<'a> {
     entries: &'a mut ReplyDirectory,
+    // How many bytes the listing has at most in the end.
+    end: u32,
+    ghost inside: { end ≤ entries.now.size },
+    ghost before: { vec_len entries.now.bytes ≤ end },
 }
 
 impl<'a> DirEntListBuilder<'a> {
-    ghost use Rattle.std.specs.Prelude.{◌≡◌};
+    ghost use Rattle.std.specs.Prelude.{◌≡◌, ◌+◌, min, vec_len};
     ghost use Rattle.fuse_wire.specs.Listing.{dirent_bytes};
     ghost use Rattle.fuse_wire.specs.Adding.{Adds};
 
-    /// Adds to these entries.
+    /// Adds to these entries, as long as they have room.
     pub fn new(entries: &'a mut ReplyDirectory) -> DirEntListBuilder<'a>
         ensures same_reference { result.entries.ghost_name ≡ entries.entry.ghost_name }
         ensures entries { result.entries.now ≡ entries.old }
+        ensures end { result.end ≡ entries.old.size }
     {
-        DirEntListBuilder { entries }
+        let end = entries.size;
+        DirEntListBuilder { entries, end }
+    }
+
+    /// Adds to the same entries, at most `size` bytes more.
+    pub fn within(self, size: u32) -> DirEntListBuilder<'a>
+        ensures same_reference { result.entries.ghost_name ≡ self.entry.entries.ghost_name }
+        ensures entries { result.entries.now ≡ self.entry.entries.now }
+        ensures end { result.end ≡ min self.entry.end (vec_len self.entry.entries.now.bytes + size) }
+    {
+        let DirEntListBuilder { entries, end } = self;
+        let len = entries.len() as u32;
+        DirEntListBuilder {
+            entries,
+            end: len + size.min(end - len),
+        }
     }
 
     /// Appends an entry; true exactly where it doesn't fit any more, and then nothing changes. It
     /// takes no memory.
     pub fn add(&mut self, ino: INodeNo, offset: u64, kind: FileType, name: &[u8]) -> bool
         ensures same_reference { self.new.entries.ghost_name ≡ self.old.entries.ghost_name }
-        ensures added { Adds (dirent_bytes ino.0 offset kind name.now) self.old.entries.now
-            self.new.entries.now result }
+        ensures added { Adds (dirent_bytes ino.0 offset kind name.now) self.old.end
+            self.old.entries.now self.new.entries.now result }
+        ensures end { self.new.end ≡ self.old.end }
     {
+        if padded_size(name.len()) > self.end as usize - self.entries.len() {
+            return true;
+        }
         self.entries.add(ino, offset, kind, name)
     }
 }

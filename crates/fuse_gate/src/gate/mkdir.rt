@@ -7,7 +7,7 @@ ghost use Rattle.fuse_gate.specs.Replies.{reply_of};
 ghost use Rattle.fuse_gate.specs.Steps.{ServesRequest, LeavesPartOf};
 
 use crate::gate::Gate;
-use crate::gate::reply::Reply;
+use crate::gate::reply::{Reply, entry_reply};
 use fid_model::Nine;
 use p9_client::mkdir;
 use port_base::errno::{ENFILE, ESTALE};
@@ -42,7 +42,7 @@ impl Gate {
         let told = mkdir(self.alloc, nine, node as u32, name, mode)?;
         self.count_message();
         match told {
-            Ok(_) => self.lookup(nine, node, name),
+            Ok(_) => entry_reply(self.lookup(nine, node, name)),
             Err(errno) => Ok(Reply::Refused(errno)),
         }
     }

@@ -2,8 +2,10 @@
 ghost use Rattle.std.specs.Prelude.{◌≡◌, ◌+◌, ◌≤◌, ◌++◌, ℕ, length, vec_len, vec_capacity};
 ghost use Rattle.p9_rmsg.specs.Replies.{attributes_of};
 ghost use Rattle.tree_machine.specs.Replies.{reply_bytes};
+ghost use Rattle.fuse_gate.specs.Desks.{attributes_told, bytes_told, entry_told, failed, told_as};
 ghost use Rattle.fuse_gate.specs.Replies.{reply_of, IsShort, file_attributes, HasShortFields};
 
+use fuse_wire::answers::{FsFail, GetAttrResponse, LookupResponse};
 use fuse_wire::attr::FileAttr;
 use fuse_wire::ids::{Errno, FileHandle, INodeNo, RequestId};
 use fuse_wire::reply::{
@@ -12,6 +14,7 @@ use fuse_wire::reply::{
     reply_error, reply_init, reply_opened, reply_statfs, reply_written,
 };
 use p9_rmsg::Rgetattr;
+use port_base::sink::NoMemory;
 use tree_model::attributes::BLOCK_SIZE;
 
 /// What answers a request.
@@ -72,6 +75,49 @@ impl Reply {
             Reply::Sizes { .. } => STATFS_OUT_SIZE,
         };
         OUT_HEADER_SIZE + body
+    }
+}
+
+// The reply of a failure, where memory was enough.
+fn failed(failure: FsFail) -> Result<Reply, NoMemory>
+    ensures { told_as (failed failure) result }
+{
+    match failure {
+        FsFail::Errno(errno) => Ok(Reply::Refused(errno.0)),
+        FsFail::NoMemory => Err(NoMemory),
+    }
+}
+
+/// The reply that a look-up's answer is.
+pub fn entry_reply(told: Result<LookupResponse, FsFail>) -> Result<Reply, NoMemory>
+    ensures { told_as (entry_told told) result }
+{
+    match told {
+        Ok(entry) => Ok(Reply::Entry {
+            node: entry.node.0,
+            attr: entry.attr,
+        }),
+        Err(failure) => failed(failure),
+    }
+}
+
+/// The reply that an answer of attributes is.
+pub fn attributes_reply(told: Result<GetAttrResponse, FsFail>) -> Result<Reply, NoMemory>
+    ensures { told_as (attributes_told told) result }
+{
+    match told {
+        Ok(shown) => Ok(Reply::Attributes(shown.attr)),
+        Err(failure) => failed(failure),
+    }
+}
+
+/// The reply of an answer that brings these bytes.
+pub fn bytes_reply(told: Result<(), FsFail>, bytes: Vec<u8>) -> Result<Reply, NoMemory>
+    ensures { told_as (bytes_told bytes.items told) result }
+{
+    match told {
+        Ok(()) => Ok(Reply::Bytes(bytes)),
+        Err(failure) => failed(failure),
     }
 }
 

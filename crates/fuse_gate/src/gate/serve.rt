@@ -9,11 +9,17 @@ ghost use Rattle.fuse_gate.specs.Replies.{reply_of};
 ghost use Rattle.fuse_gate.specs.Steps.{ServesRequest, LeavesPartOf, ServesFrame};
 ghost use Rattle.fuse_gate.specs.Steps.{LeavesPartOfFrame};
 
-use crate::gate::reply::Reply;
+use crate::gate::desk::Desk;
+use crate::gate::reply::{Reply, attributes_reply, bytes_reply, entry_reply};
 use crate::gate::{Gate, Phase};
 use fid_model::Nine;
+use fuse_wire::context::RequestContext;
+use fuse_wire::filesystem::AsyncFilesystem;
 use fuse_wire::head::{Head, IN_HEADER_SIZE};
+use fuse_wire::ids::{FileHandle, INodeNo, LockOwner, OpenFlags};
+use fuse_wire::listing::{DirEntListBuilder, ReplyDirectory};
 use fuse_wire::opcode::FUSE_INIT;
+use fuse_wire::protocol::MAX_READ;
 use fuse_wire::request::{Body, FuseRequest};
 use port_base::errno::EPROTO;
 use port_base::sink::NoMemory;
@@ -31,7 +37,13 @@ fn is_in_turn(phase: Phase, opcode: u32) -> bool
 
 impl Gate {
     // What a request asks of a node, in turn.
-    fn serve<N: Nine>(&mut self, nine: &mut N, node: u64, body: Body<'_>) -> Result<Reply, NoMemory>
+    fn serve<N: Nine>(
+        &mut self,
+        nine: &mut N,
+        context: &RequestContext,
+        node: u64,
+        body: Body<'_>,
+    ) -> Result<Reply, NoMemory>
         requires { IsInStep self.old (N.at nine.old).state }
         ensures served { IfOk result (λ reply. ServesRequest node (plain body.entry)
             (self.old, N.at nine.old) (self.new, N.at nine.new) (reply_of reply)) }
@@ -46,16 +58,35 @@ impl Gate {
                 max_readahead,
                 ..
             } => Ok(self.init(major, minor, max_readahead)),
-            Body::Lookup { name } => self.lookup(nine, node, name),
-            Body::GetAttr { handle } => self.getattr(nine, node, handle),
+            Body::Lookup { name } => {
+                entry_reply(Desk::new(self, nine).lookup(context, INodeNo(node), name))
+            }
+            Body::GetAttr { handle } => {
+                let handle = handle.map(FileHandle);
+                attributes_reply(Desk::new(self, nine).getattr(context, INodeNo(node), handle))
+            }
             Body::SetAttr(asked) => self.setattr(nine, node, asked),
             Body::OpenFile { flags } => self.open(nine, node, flags),
             Body::Read {
                 fh,
                 offset,
                 size,
-                ..
-            } => self.read(nine, fh, offset, size),
+                flags,
+                lock,
+            } => {
+                let mut bytes = Vec::new(self.alloc);
+                let told = Desk::new(self, nine).read(
+                    context,
+                    INodeNo(node),
+                    FileHandle(fh),
+                    offset,
+                    size,
+                    OpenFlags(flags),
+                    lock.map(LockOwner),
+                    &mut bytes,
+                );
+                bytes_reply(told, bytes)
+            }
             Body::Write { fh, offset, bytes } => self.write(nine, fh, offset, bytes),
             Body::OpenDir { .. } => self.opendir(nine, node),
             Body::ReleaseDir { fh } => self.release(nine, fh),
@@ -80,7 +111,14 @@ impl Gate {
                 offset,
                 size,
                 ..
-            } => self.readdir(nine, fh, offset, size),
+            } => {
+                let mut listing = ReplyDirectory::new(self.alloc, size.min(MAX_READ))?;
+                let builder = DirEntListBuilder::new(&mut listing);
+                let handle = FileHandle(fh);
+                let told =
+                    Desk::new(self, nine).readdir(context, INodeNo(node), handle, offset, builder);
+                bytes_reply(told, listing.into_bytes())
+            }
             Body::Flush { fh } => Ok(self.flush(fh)),
             Body::Release { fh } => self.release(nine, fh),
             Body::FSync { fh, .. } => self.fsync(nine, fh),
@@ -118,7 +156,10 @@ impl Gate {
             return Ok(Reply::Refused(EPROTO));
         }
         match FuseRequest::read_behind(head, frame) {
-            Ok(request) => self.serve(nine, head.nodeid, request.body),
+            Ok(request) => {
+                let context = RequestContext::from_head(&head);
+                self.serve(nine, &context, head.nodeid, request.body)
+            }
             Err(errno) => Ok(Reply::Refused(errno.0)),
         }
     }

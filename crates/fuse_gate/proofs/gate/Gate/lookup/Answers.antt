@@ -4,6 +4,7 @@ use Rattle.p9_wire.specs.Qids.{qid_of}
 use Rattle.p9_client.specs.Views.{qid_answer}
 use Rattle.fid_model.specs.Fids.{closed}
 use Rattle.fuse_wire.specs.Request.{lookup}
+use Rattle.fuse_gate.specs.Desks.{entry_told}
 use Rattle.fuse_gate.proofs.Asking.{fid_tells, tells_as, ok_map, err_map}
 use Rattle.fuse_gate.proofs.Standings.{node_fid, node_below, fid_free, fids_below, none_there}
 use Rattle.fuse_gate.proofs.Standings.{some_there}
@@ -61,7 +62,7 @@ enter-requires g c =
 pub returns-in-Ok-clause-served : goal.returns-in-Ok-clause-served
 returns-in-Ok-clause-served g c =
     let k = some_there _ (sym c.if-not-contains_key.ensures) in
-    ok_map c.enter.result _ _
+    ok_map (entry_told c.enter.result) _ _
     (λ r served. lookup_entered (g.N.Nine.at c.args.nine.now) c.requires
     (g.met.N.Nine.good c.args.nine.now) c.args.node c.args.name.now k.0 k.1 c.in_default.ensures
     c.if-is_full.ensures.full _ (g.N.Nine.at c.walk_one.new.nine) c.count_message.ensures
@@ -86,7 +87,7 @@ returns-in-Err-clause-served g c =
 pub returns-in-Ok-clause-unfinished : goal.returns-in-Ok-clause-unfinished
 returns-in-Ok-clause-unfinished g c =
     let k = some_there _ (sym c.if-not-contains_key.ensures) in
-    err_map c.enter.result _ _
+    err_map (entry_told c.enter.result) _ _
     (λ e. e ∙ lookup_tree (g.N.Nine.at c.args.nine.now) c.requires
     (g.met.N.Nine.good c.args.nine.now) c.args.node c.args.name.now k.0 k.1 c.in_default.ensures
     c.if-is_full.ensures.full _ (g.N.Nine.at c.walk_one.new.nine) c.count_message.ensures

@@ -2,7 +2,9 @@
 use Rattle.std.proofs.Common.{Ok, sym, ap, arith, refl, inl}
 use Rattle.fuse_wire.specs.Request.{mkdir}
 use Rattle.p9_client.specs.Views.{qid_answer}
-use Rattle.fuse_gate.specs.Replies.{reply_of}
+use Rattle.fuse_gate.specs.Desks.{entry_told}
+use Rattle.fuse_gate.specs.Steps.{ServesRequest}
+use Rattle.fuse_gate.proofs.Desks.{told_ok, told_err}
 use Rattle.fuse_gate.proofs.Asking.{ok_map, err_map, on_err}
 use Rattle.fuse_gate.proofs.Standings.{node_below, none_there, some_there}
 use Rattle.fuse_gate.proofs.Serving.{refused_before}
@@ -84,16 +86,20 @@ returns-in-Ok-clause-served g c =
     c.in_ok-told.ensures.answer.asked c.in_ok-told.ensures.kept.rises _
     (qid_answer (Ok c.in-Ok.field-0)) _ (ap qid_answer c.in-Ok.is) refl
     c.in_ok-told.ensures.answer.asks in
-    ok_map c.lookup.result _ _
+    told_ok (entry_told c.lookup.result) c.entry_reply.result c.entry_reply.ensures
+    (λ reply. ServesRequest c.args.node (mkdir c.args.mode c.args.name.now)
+    (c.args.self.now, g.N.Nine.at c.args.nine.now)
+    (c.lookup.new.self, g.N.Nine.at c.lookup.new.nine) reply)
+    (ok_map (entry_told c.lookup.result) _ _
     (λ r served. mkdir_served (g.N.Nine.at c.args.nine.now) c.requires
     (g.met.N.Nine.good c.args.nine.now) c.args.node c.args.mode c.args.name.now k.0 k.1 c.in_default.ensures
-    c.if-is_full.ensures.full _ (reply_of r)
+    c.if-is_full.ensures.full _ r
     (looked_up_served (g.N.Nine.at c.args.nine.now) c.requires
     (g.met.N.Nine.good c.args.nine.now) c.args.node c.args.mode c.args.name.now k.0 k.1 c.in_default.ensures
     c.if-is_full.ensures.full w.0 w.1 w.2 _
     (g.N.Nine.at c.mkdir.new.nine) c.count_message.ensures
-    c.in_ok-told.ensures.answer.asked c.in_ok-told.ensures.kept.rises w.3 _ (reply_of r) served))
-    c.lookup.ensures.served
+    c.in_ok-told.ensures.answer.asked c.in_ok-told.ensures.kept.rises w.3 _ r served))
+    c.lookup.ensures.served)
 
 pub returns-in-Ok-clause-unfinished : goal.returns-in-Ok-clause-unfinished
 returns-in-Ok-clause-unfinished g c =
@@ -108,13 +114,14 @@ returns-in-Ok-clause-unfinished g c =
     c.in_ok-told.ensures.answer.asked c.in_ok-told.ensures.kept.rises _
     (qid_answer (Ok c.in-Ok.field-0)) _ (ap qid_answer c.in-Ok.is) refl
     c.in_ok-told.ensures.answer.asks in
-    err_map c.lookup.result _ _
+    told_err (entry_told c.lookup.result) c.entry_reply.result c.entry_reply.ensures _
+    (err_map (entry_told c.lookup.result) _ _
     (λ same. looked_part (g.N.Nine.at c.args.nine.now) c.requires
     (g.met.N.Nine.good c.args.nine.now) c.args.node c.args.mode c.args.name.now k.0 k.1 c.in_default.ensures
     c.if-is_full.ensures.full w.0 w.1 w.2 _
     (g.N.Nine.at c.mkdir.new.nine) c.count_message.ensures
     c.in_ok-told.ensures.answer.asked c.in_ok-told.ensures.kept.rises w.3 _ (inl (inl same)))
-    c.lookup.ensures.unfinished
+    c.lookup.ensures.unfinished)
 
 pub returns-in-Err-clause-served : goal.returns-in-Err-clause-served
 returns-in-Err-clause-served g c =

@@ -2,6 +2,8 @@
 -- file is read.
 use Rattle.std.proofs.Common.{None, sym, ◌∙◌, arith}
 use Rattle.fuse_wire.specs.Request.{read}
+use Rattle.fuse_wire.specs.Answers.{rest_of}
+use Rattle.fuse_gate.specs.Desks.{bytes_told}
 use Rattle.fuse_gate.proofs.Asking.{ok_map}
 use Rattle.fuse_gate.proofs.Standings.{handle_below}
 use Rattle.fuse_gate.proofs.Serving.{refused_before}
@@ -43,7 +45,8 @@ read_pieces-requires-clause-opened g c =
 
 pub returns-clause-served : goal.returns-clause-served
 returns-clause-served g c =
-    ok_map c.read_pieces.result _ _
+    ok_map (bytes_told (rest_of c.args.out.now.items c.read_pieces.new.out.items)
+    c.read_pieces.result) _ _
     (λ r served. read_served (g.N.Nine.at c.args.nine.now) c.requires c.args.handle c.args.offset
     c.args.size c.in-Some.found (sym (c.in-Some.ensures ∙ c.get.ensures)) c.if-found.false
     c.if-found-eq-O_WRONLY.false (g.met.N.Nine.good c.args.nine.now) c.min.result c.min.ensures

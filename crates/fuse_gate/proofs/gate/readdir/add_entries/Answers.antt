@@ -9,19 +9,22 @@ pub returns-then-add : goal.returns-then-add
 returns-then-add c =
     adds_full (dirent_of c.entry-item.result)
     (each dirent_of (drop (c.loop-entry.entry-index + 1) c.args.entries.now))
-    (subst (λ (ds : List Dirent). Adding c.args.listing.now c.loop-entry.listing
+    (subst (λ (ds : List Dirent). Adding c.args.builder.now.end c.args.builder.now.entries.now.bytes.items
+    c.loop-entry.builder.entries.now.bytes.items
     (each dirent_of c.args.entries.now)
     (each dirent_of (take c.loop-entry.entry-index c.args.entries.now)) ds c.loop-entry.cookie)
     (rest_at c.args.entries.now c.loop-entry.entry-index c.entry-item.result
-    c.loop-entry-test.true c.entry-item.is) c.loop-entry.invariant)
-    c.add.new.self
-    (adds_as c.loop-entry.listing c.add.new.self true c.entry-item.result.qid.path c.entry-item.result.offset c.entry-item.result.ty
+    c.loop-entry-test.true c.entry-item.is) c.loop-entry.invariant.adding)
+    c.add.new.self.entries.now.bytes.items
+    (adds_as c.loop-entry.builder.end c.args.builder.now.end c.loop-entry.invariant.end
+    c.loop-entry.builder.entries.now c.add.new.self.entries.now true c.entry-item.result.qid.path c.entry-item.result.offset c.entry-item.result.ty
     c.entry-item.result.name c.as_bytes-name.result.now c.file_type-kind.result
-    c.file_type-kind.ensures c.as_bytes-name.ensures.bytes c.if-add.ensures)
+    c.file_type-kind.ensures c.as_bytes-name.ensures.bytes c.if-add.ensures.added)
 
 pub loop-entry-preserved : goal.loop-entry-preserved
 loop-entry-preserved c =
-    subst (λ (ds : List Dirent). Adding c.args.listing.now c.add.new.self
+    subst (λ (ds : List Dirent). Adding c.args.builder.now.end c.args.builder.now.entries.now.bytes.items
+    c.add.new.self.entries.now.bytes.items
     (each dirent_of c.args.entries.now) ds
     (each dirent_of (drop (c.loop-entry.entry-index + 1) c.args.entries.now))
     c.entry-item.result.offset)
@@ -29,12 +32,14 @@ loop-entry-preserved c =
     c.loop-entry-test.true c.entry-item.is))
     (adds_one (dirent_of c.entry-item.result)
     (each dirent_of (drop (c.loop-entry.entry-index + 1) c.args.entries.now))
-    (subst (λ (ds : List Dirent). Adding c.args.listing.now c.loop-entry.listing
+    (subst (λ (ds : List Dirent). Adding c.args.builder.now.end c.args.builder.now.entries.now.bytes.items
+    c.loop-entry.builder.entries.now.bytes.items
     (each dirent_of c.args.entries.now)
     (each dirent_of (take c.loop-entry.entry-index c.args.entries.now)) ds c.loop-entry.cookie)
     (rest_at c.args.entries.now c.loop-entry.entry-index c.entry-item.result
-    c.loop-entry-test.true c.entry-item.is) c.loop-entry.invariant)
-    c.add.new.self
-    (adds_as c.loop-entry.listing c.add.new.self false c.entry-item.result.qid.path c.entry-item.result.offset c.entry-item.result.ty
+    c.loop-entry-test.true c.entry-item.is) c.loop-entry.invariant.adding)
+    c.add.new.self.entries.now.bytes.items
+    (adds_as c.loop-entry.builder.end c.args.builder.now.end c.loop-entry.invariant.end
+    c.loop-entry.builder.entries.now c.add.new.self.entries.now false c.entry-item.result.qid.path c.entry-item.result.offset c.entry-item.result.ty
     c.entry-item.result.name c.as_bytes-name.result.now c.file_type-kind.result
-    c.file_type-kind.ensures c.as_bytes-name.ensures.bytes c.if-add.ensures))
+    c.file_type-kind.ensures c.as_bytes-name.ensures.bytes c.if-add.ensures.added))
