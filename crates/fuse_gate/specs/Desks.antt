@@ -1,5 +1,5 @@
 -- The replies that the answers of a desk are.
-use Rattle.std.specs.Prelude.{⊤, ⊥, ◌≡◌, ◌++◌, ◌-◌, ℕ, length, IfOk, OnErr, List, Result, Ok, Err}
+use Rattle.std.specs.Prelude.{⊤, ◌≡◌, ◌++◌, ◌-◌, ℕ, length, IfOk, OnErr, List, Result, Ok, Err}
 use Rattle.port_base.specs.declared.sink.NoMemory.{NoMemory}
 use Rattle.fuse_wire.specs.declared.answers.FsFail.{FsFail}
 use Rattle.fuse_wire.specs.declared.answers.FsFail.TheVariants as fail

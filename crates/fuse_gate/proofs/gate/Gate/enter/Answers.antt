@@ -1,6 +1,7 @@
 -- The attributes, and then the second fid's going or a new node.
 use Rattle.std.proofs.Common.{sym, ◌∙◌, ap}
 use Rattle.fid_model.specs.Fids.{ServerState, closed}
+use Rattle.fuse_gate.specs.Desks.{entry_told}
 use Rattle.fuse_gate.proofs.Asking.{fid_tells, on_err}
 use Rattle.fuse_gate.proofs.Entering.{shown_same, fresh_stays, enter_known, enter_new}
 use Rattle.fuse_gate.proofs.Entering.{enter_refused, clunk_tree}
@@ -28,23 +29,23 @@ clunk-requires-in-Err-clause-known g c = (fresh_stays (g.N.Nine.at c.args.nine.n
 
 pub returns-in_ok-clunk-in-Some-clause-served : goal.returns-in_ok-clunk-in-Some-clause-served
 returns-in_ok-clunk-in-Some-clause-served g c =
-    enter_known (g.N.Nine.at c.args.nine.now) c.requires c.show.new.self
+    rw c.entry.ensures.node (rw c.entry.ensures.attributes (enter_known (g.N.Nine.at c.args.nine.now) c.requires c.show.new.self
     (g.N.Nine.at c.show.new.nine) c.in_ok-attr.field-0
     (fid_tells c.in_ok-attr.ensures.answer (closed c.args.qid.path) c.requires.fresh)
     c.in_ok-attr.ensures.counted c.in_ok-attr.ensures.answer.asked c.in-Ok.attr c.in-Ok.is
     c.in-Some.node (sym (c.in-Some.ensures ∙ c.get.ensures)) c.count_message.new.self _
     (g.N.Nine.at c.clunk.new.nine)
     c.count_message.ensures c.count_up.ensures c.in_ok-clunk-in-Some.ensures.gone.asked
-    c.in_ok-clunk-in-Some.ensures.gone.state
+    c.in_ok-clunk-in-Some.ensures.gone.state))
 
 pub returns-in_ok-add_node-in-None-clause-served : goal.returns-in_ok-add_node-in-None-clause-served
 returns-in_ok-add_node-in-None-clause-served g c =
-    enter_new (g.N.Nine.at c.args.nine.now) c.requires c.show.new.self (g.N.Nine.at c.show.new.nine)
+    rw c.entry-in-None.ensures.node (rw c.entry-in-None.ensures.attributes (enter_new (g.N.Nine.at c.args.nine.now) c.requires c.show.new.self (g.N.Nine.at c.show.new.nine)
     c.in_ok-attr.field-0 (fid_tells c.in_ok-attr.ensures.answer (closed c.args.qid.path)
     c.requires.fresh)
     c.in_ok-attr.ensures.counted c.in_ok-attr.ensures.answer.asked c.in-Ok.attr c.in-Ok.is
     (g.met.N.Nine.good c.show.new.nine) (sym (c.in-None.ensures ∙ c.get.ensures)) _
-    c.in_ok-add_node-in-None.ensures
+    c.in_ok-add_node-in-None.ensures))
 
 pub returns-in_ok-clunk-in-Err-clause-served : goal.returns-in_ok-clunk-in-Err-clause-served
 returns-in_ok-clunk-in-Err-clause-served g c =
@@ -59,7 +60,7 @@ returns-in_ok-clunk-in-Err-clause-served g c =
 pub returns-in_err-clunk-in-Some-clause-unfinished :
     goal.returns-in_err-clunk-in-Some-clause-unfinished
 returns-in_err-clunk-in-Some-clause-unfinished g c =
-    on_err c.from_residual-in_err-clunk-in-Some.result _
+    on_err (entry_told c.from_residual-in_err-clunk-in-Some.result) _
     (clunk_tree (g.N.Nine.at c.args.nine.now) c.requires c.show.new.self
     (g.N.Nine.at c.show.new.nine) c.in_ok-attr.field-0
     (fid_tells c.in_ok-attr.ensures.answer (closed c.args.qid.path) c.requires.fresh)
@@ -68,7 +69,7 @@ returns-in_err-clunk-in-Some-clause-unfinished g c =
 pub returns-in_err-add_node-in-None-clause-unfinished :
     goal.returns-in_err-add_node-in-None-clause-unfinished
 returns-in_err-add_node-in-None-clause-unfinished g c =
-    on_err c.from_residual-in_err-add_node-in-None.result _
+    on_err (entry_told c.from_residual-in_err-add_node-in-None.result) _
     (ap (λ (x : ServerState). x.tree) (shown_same (g.N.Nine.at c.args.nine.now) c.requires
     c.show.new.self (g.N.Nine.at c.show.new.nine) c.in_ok-attr.field-0
     (fid_tells c.in_ok-attr.ensures.answer (closed c.args.qid.path) c.requires.fresh)))
@@ -76,7 +77,7 @@ returns-in_err-add_node-in-None-clause-unfinished g c =
 pub returns-in_err-clunk-in-Err-clause-unfinished :
     goal.returns-in_err-clunk-in-Err-clause-unfinished
 returns-in_err-clunk-in-Err-clause-unfinished g c =
-    on_err c.from_residual-in_err-clunk-in-Err.result _
+    on_err (entry_told c.from_residual-in_err-clunk-in-Err.result) _
     (clunk_tree (g.N.Nine.at c.args.nine.now) c.requires c.show.new.self
     (g.N.Nine.at c.show.new.nine) c.in_ok-attr.field-0
     (fid_tells c.in_ok-attr.ensures.answer (closed c.args.qid.path) c.requires.fresh)

@@ -1,12 +1,12 @@
 -- Each entry is added behind those before, until one has no room.
-use Rattle.std.proofs.Common.{◌+◌, List, sym, subst, take, drop, true, false}
+use Rattle.std.proofs.Common.{◌+◌, ◌∙◌, List, sym, subst, take, drop, true, false}
 use Rattle.std.specs.Prelude.{map as each}
 use Rattle.p9_rmsg.specs.Dirents.{Entry as Dirent, dirent_of}
 use Rattle.fuse_gate.proofs.Listings.{Adding, adds_one, adds_full, adds_as, rest_at, front_at}
 use Rattle.fuse_gate.proofs.gate.readdir.add_entries.Goals as goal
 
-pub returns-then-add : goal.returns-then-add
-returns-then-add c =
+pub returns-then-add-clause-added : goal.returns-then-add-clause-added
+returns-then-add-clause-added c =
     adds_full (dirent_of c.entry-item.result)
     (each dirent_of (drop (c.loop-entry.entry-index + 1) c.args.entries.now))
     (subst (λ (ds : List Dirent). Adding c.args.builder.now.end c.args.builder.now.entries.now.bytes.items
@@ -22,7 +22,8 @@ returns-then-add c =
     c.file_type-kind.ensures c.as_bytes-name.ensures.bytes c.if-add.ensures.added)
 
 pub loop-entry-preserved : goal.loop-entry-preserved
-loop-entry-preserved c =
+loop-entry-preserved c = record {
+  adding =
     subst (λ (ds : List Dirent). Adding c.args.builder.now.end c.args.builder.now.entries.now.bytes.items
     c.add.new.self.entries.now.bytes.items
     (each dirent_of c.args.entries.now) ds
@@ -42,4 +43,7 @@ loop-entry-preserved c =
     (adds_as c.loop-entry.builder.end c.args.builder.now.end c.loop-entry.invariant.end
     c.loop-entry.builder.entries.now c.add.new.self.entries.now false c.entry-item.result.qid.path c.entry-item.result.offset c.entry-item.result.ty
     c.entry-item.result.name c.as_bytes-name.result.now c.file_type-kind.result
-    c.file_type-kind.ensures c.as_bytes-name.ensures.bytes c.if-add.ensures.added))
+    c.file_type-kind.ensures c.as_bytes-name.ensures.bytes c.if-add.ensures.added));
+  end = c.if-add.ensures.end ∙ c.loop-entry.invariant.end;
+  reference = c.if-add.ensures.same_reference ∙ c.loop-entry.invariant.reference;
+}
