@@ -1,5 +1,5 @@
 -- The answers of a desk, and the replies that they are.
-use Rattle.std.proofs.Common.{◌≡◌, ℕ, ◌+◌, List, [], ◌++◌, length, drop, Result, Ok, Err, IfOk}
+use Rattle.std.proofs.Common.{◌≡◌, ℕ, ◌+◌, ◌≤◌, min, arith, List, [], ◌++◌, length, drop, Result, Ok, Err, IfOk}
 use Rattle.std.proofs.Common.{OnErr, sym, subst, ap, ◌∙◌, append_assoc, append-nil}
 use Rattle.std.proofs.lemmas.List.{length-append}
 use Rattle.std.proofs.Math.Seq.{drop-append_seam, drop-length}
@@ -8,7 +8,7 @@ use Rattle.port_base.specs.declared.sink.NoMemory.{NoMemory}
 use Rattle.fuse_wire.specs.declared.answers.FsFail.{FsFail}
 use Rattle.tree_machine.specs.Replies.{Reply}
 use Rattle.fuse_gate.specs.Replies.{reply_of}
-use Rattle.fuse_gate.specs.Desks.{told_as}
+use Rattle.fuse_gate.specs.Desks.{told_as, IsFrontOf}
 use Rattle.fuse_gate.specs.declared.gate.reply.Reply.{Reply as GateReply}
 
 pub told_ok : (told : Result Reply FsFail) (r : Result GateReply NoMemory) → told_as told r
@@ -50,3 +50,9 @@ module _ (before now : List ℕ) (behind : now ≡ before ++ rest_of before now)
 pub rest_long : (before now : List ℕ) → now ≡ before ++ rest_of before now
     → length now ≡ length before + length (rest_of before now)
 rest_long before now behind = ap length behind ∙ length-append before (rest_of before now)
+
+pub front_none : (before bytes : List ℕ) → IsFrontOf (rest_of before before) bytes
+front_none before bytes = (bytes, sym (ap (λ (xs : List ℕ). xs ++ bytes) (rest_none before)))
+
+pub min_small : (k n : ℕ) → k ≤ n → k ≡ min k n
+min_small k n few = omega arith

@@ -1,7 +1,7 @@
 -- READDIR, message by message.
 use Rattle.std.proofs.Common.{◌≡◌, ◌≢◌, ℕ, suc, ◌+◌, ◌-◌, ◌<◌, ◌≤◌, Bool, true, false, cond}
 use Rattle.std.proofs.Common.{List, [], ◌∷◌, ◌++◌, length, refl, sym, ap, ◌∙◌, subst, Some}
-use Rattle.std.proofs.Common.{None, arith, append_assoc, append-nil, ⊎_elim, nat_lt}
+use Rattle.std.proofs.Common.{None, Option, arith, append_assoc, append-nil, ⊎_elim, nat_lt}
 use Rattle.std.proofs.Common.{get_or, take, add-one, drop-cons}
 use Rattle.std.specs.Prelude.{map as each, drop, ◌==◌}
 use Rattle.std.specs.List.{flat_map}
@@ -26,6 +26,8 @@ use Rattle.fid_model.specs.Listings.{entry_told}
 use Rattle.tree_machine.specs.Listing.{entry_size, entry_bytes, file_type, listing_bytes}
 use Rattle.fuse_gate.specs.Listings.{type_by, told_size, told_bytes, last_told, next_told}
 use Rattle.fuse_gate.specs.Listings.{AddsFront}
+use Rattle.fuse_wire.specs.Answers.{rest_of}
+use Rattle.fuse_gate.proofs.Desks.{rest_more, behind_more, rest_long}
 
 -- ---- entries that are added, one after another
 
@@ -208,3 +210,28 @@ pub some_of : (ds : List DirentStruct) (n : ℕ) → false ≡ (n == 0) → leng
     → each dirent_of ds ≢ []
 some_of [] n is long none = a_number n is (sym long)
 some_of (d ∷ ds) n is long none = cc
+
+-- ---- behind what a listing had
+
+module _ (before now new : List ℕ) (behind : now ≡ before ++ rest_of before now) (all end : ℕ)
+    (same : end ≡ all) (ds : List Dirent) (next : Option ℕ) (adds : AddsFront end now new ds next)
+    where
+  abbrev room : ℕ
+  room = (all - length before) - length (rest_of before now)
+
+  left_same : end - length now ≡ room
+  left_same = let long = rest_long before now behind in omega (arith, long, same)
+
+  pub listed_more : rest_of before new
+      ≡ rest_of before now ++ flat_map told_bytes (front_within told_size room ds)
+  listed_more = rest_more before now behind
+      (flat_map told_bytes (front_within told_size (end - length now) ds)) new adds.items
+      ∙ ap (λ (k : ℕ). rest_of before now ++ flat_map told_bytes (front_within told_size k ds))
+      left_same
+
+  pub listed_behind : new ≡ before ++ rest_of before new
+  listed_behind = behind_more before now behind
+      (flat_map told_bytes (front_within told_size (end - length now) ds)) new adds.items
+
+  pub listed_next : next ≡ next_told (front_within told_size room ds) ds
+  listed_next = adds.told ∙ ap (λ (k : ℕ). next_told (front_within told_size k ds) ds) left_same

@@ -212,6 +212,13 @@ offset_fits file bytes offset short is low =
           → offset + n < 2 ^ 64
       by_numbers all rest n short is long = omega arith
 
+-- what is left to be asked for gets less
+pub shrinks : (had got size count piece new : ℕ) → 1 ≤ piece → count ≡ min (size - had) piece
+    → count ≤ got → new ≡ had + got → new ≢ size → (new ≡ 0) ⊎ (new < size)
+    → size - new < size - had
+shrinks had got size count piece new some asks full is other more =
+    ⊎_elim (λ none. omega arith) (λ less. omega arith) more
+
 -- ---- the next piece
 
 module _ {g : Gate} (n : Moment) (st : IsInStep g n.state) {fid : ℕ} {file : List ℕ}

@@ -116,6 +116,7 @@ impl<N: Nine> AsyncFilesystem for Desk<'_, N> {
         offset: u64,
         builder: DirEntListBuilder<'_>,
     ) -> Result<(), FsFail> {
-        self.gate.readdir(self.nine, file_handle.0, offset, builder.within(MAX_READ))
+        let mut builder = builder.within(MAX_READ);
+        self.gate.readdir(self.nine, file_handle.0, offset, &mut builder)
     }
 }

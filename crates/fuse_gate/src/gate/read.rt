@@ -53,8 +53,9 @@ impl Gate {
                 Ok(data) => data,
                 Err(errno) => return Err(FsFail::Errno(Errno(errno))),
             };
-            if out.extend_from_slice(&data.0).is_err() {
-                return Err(FsFail::NoMemory);
+            match out.extend_from_slice(&data.0) {
+                Ok(()) => {}
+                Err(_) => return Err(FsFail::NoMemory),
             }
             if data.0.len() < asked as usize || out.len() - before == size as usize {
                 return Ok(());

@@ -61,19 +61,20 @@ impl Gate {
         nine: &mut N,
         fid: u32,
         offset: u64,
-        mut builder: DirEntListBuilder<'_>,
+        builder: &mut DirEntListBuilder<'_>,
     ) -> Result<(), FsFail>
         requires stands { IsInStep self.old (N.at nine.old).state }
         requires opened { ListsDirectory (N.at nine.old).state fid
             (directory_at (N.at nine.old).state fid) }
-        ensures served { IfOk (bytes_told (rest_of (listed_by builder.entry.entries.now)
-            (listed_by builder.exit.0.now)) result)
-            (λ reply. ServesListing fid offset (room_of builder.entry)
+        ensures served { IfOk (bytes_told (rest_of (listed_by builder.old.entries.now)
+            (listed_by builder.new.entries.now)) result)
+            (λ reply. ServesListing fid offset (room_of builder.old)
             (self.old, N.at nine.old) (self.new, N.at nine.new) reply) }
-        ensures added { AddsListed builder.entry.entries.now builder.exit.0.now }
-        ensures front { OnErr result (IsFrontOf (rest_of (listed_by builder.entry.entries.now)
-            (listed_by builder.exit.0.now))
-            (listing_of (N.at nine.old).state fid offset (room_of builder.entry))) }
+        ensures added { AddsListed builder.old.entries.now builder.new.entries.now }
+        ensures same_reference { builder.new.entries.ghost_name ≡ builder.old.entries.ghost_name }
+        ensures front { OnErr result (IsFrontOf (rest_of (listed_by builder.old.entries.now)
+            (listed_by builder.new.entries.now))
+            (listing_of (N.at nine.old).state fid offset (room_of builder.old))) }
         ensures unfinished { OnErr (bytes_told [] result)
             (SameTree (N.at nine.old) (N.at nine.new)) }
         ensures kept { Keeps (N.at nine.old) (N.at nine.new) }
@@ -90,7 +91,7 @@ impl Gate {
             if entries.is_empty() {
                 return Ok(());
             }
-            match add_entries(&mut builder, &entries) {
+            match add_entries(builder, &entries) {
                 Some(next) => cookie = next,
                 None => return Ok(()),
             }
@@ -103,18 +104,19 @@ impl Gate {
         nine: &mut N,
         handle: u64,
         offset: u64,
-        builder: DirEntListBuilder<'_>,
+        builder: &mut DirEntListBuilder<'_>,
     ) -> Result<(), FsFail>
         requires stands { IsInStep self.old (N.at nine.old).state }
-        requires few { room_of builder ≤ MAX_READ }
-        ensures served { IfOk (bytes_told (rest_of (listed_by builder.entry.entries.now)
-            (listed_by builder.exit.0.now)) result)
-            (λ reply. ServesRequest 0 (readdir handle offset (room_of builder.entry) 0 None)
+        requires few { room_of builder.old ≤ MAX_READ }
+        ensures served { IfOk (bytes_told (rest_of (listed_by builder.old.entries.now)
+            (listed_by builder.new.entries.now)) result)
+            (λ reply. ServesRequest 0 (readdir handle offset (room_of builder.old) 0 None)
             (self.old, N.at nine.old) (self.new, N.at nine.new) reply) }
-        ensures added { AddsListed builder.entry.entries.now builder.exit.0.now }
-        ensures front { OnErr result (IsFrontOf (rest_of (listed_by builder.entry.entries.now)
-            (listed_by builder.exit.0.now))
-            (listing_of (N.at nine.old).state handle offset (room_of builder.entry))) }
+        ensures added { AddsListed builder.old.entries.now builder.new.entries.now }
+        ensures same_reference { builder.new.entries.ghost_name ≡ builder.old.entries.ghost_name }
+        ensures front { OnErr result (IsFrontOf (rest_of (listed_by builder.old.entries.now)
+            (listed_by builder.new.entries.now))
+            (listing_of (N.at nine.old).state handle offset (room_of builder.old))) }
         ensures unfinished { OnErr (bytes_told [] result)
             (SameTree (N.at nine.old) (N.at nine.new)) }
         ensures kept { Keeps (N.at nine.old) (N.at nine.new) }

@@ -5,6 +5,7 @@ use Rattle.fuse_wire.specs.Request.{read}
 use Rattle.fuse_wire.specs.Answers.{rest_of}
 use Rattle.fuse_gate.specs.Desks.{bytes_told}
 use Rattle.fuse_gate.proofs.Asking.{ok_map}
+use Rattle.fuse_gate.proofs.Desks.{behind_none}
 use Rattle.fuse_gate.proofs.Standings.{handle_below}
 use Rattle.fuse_gate.proofs.Serving.{refused_before}
 use Rattle.fuse_gate.proofs.Reading.{read_unknown, read_directory, read_write_only, reads_file}
@@ -52,3 +53,12 @@ returns-clause-served g c =
     c.if-found-eq-O_WRONLY.false (g.met.N.Nine.good c.args.nine.now) c.min.result c.min.ensures
     _ _ served)
     c.read_pieces.ensures.served
+
+pub returns-in_default-clause-appended : goal.returns-in_default-clause-appended
+returns-in_default-clause-appended g c = behind_none c.args.out.now.items
+
+pub returns-then-found-clause-appended : goal.returns-then-found-clause-appended
+returns-then-found-clause-appended g c = behind_none c.args.out.now.items
+
+pub returns-then-found-eq-O_WRONLY-clause-appended : goal.returns-then-found-eq-O_WRONLY-clause-appended
+returns-then-found-eq-O_WRONLY-clause-appended g c = behind_none c.args.out.now.items
