@@ -82,14 +82,15 @@ pub trait AsyncFilesystem {
         ino: INodeNo,
         file_handle: FileHandle,
         offset: u64,
-        builder: DirEntListBuilder<'_>,
+        builder: &mut DirEntListBuilder<'_>,
     ) -> Result<(), FsFail>
         requires { ready self.old }
-        ensures added { (listed_by builder.exit.0.now) ≡ listed_by builder.entry.entries.now
-            ++ rest_of (listed_by builder.entry.entries.now) (listed_by builder.exit.0.now) }
+        ensures same_reference { builder.new.entries.ghost_name ≡ builder.old.entries.ghost_name }
+        ensures added { listed_by builder.new.entries.now ≡ listed_by builder.old.entries.now
+            ++ rest_of (listed_by builder.old.entries.now) (listed_by builder.new.entries.now) }
         ensures told { lists self.old file_handle.0 offset
-            (builder.entry.end - length (listed_by builder.entry.entries.now))
-            (rest_of (listed_by builder.entry.entries.now) (listed_by builder.exit.0.now))
+            (builder.old.end - length (listed_by builder.old.entries.now))
+            (rest_of (listed_by builder.old.entries.now) (listed_by builder.new.entries.now))
             result self.new }
         ensures ready { OnTold result (ready self.new) };
 }

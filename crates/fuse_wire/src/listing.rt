@@ -42,6 +42,7 @@ fn put_entry(out: &mut Vec<u8>, ino: INodeNo, offset: u64, kind: FileType, name:
 pub struct ReplyDirectory {
     bytes: Vec<u8>,
     size: u32,
+    ghost small: { size < 2 ^ 32 },
     ghost room: { size ≤ vec_capacity bytes },
     ghost within: { vec_len bytes ≤ size },
 }
@@ -123,18 +124,14 @@ impl<'a> DirEntListBuilder<'a> {
         DirEntListBuilder { entries, end }
     }
 
-    /// Adds to the same entries, at most `size` bytes more.
-    pub fn within(self, size: u32) -> DirEntListBuilder<'a>
-        ensures same_reference { result.entries.ghost_name ≡ self.entry.entries.ghost_name }
-        ensures entries { result.entries.now ≡ self.entry.entries.now }
-        ensures end { result.end ≡ min self.entry.end (vec_len self.entry.entries.now.bytes + size) }
+    /// Adds at most `size` bytes more from here on.
+    pub fn limit(&mut self, size: u32)
+        ensures same_reference { self.new.entries.ghost_name ≡ self.old.entries.ghost_name }
+        ensures entries { self.new.entries.now ≡ self.old.entries.now }
+        ensures end { self.new.end ≡ min self.old.end (vec_len self.old.entries.now.bytes + size) }
     {
-        let DirEntListBuilder { entries, end } = self;
-        let len = entries.len() as u32;
-        DirEntListBuilder {
-            entries,
-            end: len + size.min(end - len),
-        }
+        let len = self.entries.len() as u32;
+        self.end = len + size.min(self.end - len);
     }
 
     /// Appends an entry; true exactly where it doesn't fit any more, and then nothing changes. It

@@ -37,7 +37,7 @@ impl<'a, N: Nine> Desk<'a, N> {
 }
 
 impl<N: Nine> AsyncFilesystem for Desk<'_, N> {
-    ghost use Rattle.std.specs.Prelude.{◌≡◌, min, None, IfOk, OnErr};
+    ghost use Rattle.std.specs.Prelude.{◌≡◌, ℕ, min, None, IfOk, OnErr};
     ghost use Rattle.fuse_wire.specs.Request.{lookup, getattr, read, readdir};
     ghost use Rattle.fuse_wire.specs.declared.protocol.TheConstants.{MAX_READ};
     ghost use Rattle.fuse_gate.specs.Desks.{AnswersAs, IsFrontOf, IsValidEntry, listing_of};
@@ -66,8 +66,9 @@ impl<N: Nine> AsyncFilesystem for Desk<'_, N> {
 
     ghost lists = { λ old handle offset room bytes result new.
         (new.gate.ghost_name ≡ old.gate.ghost_name) × (new.nine.ghost_name ≡ old.nine.ghost_name)
-        × AnswersAs 0 (readdir handle offset (min room MAX_READ) 0 None) (bytes_told bytes result)
-        (old.gate.now, N.at old.nine.now) (new.gate.now, N.at new.nine.now)
+        × ((size : ℕ) → min room MAX_READ ≡ min size MAX_READ →
+        AnswersAs 0 (readdir handle offset size 0 None) (bytes_told bytes result)
+        (old.gate.now, N.at old.nine.now) (new.gate.now, N.at new.nine.now))
         × OnErr result (IsFrontOf bytes
         (listing_of (N.at old.nine.now).state handle offset (min room MAX_READ))) };
 
@@ -114,9 +115,9 @@ impl<N: Nine> AsyncFilesystem for Desk<'_, N> {
         _ino: INodeNo,
         file_handle: FileHandle,
         offset: u64,
-        builder: DirEntListBuilder<'_>,
+        builder: &mut DirEntListBuilder<'_>,
     ) -> Result<(), FsFail> {
-        let mut builder = builder.within(MAX_READ);
-        self.gate.readdir(self.nine, file_handle.0, offset, &mut builder)
+        builder.limit(MAX_READ);
+        self.gate.readdir(self.nine, file_handle.0, offset, builder)
     }
 }

@@ -1,5 +1,5 @@
 // READDIR.
-ghost use Rattle.std.specs.Prelude.{◌≡◌, ◌≤◌, [], None, IfOk, OnErr, map as each};
+ghost use Rattle.std.specs.Prelude.{◌≡◌, ◌≤◌, ℕ, min, [], None, IfOk, OnErr, map as each};
 ghost use Rattle.fuse_wire.specs.Request.{readdir};
 ghost use Rattle.p9_rmsg.specs.Dirents.{dirent_of};
 ghost use Rattle.fid_model.specs.Moments.{Keeps, SameTree};
@@ -106,11 +106,11 @@ impl Gate {
         offset: u64,
         builder: &mut DirEntListBuilder<'_>,
     ) -> Result<(), FsFail>
-        requires stands { IsInStep self.old (N.at nine.old).state }
-        requires few { room_of builder.old ≤ MAX_READ }
-        ensures served { IfOk (bytes_told (rest_of (listed_by builder.old.entries.now)
+        requires { IsInStep self.old (N.at nine.old).state }
+        ensures served { (size : ℕ) → room_of builder.old ≡ min size MAX_READ →
+            IfOk (bytes_told (rest_of (listed_by builder.old.entries.now)
             (listed_by builder.new.entries.now)) result)
-            (λ reply. ServesRequest 0 (readdir handle offset (room_of builder.old) 0 None)
+            (λ reply. ServesRequest 0 (readdir handle offset size 0 None)
             (self.old, N.at nine.old) (self.new, N.at nine.new) reply) }
         ensures added { AddsListed builder.old.entries.now builder.new.entries.now }
         ensures same_reference { builder.new.entries.ghost_name ≡ builder.old.entries.ghost_name }

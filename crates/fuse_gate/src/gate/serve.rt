@@ -113,10 +113,13 @@ impl Gate {
                 ..
             } => {
                 let mut listing = ReplyDirectory::new(self.alloc, size.min(MAX_READ))?;
-                let builder = DirEntListBuilder::new(&mut listing);
-                let handle = FileHandle(fh);
-                let told =
-                    Desk::new(self, nine).readdir(context, INodeNo(node), handle, offset, builder);
+                let told = Desk::new(self, nine).readdir(
+                    context,
+                    INodeNo(node),
+                    FileHandle(fh),
+                    offset,
+                    &mut DirEntListBuilder::new(&mut listing),
+                );
                 bytes_reply(told, listing.into_bytes())
             }
             Body::Flush { fh } => Ok(self.flush(fh)),
