@@ -1,7 +1,7 @@
 //! A probe that goes by a script.
 ghost use Rattle.std.specs.Prelude.{◌≡◌, ◌++◌, ◌∷◌, [], IsTrue, IfOk, OnOk, OnErr, Some, None};
 ghost use Rattle.std.specs.Prelude.{false, map};
-ghost use Rattle.port_base.specs.Failing.{first_calls};
+ghost use Rattle.port_base.specs.Failing.{after_call, first_calls, is_due};
 ghost use Rattle.libmount.specs.Mounters.{FaultedIn};
 ghost use Rattle.libmount.specs.Scripts.{Place, calls_of, device_at, facts_of, place_view};
 
@@ -31,6 +31,8 @@ pub struct ScriptProbe {
 /// Counts a call, and says whether it faults. The count of faults rises at a fault alone.
 #[tactic(auto, using(crate::proofs::ScriptLemmas::due_is_loud))]
 pub fn strikes(failing: &mut FailingCalls) -> bool
+    ensures due { result ≡ is_due failing.old.script }
+    ensures script { failing.new.script ≡ after_call failing.old.script }
     ensures fault { IsTrue result → FaultedIn (calls_of failing.old) (calls_of failing.new) }
     ensures none { result ≡ false → calls_of failing.new ≡ calls_of failing.old }
 {
