@@ -24,3 +24,4 @@ pub mod PrintedFlags
 pub mod PrintedReadings
 pub mod PrintedRows
 pub mod PrintedTables
+pub mod PrintedLookups

@@ -19,7 +19,7 @@ use Rattle.libmount.proofs.PrintedRows.{IsPrintable, absolute_some, row_lacks}
 use Rattle.libmount.proofs.PrintedRows.{row_printed, row_shown}
 
 -- a good row is printed so that it can be read
-good_printable : (table : MountTable) → table.next_id < 2 ^ 64 → table.next_minor < 2 ^ 64
+pub good_printable : (table : MountTable) → table.next_id < 2 ^ 64 → table.next_minor < 2 ^ 64
     → (m : Mount) → IsGoodRow table m → IsPrintable m
 good_printable table ids minors m good = record {
   id = omega (arith, good.id);
@@ -40,11 +40,11 @@ good_row_shown table m place ids minors good =
 
 -- ---- lines
 
-abbrev printed_rows : List Mount → List ℕ
+abbrev pub printed_rows : List Mount → List ℕ
 printed_rows rows = flat_map (λ (m : Mount). print_row m ++ codes "\n") rows
 
 -- the first line of printed rows is the first row
-first_line : (m : Mount) (rest : List ℕ) → IsPrintable m
+pub first_line : (m : Mount) (rest : List ℕ) → IsPrintable m
     → slice_split (is_mark line_feed) ((print_row m ++ 10 ∷ []) ++ rest)
     ≡ print_row m ∷ slice_split (is_mark line_feed) rest
 first_line m rest good =

@@ -1,7 +1,8 @@
 -- What a printed table of mounts is read back as.
-use Rattle.std.specs.Prelude.{◌≡◌, [], Option, Some, None, Result, Ok, Err}
+use Rattle.std.specs.Prelude.{◌≡◌, ℕ, List, [], Option, Some, None, Result, Ok, Err}
+use Rattle.std.specs.Option.{option_map}
 use Rattle.libmount.specs.Items.{Item}
-use Rattle.libmount.specs.MountTables.{Mount}
+use Rattle.libmount.specs.MountTables.{Mount, last_at}
 use Rattle.libmount.specs.Options.{flags_of}
 use Rattle.libmount.specs.Reading.{Message}
 use Rattle.libmount.specs.Rows.{Row, text_bytes}
@@ -36,3 +37,7 @@ IsReadBack mount (Err message) = ⊥
 abbrev pub IsItemOf : Mount → Item → Type 0
 IsItemOf mount (Ok row) = Shows mount row
 IsItemOf mount (Err refused) = ⊥
+
+-- the flags of the last mount at a path
+abbrev pub flags_of_last : List ℕ → List Mount → Option ℕ
+flags_of_last path rows = option_map (λ row. row.flags) (last_at path rows)
