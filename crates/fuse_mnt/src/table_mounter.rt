@@ -1,11 +1,14 @@
 //! A mounter in memory.
 ghost use Rattle.std.specs.Prelude.{◌≡◌, ◌≢◌, ◌↔◌, ◌++◌, ◌∷◌, [], ℕ, Err, IfOk, OnOk, OnErr};
 ghost use Rattle.std.specs.Prelude.{IsTrue, false, option_copied};
+ghost use Rattle.std.specs.List.{AllZip};
 ghost use Rattle.port_base.specs.Failing.{after_call, first_calls, is_due};
 ghost use Rattle.port_base.specs.Flags.{bits_of};
 ghost use Rattle.libmount.specs.declared.mounter.MountFault.TheVariants as mount_fault;
+ghost use Rattle.libmount.specs.Items.{items};
 ghost use Rattle.libmount.specs.MountTables.{first_table, mount, print_table, umount};
 ghost use Rattle.libmount.specs.Mounters.{Caused, HasRoom, Leaves, is_remount};
+ghost use Rattle.libmount.specs.ReadBack.{IsItemOf};
 ghost use Rattle.libmount.specs.Scripts.{calls_of};
 ghost use Rattle.fuse_mnt.specs.Kept.{IsKept, IsKept-prop, good_from_kept};
 
@@ -123,6 +126,8 @@ impl Mounter for TableMounter {
 
     fn print(&mut self, alloc: Global) -> Result<Vec<u8>, MountFault>
         ensures text { IfOk result (λ text. text.items ≡ print_table self.old.table) }
+        ensures read_back { IfOk result (λ text. (place : ℕ)
+            → AllZip IsItemOf self.old.table.rows (items (place, text.items))) }
         ensures table { self.new.table ≡ self.old.table }
         ensures errno { (errno : ℕ) → result ≢ Err (mount_fault.Errno errno) }
         ensures caused { Caused (calls_of self.old.failing) (calls_of self.new.failing) result }
