@@ -1,16 +1,23 @@
 -- OPEN leaves a good state, and is refused by a core request's rule where it is one.
 use Rattle.std.proofs.Common.{◌≡◌, ◌≢◌, ℕ, ◌+◌, ◌≤◌, ◌<◌, Bool, true, false, cond, not, ◌||◌, ◌&&◌, [], ◌∷◌}
-use Rattle.std.proofs.Common.{refl, sym, ap, ◌∙◌, Option, Some, None, Result, Ok, Err, arith}
+use Rattle.std.proofs.Common.{refl, sym, ap, ◌∙◌, subst, Option, Some, None, Result, Ok, Err, arith}
+use Rattle.std.proofs.Common.{◌⊎◌, inl, inr, ⊎_elim}
 use Rattle.std.specs.Prelude.{◌==◌, ◌%◌, if◌then◌else◌}
 use Rattle.std.proofs.lemmas.Bool.{false≢true}
 use Rattle.std.proofs.lemmas.Bool.Decides.{nat_tests}
 use borrow.Author.Tests.{eqb-true}
 use Rattle.std.specs.FinMap.{get, insert}
 use Rattle.port_base.specs.OpenFlags.{access, has_flag}
-use Rattle.tree_model.specs.Tree.{Tree, Body, body_at, is_directory_at}
+use Rattle.tree_model.specs.Tree.{Tree, Records, Body, body_at, is_directory_at}
 use Rattle.tree_model.specs.Tree.Body.{File, Directory, Link}
 use Rattle.tree_model.specs.Attributes.{kind_of}
-use Rattle.tree_model.specs.Attributing.{set_len_of}
+use Rattle.tree_model.specs.Attributing.{len_refused, refused_at, resized, rewritten_at}
+use Rattle.tree_model.specs.Attributing.{set_len_of, with_changed}
+use Rattle.tree_model.specs.Good.{IsGoodTree}
+use Rattle.tree_model.specs.Making.{change, unless_refused}
+use Rattle.tree_model.specs.Sound.{AreStored, IsKept}
+use Rattle.tree_model.proofs.Attributing.{amended_kept, amended_stored}
+use Rattle.tree_model.proofs.Rewriting.{resized_good}
 use Rattle.tree_model.specs.OpenedFiles.{emptied_where, open_of}
 use Rattle.tree_model.specs.Opening.{body_answer, unless, open_refused, open_check_of}
 use Rattle.tree_model.specs.Opening.{kind_refused, opens_to_change}
@@ -27,7 +34,8 @@ use Rattle.tree_machine.specs.Good.{IsGoodMachine, IsOpenable}
 use Rattle.tree_machine.proofs.KeptStates.{kept_good, Gives}
 use Rattle.tree_machine.proofs.Handles.{handle_drawn}
 use Rattle.tree_machine.proofs.KindsKept.{openable_still}
-use Rattle.tree_machine.proofs.Setting.{open_keeps, set_to}
+use Rattle.tree_machine.proofs.KindsKept.{tree_in}
+use Rattle.tree_machine.proofs.Setting.{Keeps, keeps_refl, length_tame, set_to}
 use Rattle.tree_machine.proofs.Refusals.{passes, fails}
 
 both : (a b : Bool) → (a && b) ≡ true → (a ≡ true) × (b ≡ true)
@@ -146,13 +154,63 @@ opened_alike m ino flags h =
         (sym (to_read flags h).truncate)
     by_check (Err e) = refl
 
--- what is opened was allowed to be
-pub was_allowed : (t : Tree) (ino flags : ℕ) (u : Tree) → open_of t ino flags ≡ Ok (tt, u)
-    → open_check_of t ino flags ≡ Ok tt
-was_allowed t ino flags u is = by_check (open_check_of t ino flags) is where
-  by_check : (r : Result (Unit {0}) ℕ) → emptied_where r t ino flags ≡ Ok (tt, u) → r ≡ Ok tt
-  by_check (Ok tt) is = refl
-  by_check (Err e) is = absurd cc
+-- ---- what an open leaves
+
+module _ (t : Tree) (g : IsGoodTree t) (ino flags : ℕ) (u : Tree)
+    (is : open_of t ino flags ≡ Ok (tt, u)) where
+  -- what is opened was allowed to be
+  was_allowed : open_check_of t ino flags ≡ Ok tt
+  was_allowed = by_check (open_check_of t ino flags) is where
+    by_check : (r : Result (Unit {0}) ℕ) → emptied_where r t ino flags ≡ Ok (tt, u) → r ≡ Ok tt
+    by_check (Ok tt) is = refl
+    by_check (Err e) is = absurd cc
+
+  -- the tree is as it was, or a file has no bytes
+  left_or_emptied : (u ≡ t) ⊎ (set_len_of t ino 0 ≡ Ok (tt, u))
+  left_or_emptied = by_check (open_check_of t ino flags) is where
+    by_flag : (truncates : Bool)
+        → (if truncates then set_len_of t ino 0 else Ok (tt, t)) ≡ Ok (tt, u)
+        → (u ≡ t) ⊎ (set_len_of t ino 0 ≡ Ok (tt, u))
+    by_flag true is = inr is
+    by_flag false is = inl (sym (ap (tree_in u) is))
+
+    by_check : (r : Result (Unit {0}) ℕ) → emptied_where r t ino flags ≡ Ok (tt, u)
+        → (u ≡ t) ⊎ (set_len_of t ino 0 ≡ Ok (tt, u))
+    by_check (Ok tt) is = by_flag (has_flag O_TRUNC flags) is
+    by_check (Err e) is = absurd cc
+
+  pub open_keeps : Keeps t u
+  open_keeps = ⊎_elim (λ same. subst (Keeps t) (sym same) (keeps_refl t g))
+      (λ told. length_tame ino 0 t u g told) left_or_emptied
+
+  -- what holds of a tree, and of it with the file emptied, holds of what is left
+  by_record : (P : Records → Type 0) → P t.records
+      → (refused_at (len_refused t.limits.file 0) (body_at t.records ino) ≡ None
+      → P (change (rewritten_at t.moment (resized 0)) t.records ino))
+      → P u.records
+  by_record P old new = ⊎_elim
+      (λ same. subst (λ (x : Tree). P x.records) (sym same) old)
+      (λ told. by_refusal (refused_at (len_refused t.limits.file 0) (body_at t.records ino)) told
+      new)
+      left_or_emptied
+    where
+      by_refusal : (o : Option ℕ)
+          → unless_refused {A = Unit {0}} o tt
+          (with_changed (rewritten_at t.moment (resized 0)) ino t) ≡ Ok (tt, u)
+          → (o ≡ None → P (change (rewritten_at t.moment (resized 0)) t.records ino)) → P u.records
+      by_refusal (Some e) is new = absurd cc
+      by_refusal None is new = subst (λ (x : Tree). P x.records) (ap (tree_in u) is) (new refl)
+
+  -- what is held stays stored, and what isn't linked or held isn't stored
+  pub open_stays : (held : ℕ → Bool) → IsKept t.records held → IsKept u.records held
+  open_stays held kept = by_record (λ rs. IsKept rs held) kept
+      (λ free. amended_kept t g ino (len_refused t.limits.file 0)
+      (rewritten_at t.moment (resized 0)) (resized_good t g ino 0) free held kept)
+
+  pub open_stored : (held : ℕ → Bool) → AreStored t.records held → AreStored u.records held
+  open_stored held stored = by_record (λ rs. AreStored rs held) stored
+      (λ free. amended_stored t g ino (len_refused t.limits.file 0)
+      (rewritten_at t.moment (resized 0)) (resized_good t g ino 0) free held stored)
 
 module _ (s : Settings) (m : MachineState) (g : IsGoodMachine s m) where
   pub opened_good : (flags ino : ℕ) → is_at_limit s m ≡ false
@@ -163,7 +221,7 @@ module _ (s : Settings) (m : MachineState) (g : IsGoodMachine s m) where
   opened_good flags ino open_limit plain (Err e) told = kept_good s m g
   opened_good flags ino open_limit plain (Ok (tt, u)) told =
       let keeps = open_keeps m.tree g.tree ino flags u told in
-      let allowed = was_allowed m.tree ino flags u told in
+      let allowed = was_allowed m.tree g.tree ino flags u told in
       let changed : MachineState = record m { tree = u } in
       let v : Handle = record { ino = ino; access = access flags; append = has_flag O_APPEND flags }
       in

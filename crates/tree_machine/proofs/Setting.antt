@@ -1,10 +1,8 @@
 -- SETATTR leaves a good state: each of its steps keeps a good tree good, and all kinds.
 use Rattle.std.proofs.Common.{◌≡◌, ℕ, Bool, true, false, List, [], ◌∷◌, ◌++◌, refl, sym, ap, ◌∙◌, subst}
 use Rattle.std.proofs.Common.{Option, Some, None, Result, Ok, Err, IsSome, inl, inr}
-use Rattle.std.specs.Prelude.{unwrap_or, ◌%◌, MatchResult, if◌then◌else◌}
+use Rattle.std.specs.Prelude.{unwrap_or, ◌%◌, MatchResult}
 use Rattle.std.specs.FinMap.{get}
-use Rattle.port_base.specs.OpenFlags.{has_flag}
-use Rattle.port_base.specs.declared.oflag.TheConstants.{O_TRUNC}
 use Rattle.tree_model.specs.declared.attributes.TimeSet.{TimeSet}
 use Rattle.tree_model.specs.Attributes.{kind_of}
 use Rattle.tree_model.specs.Attributing.{len_refused, never, owned_by, refused_at, refused_for_link}
@@ -17,8 +15,6 @@ use Rattle.tree_model.specs.AttributeSteps.{size_refused, size_steps, step_if, s
 use Rattle.tree_model.specs.AttributeSteps.{times_steps, IsAfterFront}
 use Rattle.tree_model.specs.Good.{IsGoodTree}
 use Rattle.tree_model.specs.Making.{unless_refused}
-use Rattle.tree_model.specs.OpenedFiles.{emptied_where, open_of}
-use Rattle.tree_model.specs.Opening.{open_check_of}
 use Rattle.tree_model.specs.Settings.{Settings}
 use Rattle.tree_model.specs.Tree.{Tree, Record, Body, body_at}
 use Rattle.tree_model.specs.Tree.Body.{File, Directory, Link}
@@ -176,20 +172,6 @@ front_keeps (step ∷ steps) (one, more) t g u (inr rest) =
       by_step (Err e) is later rest = absurd rest
       by_step (Ok (tt, v)) is later rest =
           let first = one t v g is in keeps_trans t v u first (later v first.good rest)
-
--- ---- a file is opened
-
-pub open_keeps : (t : Tree) → IsGoodTree t → (ino flags : ℕ) (u : Tree)
-    → open_of t ino flags ≡ Ok (tt, u) → Keeps t u
-open_keeps t g ino flags u is = by_check (open_check_of t ino flags) is where
-  by_flag : (truncates : Bool)
-      → (if truncates then set_len_of t ino 0 else Ok (tt, t)) ≡ Ok (tt, u) → Keeps t u
-  by_flag true is = length_tame ino 0 t u g is
-  by_flag false is = subst (Keeps t) (ap (tree_in u) is) (keeps_refl t g)
-
-  by_check : (r : Result (Unit {0}) ℕ) → emptied_where r t ino flags ≡ Ok (tt, u) → Keeps t u
-  by_check (Ok tt) is = by_flag (has_flag O_TRUNC flags) is
-  by_check (Err e) is = absurd cc
 
 -- ---- SETATTR
 
