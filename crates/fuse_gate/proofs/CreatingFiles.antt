@@ -47,15 +47,11 @@ use Rattle.fuse_gate.specs.declared.gate.Gate.{Gate}
 use Rattle.fuse_gate.proofs.Asking.{Tells, pair}
 use Rattle.fuse_gate.proofs.Standings.{node_good, fids_below, sent_stands, in_all}
 use Rattle.fuse_gate.proofs.Changing.{tree_paired}
+use Rattle.fuse_gate.proofs.CopiedFids.{opened_copy}
 use Rattle.fuse_gate.proofs.Serving.{SentAlone, one_alone, one_message, unchanged}
 use Rattle.fuse_gate.proofs.TreeChanging.{held_same}
 use Rattle.fuse_gate.proofs.MakingDirectories.{kept_more}
 use Rattle.fuse_gate.proofs.OpenEntries.{later_free}
-
--- what is held by a fid more
-more_held : (b c d : Bool) → (c ≡ true → d ≡ true) → (b || c) ≡ true → (b || d) ≡ true
-more_held true c d m h = refl
-more_held false c d m h = m h
 
 abbrev view : {A : Type 0} → Result A ℕ → Reply
 view (Ok a) = Refused EIO
@@ -182,28 +178,9 @@ module _ {g : Gate} (n : Moment) {id : ℕ} {k : Node} {name : List ℕ} (flags 
     abbrev s2 : ServerState
     s2 = record s1 { fids = insert s.fids (g.next + 1) (fid_opened (closed ino) flags) }
 
-    twice : insert copied.fids (g.next + 1) (fid_opened (closed ino) flags)
-        ≡ insert s.fids (g.next + 1) (fid_opened (closed ino) flags)
-    twice = same_by _ _ (g.next + 1)
-        (inserted copied.fids (g.next + 1) (fid_opened (closed ino) flags)
-        ∙ sym (inserted s.fids (g.next + 1) (fid_opened (closed ino) flags)))
-        (λ q ne. insert_keeps copied.fids (g.next + 1) (fid_opened (closed ino) flags) q ne
-        ∙ insert_keeps s.fids (g.next + 1) (closed k.ino) q ne
-        ∙ sym (insert_keeps s.fids (g.next + 1) (fid_opened (closed ino) flags) q ne))
-
-    held_too : (i : ℕ) → is_held s.fids i ≡ true → is_held s2.fids i ≡ true
-    held_too i is =
-        let step = fid_count-new s.fids (g.next + 1) (fid_opened (closed ino) flags) copy_fresh i
-        in
-        more (fid_count s.fids i) (fid_count s2.fids i) (omega (arith, step)) is
-      where
-        more : (a b : ℕ) → a ≤ b → nat_lt 0 a ≡ true → nat_lt 0 b ≡ true
-        more a b low is = grind (arith, nat_tests)
-
     stand_is : (client_created copied (g.next + 1) flags (Ok (ino, u))).1 ≡ s2
-    stand_is = ap (λ (f : Fids). kept_server (record s1 { fids = f })) twice
-        ∙ kept_state_kept s2 (λ i some. more_held (is_linked u.records i) (is_held s.fids i)
-        (is_held s2.fids i) (held_too i) (kept_held i some))
+    stand_is = opened_copy s.fids (g.next + 1) copy_fresh (closed k.ino)
+        (fid_opened (closed ino) flags) s1 kept_held
 
     path_is : (qid_at u ino).1.1 ≡ ino
     path_is = by_record (get u.records ino) refl all.2 where
