@@ -16,7 +16,8 @@ use Rattle.tree_model.specs.declared.attributes.TheConstants.{BLOCK_SIZE}
 use Rattle.tree_model.specs.Good.{IsGoodTree, IsGoodBody}
 use Rattle.fuse_wire.specs.Head.{head_of}
 use Rattle.tree_machine.specs.Setting.{given_handle, set_reply, set_steps}
-use Rattle.fuse_wire.specs.Request.{Request, init, lookup, getattr, unlink, open_file, read, opendir}
+use Rattle.fuse_wire.specs.Request.{Request, init, lookup, getattr, unlink, open_file, read}
+use Rattle.fuse_wire.specs.Request.{opendir}
 use Rattle.fuse_wire.specs.Request.{readdir, releasedir, flush, release, forget, batch_forget}
 use Rattle.fuse_wire.specs.Request.{rmdir, rename, rename2, symlink, mknod, readlink, statfs, fsync}
 use Rattle.fuse_wire.specs.Request.{fsyncdir, interrupt, destroy, mkdir, setattr, write, link}

@@ -1,5 +1,6 @@
 -- SETATTR: a message sets attributes step by step, and another asks for them all.
-use Rattle.std.proofs.Common.{◌≡◌, ◌≢◌, ℕ, ◌≤◌, Bool, true, refl, sym, ap, ◌∙◌, subst, Option, Some, None}
+use Rattle.std.proofs.Common.{◌≡◌, ◌≢◌, ℕ, ◌≤◌, Bool, true, refl, sym, ap, ◌∙◌, subst, Option, Some}
+use Rattle.std.proofs.Common.{None}
 use Rattle.std.proofs.Common.{Result, Ok, Err, inl, inr, ⊎_elim, List, arith}
 use Rattle.std.specs.FinMap.{get}
 use Rattle.port_base.specs.Faults.{Rose}
@@ -24,7 +25,7 @@ use Rattle.tree_machine.specs.Messages.{set_messages}
 use Rattle.tree_machine.specs.Faults.{PartOf}
 use Rattle.tree_machine.specs.Good.{IsGoodMachine}
 use Rattle.tree_machine.proofs.KeptStates.{kept_at, kept_good}
-use Rattle.tree_machine.proofs.KindsKept.{leaves_kinds, stays_kind}
+use Rattle.tree_machine.proofs.KindsKept.{leaves_kinds}
 use Rattle.tree_machine.proofs.Setting.{Keeps as KeepsAll, front_keeps, set_keeps, set_tame, set_to}
 use Rattle.p9_tmsg.specs.declared.message.Tsetattr.{Tsetattr}
 use Rattle.fid_model.specs.Fids.{ServerState, Fid, IsGoodServer, is_held, kept_state as kept_server}

@@ -1,5 +1,6 @@
 -- WRITE: the refusals, and then the file of a handle.
-use Rattle.std.proofs.Common.{◌≡◌, ◌≢◌, ℕ, Bool, true, false, List, [], ◌∷◌, length, take, refl, sym, ap, ◌∙◌}
+use Rattle.std.proofs.Common.{◌≡◌, ◌≢◌, ℕ, Bool, true, false, List, [], ◌∷◌, length, take, refl}
+use Rattle.std.proofs.Common.{sym, ap, ◌∙◌}
 use Rattle.std.proofs.Common.{subst, Some, None, Option, Result, Ok, arith, inr}
 use Rattle.std.specs.Prelude.{◌==◌, not}
 use Rattle.std.specs.FinMap.{get}
@@ -17,7 +18,8 @@ use Rattle.tree_machine.specs.Core.{handle_ino}
 use Rattle.tree_machine.specs.Good.{IsOpenable}
 use Rattle.tree_machine.specs.Messages.{write_messages, write_piece}
 use Rattle.tree_machine.specs.Faults.{PartOf}
-use Rattle.tree_machine.specs.Writing.{place_written, write_refusal, write_told, written_tree, wrote}
+use Rattle.tree_machine.specs.Writing.{place_written, write_refusal, write_told, written_tree}
+use Rattle.tree_machine.specs.Writing.{wrote}
 use Rattle.fid_model.specs.Fids.{IsGoodServer}
 use Rattle.fid_model.specs.Files.{write_told as fid_told}
 use Rattle.fid_model.specs.Moments.{Moment}
@@ -74,6 +76,7 @@ module _ {g : Gate} (n : Moment) (st : IsInStep g n.state) (handle offset : ℕ)
 
       -- the machine tells what the fid tells
       same_told : (xs : List ℕ) → fid_told n.state handle offset xs ≡ write_told m handle offset xs
+      unfolding writes_file
       same_told xs =
           told_by g n handle offset bytes writes_file n.state (handle_fid st handle h at) offset xs
           ∙ sym (ap (λ (o : Option MachineHandle). write_of n.state.tree (handle_ino o)

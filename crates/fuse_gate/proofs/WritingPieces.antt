@@ -1,20 +1,20 @@
 -- WRITE, piece by piece.
-use Rattle.std.proofs.Common.{◌≡◌, ◌≢◌, ℕ, zero, suc, ◌+◌, ◌-◌, ◌^◌, ◌<◌, ◌≤◌, min, Bool, true, false, cond}
-use Rattle.std.proofs.Common.{List, [], ◌++◌, length, take, drop, Some, None, Option, Result, Ok, Err}
+use Rattle.std.proofs.Common.{◌≡◌, ◌≢◌, ℕ, zero, suc, ◌+◌, ◌-◌, ◌^◌, ◌<◌, ◌≤◌, min, Bool, true}
+use Rattle.std.proofs.Common.{false, cond}
+use Rattle.std.proofs.Common.{List, ◌++◌, length, take, drop, Some, None, Option, Result, Ok, Err}
 use Rattle.std.proofs.Common.{refl, sym, ap, ◌∙◌, subst, arith, ◌⊎◌, ⊎_elim, inl, inr}
-use Rattle.std.proofs.Common.{append_assoc, append-nil, length-append, length-take, length-drop}
+use Rattle.std.proofs.Common.{append_assoc, length-take, length-drop}
 use Rattle.std.specs.Prelude.{option_map}
 use Rattle.std.specs.FinMap.{get}
-use Rattle.std.proofs.lemmas.Bool.{cases_eq}
 use Rattle.std.proofs.lemmas.List.{drop-drop, take_all, take-append-drop}
 use Rattle.std.proofs.Math.Seq.{take-add}
-use Rattle.port_base.specs.Faults.{Rose}
 use Rattle.port_base.specs.declared.errno.TheConstants.{EBADF, EFBIG, EIO}
 use Rattle.tree_model.specs.Attributes.{attr_or_missing}
-use Rattle.tree_model.specs.Attributing.{write_of, write_refused, fitting, overwritten_at, refused_at}
+use Rattle.tree_model.specs.Attributing.{write_of, write_refused, fitting, overwritten_at}
+use Rattle.tree_model.specs.Attributing.{refused_at}
 use Rattle.tree_model.specs.Attributing.{written}
 use Rattle.tree_model.specs.OpenedFiles.{size_at, size_told}
-use Rattle.tree_model.specs.Tree.{Tree, Record, Records, body_at, keep}
+use Rattle.tree_model.specs.Tree.{Tree, Record, body_at, keep}
 use Rattle.tree_model.specs.Tree.Body.{File}
 use Rattle.tree_model.specs.Sound.{IsKept}
 use Rattle.tree_model.proofs.Attributing.{amended_kept}
@@ -28,7 +28,8 @@ use Rattle.tree_machine.specs.Replies.Reply.{Refused, Written}
 use Rattle.tree_machine.specs.Messages.{pieces, write_messages, write_piece}
 use Rattle.tree_machine.specs.Writing.{written_reply, written_tree}
 use Rattle.tree_machine.proofs.Pieces.{last_short, last_whole, one_more}
-use Rattle.tree_machine.proofs.Setting.{Keeps as KeepsAll, keeps_refl as tree_same, keeps_trans as tree_then}
+use Rattle.tree_machine.proofs.Setting.{Keeps as KeepsAll, keeps_refl as tree_same}
+use Rattle.tree_machine.proofs.Setting.{keeps_trans as tree_then}
 use Rattle.tree_machine.proofs.WrittenFiles.{write_keeps}
 use Rattle.fid_model.specs.FidCalls.{by_open_fid}
 use Rattle.fid_model.specs.Fids.{ServerState, Fid, IsGoodServer, appends, is_held, is_writable}
@@ -38,12 +39,11 @@ use Rattle.fid_model.proofs.Keeping.{keep_same}
 use Rattle.fid_model.proofs.Moments.{keeps_refl, keeps_trans}
 use Rattle.p9_client.specs.Changing.{changed, OldOrTold}
 use Rattle.fuse_gate.specs.Standing.{IsInStep, machine_of, piece_of}
-use Rattle.fuse_gate.specs.Steps.{Serves}
 use Rattle.fuse_gate.specs.Changes.{one_sent}
 use Rattle.fuse_gate.specs.Writing.{WritesFile, LeavesFront, ServesWriting}
 use Rattle.fuse_gate.specs.declared.gate.Gate.{Gate}
 use Rattle.fuse_gate.proofs.Standings.{sent_stands, stands_kept}
-use Rattle.fuse_gate.proofs.Serving.{SentAlone, none_sent, one_more_sent, hurt}
+use Rattle.fuse_gate.proofs.Serving.{SentAlone, none_sent, one_more_sent}
 use Rattle.fuse_gate.proofs.TreeChanging.{stands_with}
 
 -- ---- lists and counts

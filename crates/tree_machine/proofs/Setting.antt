@@ -1,5 +1,6 @@
 -- SETATTR leaves a good state: each of its steps keeps a good tree good, and all kinds.
-use Rattle.std.proofs.Common.{◌≡◌, ℕ, Bool, true, false, List, [], ◌∷◌, ◌++◌, refl, sym, ap, ◌∙◌, subst}
+use Rattle.std.proofs.Common.{◌≡◌, ℕ, Bool, true, false, List, [], ◌∷◌, ◌++◌, refl, sym, ap, ◌∙◌}
+use Rattle.std.proofs.Common.{subst}
 use Rattle.std.proofs.Common.{Option, Some, None, Result, Ok, Err, IsSome, inl, inr}
 use Rattle.std.specs.Prelude.{unwrap_or, ◌%◌, MatchResult}
 use Rattle.std.specs.FinMap.{get}
@@ -18,7 +19,8 @@ use Rattle.tree_model.specs.Making.{unless_refused}
 use Rattle.tree_model.specs.Settings.{Settings}
 use Rattle.tree_model.specs.Tree.{Tree, Record, Body, body_at}
 use Rattle.tree_model.specs.Tree.Body.{File, Directory, Link}
-use Rattle.tree_model.proofs.Attributing.{call_good, low_mode, mode_good, owned_good, restamped_good}
+use Rattle.tree_model.proofs.Attributing.{call_good, low_mode, mode_good, owned_good}
+use Rattle.tree_model.proofs.Attributing.{restamped_good}
 use Rattle.tree_model.proofs.Attributing.{retimed_good}
 use Rattle.tree_model.proofs.Rewriting.{resized_good}
 use Rattle.fuse_wire.specs.declared.setattr.SetAttrIn.{SetAttrIn}

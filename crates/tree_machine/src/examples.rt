@@ -2,12 +2,12 @@
 ghost use Rattle.std.specs.Prelude.{◌≡◌, true, false, Ok, Err, Some, None, [], codes};
 ghost use Rattle.std.specs.FinMap as map;
 ghost use Rattle.port_base.specs.declared.errno.TheConstants.{EBADF, EISDIR, ENOTDIR};
-ghost use Rattle.port_base.specs.declared.errno.TheConstants.{EACCES, EINVAL, ESTALE};
+ghost use Rattle.port_base.specs.declared.errno.TheConstants.{EACCES, EFBIG, EINVAL, ESTALE};
 ghost use Rattle.tree_machine.specs.State.{begun};
 ghost use Rattle.fuse_wire.specs.Request.{unlink, open_file, read, opendir, readdir, flush};
 ghost use Rattle.fuse_wire.specs.Request.{release, rmdir, rename2, mknod, readlink, statfs};
 ghost use Rattle.fuse_wire.specs.Request.{fsync, destroy};
-ghost use Rattle.tree_machine.specs.Replies.Reply.{Refused, Opened, Bytes, Sizes, Done};
+ghost use Rattle.tree_machine.specs.Replies.Reply.{Refused, Opened, Bytes, Written, Sizes, Done};
 ghost use Rattle.tree_machine.specs.State.Phase.{Over};
 ghost use Rattle.tree_machine.specs.Requests.{answer_of, is_core};
 ghost use Rattle.tree_machine.specs.Forgetting.{forgotten};
@@ -15,6 +15,8 @@ ghost use Rattle.tree_machine.specs.Setting.{given_handle, is_read_alone, new_at
 ghost use Rattle.tree_machine.specs.FileSamples.{asked, emptied_hello, to_empty};
 ghost use Rattle.tree_machine.specs.Creating.{create_refusal, created, lacks_two};
 ghost use Rattle.tree_machine.specs.Messages.{created_messages, linked_messages};
+ghost use Rattle.tree_machine.specs.Messages.{write_messages, write_piece};
+ghost use Rattle.tree_machine.specs.Writing.{place_written, write_refusal, wrote};
 ghost use Rattle.tree_machine.specs.Naming.{link_refusal, linked};
 ghost use Rattle.tree_model.specs.declared.attributes.TimeSet.TheVariants.{Keep, Now, At};
 ghost use Rattle.tree_machine.specs.FileSamples.{open_frame, open_reply, with_open, read_frame};
@@ -231,4 +233,22 @@ fn files_are_made_and_linked()
         ≡ Some EINVAL }
     ensures not_linked { linked settings with_hello 2 (Err EISDIR) ≡ (Refused EISDIR, with_hello) }
     ensures linked_by { linked_messages (Err EISDIR) ≡ 1 }
+{}
+
+/// What is written: by a handle that is open to be written, piece by piece, and told.
+fn files_are_written()
+    ensures unknown { write_refusal None ≡ Some EBADF }
+    ensures to_read { write_refusal (Some (record { ino = 2; access = 0; append = false }))
+        ≡ Some EBADF }
+    ensures to_write { write_refusal (Some (record { ino = 2; access = 1; append = false }))
+        ≡ None }
+    ensures offset { place_written tree (Some (record { ino = 2; access = 1; append = false })) 3
+        ≡ 3 }
+    ensures piece { write_piece 4341 ≡ 4329 }
+    ensures three { write_messages 4329 10000 (Ok (10000, tree)) ≡ 3 }
+    ensures short { write_messages 4329 8658 (Ok (8000, tree)) ≡ 2 }
+    ensures full { write_messages 4329 4330 (Ok (4329, tree)) ≡ 2 }
+    ensures none { write_messages 4329 1 (Err EFBIG) ≡ 1 }
+    ensures told { wrote with_hello (Ok (7, tree)) ≡ (Written 7, record with_hello { tree = tree }) }
+    ensures refused { wrote with_hello (Err EFBIG) ≡ (Refused EFBIG, with_hello) }
 {}

@@ -1,8 +1,11 @@
 -- Bytes that are written piece by piece are written as one.
-use Rattle.std.proofs.Common.{◌≡◌, ℕ, zero, suc, ◌+◌, ◌-◌, ◌≤◌, List, [], ◌∷◌, ◌++◌, length, take, drop, replicate}
-use Rattle.std.proofs.Common.{refl, sym, ap, ◌∙◌, arith, append_assoc, append-nil, length-append, length-take, length-drop}
+use Rattle.std.proofs.Common.{◌≡◌, ℕ, zero, suc, ◌+◌, ◌-◌, ◌≤◌, List, [], ◌∷◌, ◌++◌, length, take}
+use Rattle.std.proofs.Common.{drop, replicate}
+use Rattle.std.proofs.Common.{refl, sym, ap, ◌∙◌, arith, append_assoc, append-nil, length-append}
+use Rattle.std.proofs.Common.{length-take, length-drop}
 use Rattle.std.proofs.lemmas.List.{take_at, drop_at, drop-drop, take-append-le, take_all}
-use Rattle.std.proofs.Common.{Bool, true, false, cond, not, ◌&&◌, Option, Some, None, Result, Ok, Err, ◌<◌}
+use Rattle.std.proofs.Common.{Bool, true, false, cond, not, ◌&&◌, Option, Some, None, Result, Ok}
+use Rattle.std.proofs.Common.{Err, ◌<◌}
 use Rattle.std.proofs.Common.{⊎_elim, nat_le}
 use Rattle.std.specs.Prelude.{◌==◌, option_map}
 use Rattle.std.specs.FinMap.{get}
@@ -12,7 +15,8 @@ use Rattle.std.proofs.Math.Seq.{take-append-add}
 use Rattle.port_base.specs.declared.errno.TheConstants.{EFBIG}
 use Rattle.tree_model.specs.declared.attributes.Stamp.{Stamp}
 use Rattle.tree_model.specs.Attributing.{resized, written, with_bytes, rewritten_at, with_changed}
-use Rattle.tree_model.specs.Attributing.{overwritten_at, fitting, write_of, write_refused, refused_at}
+use Rattle.tree_model.specs.Attributing.{overwritten_at, fitting, write_of, write_refused}
+use Rattle.tree_model.specs.Attributing.{refused_at}
 use Rattle.tree_model.specs.Making.{change, unless_refused}
 use Rattle.tree_model.specs.Tree.{Tree, Record, Records, Body, body_at}
 use Rattle.tree_model.specs.Tree.Body.{File, Directory, Link}

@@ -1,5 +1,5 @@
 -- The first piece, the next ones, and each end.
-use Rattle.std.proofs.Common.{◌≡◌, ◌<◌, ℕ, ◌+◌, ◌⊎◌, inl, inr, length, refl, arith, ⊎_elim}
+use Rattle.std.proofs.Common.{◌≡◌, ◌<◌, ◌+◌, ◌⊎◌, inl, inr, length, refl, arith}
 use Rattle.port_base.specs.declared.errno.TheConstants.{EFBIG}
 use Rattle.fuse_gate.proofs.Asking.{on_err}
 use Rattle.fuse_gate.proofs.WritingPieces.{begins, unfinished, ended, refused, finished}
