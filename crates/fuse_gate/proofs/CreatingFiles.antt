@@ -1,18 +1,17 @@
 -- A file is made by a copy of a directory's fid, which then names it; where that is refused, the
 -- copy goes again.
-use Rattle.std.proofs.Common.{◌≡◌, ℕ, ◌+◌, ◌<◌, ◌≤◌, Bool, true, false, ◌||◌, List}
+use Rattle.std.proofs.Common.{◌≡◌, ℕ, ◌+◌, ◌<◌, ◌≤◌, Bool, List}
 use Rattle.std.proofs.Common.{refl, sym, ap, ◌∙◌, subst, Option, Some, None, Result, Ok, Err, arith}
-use Rattle.std.proofs.Common.{IsSome, ◌⊎◌, inl, inr, ⊎_elim, nat_lt}
+use Rattle.std.proofs.Common.{IsSome, ◌⊎◌, inl, inr, ⊎_elim}
 use Rattle.std.proofs.lemmas.Bool.{false≢true}
-use Rattle.std.proofs.lemmas.Bool.Decides.{nat_tests}
 use Rattle.std.specs.FinMap.{get, insert, len}
 use Rattle.port_base.specs.Faults.{Rose}
 use Rattle.port_base.specs.declared.errno.TheConstants.{EIO}
-use Rattle.tree_model.specs.Tree.{Tree, Record, is_linked}
+use Rattle.tree_model.specs.Tree.{Tree, Record}
 use Rattle.tree_model.specs.Attributes.{Qid, attr_or_missing}
 use Rattle.tree_model.specs.Good.{IsGoodTree}
 use Rattle.tree_model.specs.Sound.{IsKept}
-use Rattle.tree_model.proofs.Maps.{inserted, insert_keeps, undone, same_by}
+use Rattle.tree_model.proofs.Maps.{inserted, undone}
 use Rattle.tree_machine.specs.State.{MachineState, kept_state, is_named}
 use Rattle.tree_machine.specs.Replies.{Reply}
 use Rattle.tree_machine.specs.Replies.Reply.{Refused}
@@ -25,15 +24,14 @@ use Rattle.tree_machine.proofs.MadeNames.{changed_tree_good}
 use Rattle.tree_machine.proofs.CreatedFiles.{create_access, create_leaves, create_openable}
 use Rattle.tree_machine.proofs.CreatedFiles.{create_keeps, create_stays, create_unknown}
 use Rattle.tree_machine.proofs.CreatedFiles.{room_for_one, room_for_two, opened_named}
-use Rattle.fid_model.specs.Fids.{ServerState, Fid, Fids, IsGoodServer, closed, is_held, fid_count}
+use Rattle.fid_model.specs.Fids.{ServerState, Fid, Fids, IsGoodServer, closed, is_held}
 use Rattle.fid_model.specs.Fids.{kept_state as kept_server}
 use Rattle.fid_model.specs.FidCalls.{by_fid}
 use Rattle.tree_model.specs.OpenedFiles.{new_file_of}
 use Rattle.fid_model.specs.Answers.{opened as fid_opened, qid_at, qid_told}
 use Rattle.fid_model.specs.Calls.{clunked}
 use Rattle.fid_model.specs.Moments.{Moment, AskedOne, Asks}
-use Rattle.fid_model.proofs.FidCounts.{fid_count-new}
-use Rattle.fid_model.proofs.Keeping.{keep_same, kept_state_kept, kept_state_good}
+use Rattle.fid_model.proofs.Keeping.{keep_same, kept_state_good}
 use Rattle.p9_client.specs.Changing.{OldOrTold}
 use Rattle.p9_client.specs.Views.{IsRoomy}
 use Rattle.p9_client.specs.Opening.{copied_told, created_told, created as client_created}

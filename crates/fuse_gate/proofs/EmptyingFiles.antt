@@ -1,14 +1,14 @@
 -- A copy of a node's fid is opened, by flags that may empty its file, and becomes a handle; where
 -- that is refused, the copy goes again.
-use Rattle.std.proofs.Common.{◌≡◌, ℕ, ◌+◌, ◌≤◌, Bool, refl, sym, ap, ◌∙◌, subst, Option, Some, Result}
+use Rattle.std.proofs.Common.{◌≡◌, ℕ, ◌+◌, ◌≤◌, Bool, refl, sym, ap, ◌∙◌, subst, Result}
 use Rattle.std.proofs.Common.{Ok, Err, arith, IsSome, ◌⊎◌, inl, inr, ⊎_elim}
 use Rattle.std.specs.FinMap.{FinMap, get, insert}
 use Rattle.port_base.specs.Faults.{Rose}
 use Rattle.port_base.specs.OpenFlags.{access, has_flag}
 use Rattle.port_base.specs.declared.errno.TheConstants.{EIO}
 use Rattle.port_base.specs.declared.oflag.TheConstants.{O_APPEND}
-use Rattle.tree_model.specs.Tree.{Tree, Record}
-use Rattle.tree_model.specs.Attributes.{Qid, kind_of, qid_type}
+use Rattle.tree_model.specs.Tree.{Tree}
+use Rattle.tree_model.specs.Attributes.{Qid}
 use Rattle.tree_model.specs.OpenedFiles.{open_of}
 use Rattle.tree_model.specs.Sound.{IsKept}
 use Rattle.tree_model.proofs.Maps.{inserted, undone}

@@ -168,8 +168,8 @@ emptied_is =
 pub emptied_answered : (answer_of settings with_hello 2 (Ok (open_file to_empty))).0 ≡ Opened 3
 emptied_answered = ap (λ (x : Reply × MachineState). x.0) emptied_is
 
-pub emptied_leaves : get (answer_of settings with_hello 2 (Ok (open_file to_empty))).1.tree.records 2
-    ≡ Some emptied_hello
+pub emptied_leaves : get (answer_of settings with_hello 2
+    (Ok (open_file to_empty))).1.tree.records 2 ≡ Some emptied_hello
 emptied_leaves =
     ap (λ (x : Reply × MachineState). get x.1.tree.records 2) emptied_is
     ∙ change_at (rewritten_at tree.moment (resized 0)) tree.records 2

@@ -23,8 +23,8 @@ pub returns-in-Err-clause-served : goal.returns-in-Err-clause-served
 returns-in-Err-clause-served g c =
     copy_refused (g.N.Nine.at c.args.nine.now) c.requires
     (g.met.N.Nine.good c.args.nine.now) _
-    c.in-Err.errno _ (g.N.Nine.at c.copy_fid.new.nine) c.in-Err.is c.in_ok-copied.ensures.answer c.count_message.ensures
-    c.in_ok-copied.ensures.kept.rises
+    c.in-Err.errno _ (g.N.Nine.at c.copy_fid.new.nine) c.in-Err.is c.in_ok-copied.ensures.answer
+    c.count_message.ensures c.in_ok-copied.ensures.kept.rises
 
 pub returns-in_err-opened-clause-unfinished : goal.returns-in_err-opened-clause-unfinished
 returns-in_err-opened-clause-unfinished g c =
@@ -62,9 +62,11 @@ returns-in_ok-add_handle-in-Ok-clause-served g c =
     open_made (g.N.Nine.at c.args.nine.now) c.requires
     (g.met.N.Nine.good c.args.nine.now) w.0 w.1
     (g.N.Nine.at c.open_truncated.new.nine) w.2 c.count_message-2.new.self _
-    (one_more_sent (one_alone c.count_message.new.self (g.N.Nine.at c.copy_fid.new.nine)
-    c.count_message.ensures c.in_ok-copied.ensures.answer.asked) c.count_message-2.new.self
-    (g.N.Nine.at c.open_truncated.new.nine) c.count_message-2.ensures c.in_ok-opened.ensures.answer.asked)
+    (one_more_sent
+    (one_alone c.count_message.new.self (g.N.Nine.at c.copy_fid.new.nine) c.count_message.ensures
+    c.in_ok-copied.ensures.answer.asked) c.count_message-2.new.self
+    (g.N.Nine.at c.open_truncated.new.nine) c.count_message-2.ensures
+    c.in_ok-opened.ensures.answer.asked)
     (g.met.N.Nine.good c.open_truncated.new.nine)
     (c.in_ok-add_handle-in-Ok.ensures ∙ ap
     (λ (h : Handle). with_handle c.count_message-2.new.self h) c.handle_by.ensures)
@@ -102,9 +104,11 @@ returns-in_ok-clunk-in-Err-opened-clause-served g c =
     (g.N.Nine.at c.copy_fid.new.nine) c.in_default.is c.in_ok-copied.ensures.answer)
     (qid_answer c.in_ok-opened.opened) c.in_ok-opened.ensures.answer.asks c.in-Err-opened.errno
     (ap qid_answer c.in-Err-opened.is) _
-    (g.N.Nine.at c.clunk.new.nine) (one_more_sent (one_more_sent (one_alone c.count_message.new.self (g.N.Nine.at c.copy_fid.new.nine)
-    c.count_message.ensures c.in_ok-copied.ensures.answer.asked) c.count_message-2.new.self
-    (g.N.Nine.at c.open_truncated.new.nine) c.count_message-2.ensures c.in_ok-opened.ensures.answer.asked)
+    (g.N.Nine.at c.clunk.new.nine) (one_more_sent (one_more_sent
+    (one_alone c.count_message.new.self (g.N.Nine.at c.copy_fid.new.nine) c.count_message.ensures
+    c.in_ok-copied.ensures.answer.asked) c.count_message-2.new.self
+    (g.N.Nine.at c.open_truncated.new.nine) c.count_message-2.ensures
+    c.in_ok-opened.ensures.answer.asked)
     c.count_message-in-Err-opened.new.self (g.N.Nine.at c.clunk.new.nine)
     c.count_message-in-Err-opened.ensures c.in_ok-clunk-in-Err-opened.ensures.gone.asked)
     c.in_ok-copied.ensures.kept.rises c.in_ok-clunk-in-Err-opened.ensures.kept.rises
