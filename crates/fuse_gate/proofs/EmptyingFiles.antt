@@ -3,7 +3,6 @@
 use Rattle.std.proofs.Common.{◌≡◌, ℕ, ◌+◌, ◌≤◌, Bool, refl, sym, ap, ◌∙◌, subst, Result}
 use Rattle.std.proofs.Common.{Ok, Err, arith, IsSome, ◌⊎◌, inl, inr, ⊎_elim}
 use Rattle.std.specs.FinMap.{FinMap, get, insert}
-use Rattle.port_base.specs.Faults.{Rose}
 use Rattle.port_base.specs.OpenFlags.{access, has_flag}
 use Rattle.port_base.specs.declared.errno.TheConstants.{EIO}
 use Rattle.port_base.specs.declared.oflag.TheConstants.{O_APPEND}
@@ -21,7 +20,6 @@ use Rattle.tree_machine.proofs.Handles.{drawn_named}
 use Rattle.tree_machine.proofs.Opening.{open_keeps, open_stays, open_stored, opened_good}
 use Rattle.tree_machine.proofs.Setting.{Keeps as KeepsAll}
 use Rattle.fid_model.specs.Fids.{ServerState, Fids, IsGoodServer, closed, is_held}
-use Rattle.fid_model.specs.Fids.{kept_state as kept_server}
 use Rattle.fid_model.specs.Answers.{opened as fid_opened, qid_at}
 use Rattle.fid_model.specs.Calls.{clunked}
 use Rattle.fid_model.specs.Moments.{Moment, Asks, FidAnswered, Untouched}
@@ -32,19 +30,19 @@ use Rattle.p9_client.specs.Opening.{copied_told, emptied_by, emptied_told, opene
 use Rattle.fuse_gate.specs.Standing.{IsInStep, ArePaired, machine_of, handle_of}
 use Rattle.fuse_gate.specs.Changes.{MayOpen, ServesOpening, LeavesOpening, opening, handle_by}
 use Rattle.fuse_gate.specs.Changes.{with_handle, without, one_sent}
-use Rattle.fuse_gate.specs.Steps.{Serves}
 use Rattle.fuse_gate.specs.declared.gate.TheConstants.{LEAST_MSIZE}
 use Rattle.fuse_gate.specs.declared.gate.Node.{Node}
 use Rattle.fuse_gate.specs.declared.gate.Handle.{Handle}
 use Rattle.fuse_gate.specs.declared.gate.Gate.{Gate}
 use Rattle.fuse_gate.proofs.MappedLemmas.{mapped-insert}
 use Rattle.fuse_gate.proofs.Asking.{Tells, fid_tells, pair, tells_as}
-use Rattle.fuse_gate.proofs.CopiedFids.{opened_copy}
+use Rattle.fuse_gate.proofs.CopiedFids.{CopyTold, MayStay, copy_let_go, copy_part, left_part}
+use Rattle.fuse_gate.proofs.CopiedFids.{left_stays, opened_copy}
 use Rattle.fuse_gate.proofs.MakingDirectories.{kept_more}
 use Rattle.fuse_gate.proofs.OpenEntries.{handle_added}
 use Rattle.fuse_gate.proofs.Standings.{fid_free, next_free, next_no_handle, node_fid}
 use Rattle.fuse_gate.proofs.Standings.{sent_stands}
-use Rattle.fuse_gate.proofs.Serving.{SentAlone, one_alone, one_message, unchanged, made}
+use Rattle.fuse_gate.proofs.Serving.{SentAlone, one_alone, one_message, made}
 use Rattle.fuse_gate.proofs.TreeChanging.{held_same, stands_with}
 
 module _ {g : Gate} (n : Moment) {id : ℕ} {k : Node} {flags : ℕ} (h : MayOpen g n.state id k flags)
@@ -96,19 +94,6 @@ module _ {g : Gate} (n : Moment) {id : ℕ} {k : Node} {flags : ℕ} (h : MayOpe
   copy_is r u n1 is answer = ⊎_elim
       (λ q. ap (λ (x : Result (Unit {0}) ℕ × ServerState). x.1) q)
       (λ f. absurd (let clash = f.1 in cc)) (copy_told r (Ok u) n1 is answer)
-
-  copy_stays : (t : Tree) (x : ServerState) → x ≡ record copied { tree = t }
-      → IsRoomy x × IsSome (get x.fids g.next)
-  copy_stays t x is = subst (λ (x : ServerState). IsRoomy x × IsSome (get x.fids g.next)) (sym is) (
-    record { enough = h.stands.roomy },
-    subst IsSome
-        (sym (inserted s.fids g.next (closed k.ino))) refl,
-  )
-
-  copy_gone : (t : Tree) → clunked (record copied { tree = t }) g.next
-      ≡ kept_server (record s { tree = t })
-  copy_gone t = ap (λ (f : Fids). kept_server (record s { tree = t; fids = f }))
-      (undone s.fids g.next (closed k.ino) (fid_free h.stands))
 
   server_tells : emptied_told copied g.next flags
       ≡ opened_or_emptied copied g.next flags (closed k.ino) told
@@ -213,29 +198,41 @@ module _ {g : Gate} (n : Moment) {id : ℕ} {k : Node} {flags : ℕ} (h : MayOpe
                 omega (arith, number, asked);
           }))
 
-  -- ---- what the opening message left
+  -- ---- what the opening message told
 
-  left_by : (c : Result (Unit {0} × Tree) ℕ) → told ≡ c → (t : Tree)
-      → t ≡ (opened_or_emptied copied g.next flags (closed k.ino) c).1.tree → part t
-  left_by (Ok (tt, u)) is t same =
-      told_part u is t (same ∙ ap (λ (x : ServerState). x.tree) (stand_is u is))
-  left_by (Err e) is t same = inl same
+  abbrev server : Result Qid ℕ × ServerState
+  server = opened_or_emptied copied g.next flags (closed k.ino) told
+
+  abbrev Refuses : ℕ → Type 0
+  Refuses e = told ≡ Err e
+
+  told_by : (c : Result (Unit {0} × Tree) ℕ) → told ≡ c
+      → CopyTold n h.stands good g.next k.ino (fid_free h.stands) part (inl refl) Refuses
+      (opened_or_emptied copied g.next flags (closed k.ino) c)
+  told_by (Ok (tt, u)) is = inr (
+    qid_at u k.ino,
+    refl,
+    subst (MayStay g s part) (sym (ap (λ (x : ServerState). x.tree) (stand_is u is))) (record {
+      done = told_part u is u refl;
+      stands = stands_now u is;
+      whole = kept_state_good (s1 u is) (good_now u is);
+    }),
+  )
+  told_by (Err e) is = inl (e, is, refl)
 
   -- no memory for the message
   pub message_part : (x : ServerState) → x ≡ copied → (t : Tree)
       → OldOrTold (emptied_told x g.next flags) x.tree t → part t
-  message_part x is t left = ⊎_elim
-      (λ same. inl (same ∙ ap (λ (y : ServerState). y.tree) is))
-      (λ same. left_by told refl t (same
-      ∙ ap (λ (y : ServerState). (emptied_told y g.next flags).1.tree) is
-      ∙ ap (λ (p : Result Qid ℕ × ServerState). p.1.tree) server_tells)) left
+  message_part x is t left =
+      copy_part n h.stands good g.next k.ino (fid_free h.stands) part (inl refl) Refuses server
+      (told_by told refl) t
+      (subst (λ (p : Result Qid ℕ × ServerState). OldOrTold p s.tree t) server_tells
+      (subst (λ (y : ServerState). OldOrTold (emptied_told y g.next flags) y.tree t) is left))
 
   module _ (n1 n2 : Moment) (copy : n1.state ≡ copied) (x : Result Qid ℕ)
       (asks : Asks (emptied_told n1.state g.next flags) (OldOrTold (emptied_told n1.state g.next
       flags)) x n1.state n2.state n1.faults n2.faults) where
-    asks_copied : Asks (opened_or_emptied copied g.next flags (closed k.ino) told)
-        (OldOrTold (opened_or_emptied copied g.next flags (closed k.ino) told)) x copied n2.state
-        n1.faults n2.faults
+    asks_copied : Asks server (OldOrTold server) x copied n2.state n1.faults n2.faults
     asks_copied = subst (λ (p : Result Qid ℕ × ServerState).
         Asks p (OldOrTold p) x copied n2.state n1.faults n2.faults) server_tells
         (subst (λ (y : ServerState). Asks (emptied_told y g.next flags)
@@ -257,117 +254,25 @@ module _ {g : Gate} (n : Moment) {id : ℕ} {k : Node} {flags : ℕ} (h : MayOpe
     -- ---- it isn't open
 
     module _ (e : ℕ) (refused : x ≡ Err e) where
-      -- the copy is still there, and the tree as before or after; the machine refuses so too, or a
-      -- fault was met
-      record Left (t : Tree) : Type 0 where
-        pub state : n2.state ≡ record copied { tree = t }
-        pub part : part t
-        pub stands : IsInStep g (record s { tree = t })
-        pub whole : kept_server (record s { tree = t }) ≡ record s { tree = t }
-        pub why : ((told ≡ Err e) × (t ≡ s.tree)) ⊎ (Rose n1.faults n2.faults × (e ≡ EIO))
-
-      unopened : n2.state ≡ copied
-          → ((told ≡ Err e) ⊎ (Rose n1.faults n2.faults × (e ≡ EIO))) → (t : Tree) × Left t
-      unopened same why = (
-        s.tree,
-        record {
-          state = same;
-          part = inl refl;
-          stands = h.stands;
-          whole = kept_state_good s good;
-          why = ⊎_elim (λ is. inl (is, refl)) (λ f. inr f) why;
-        },
-      )
-
-      left : (t : Tree) × Left t
-      left = ⊎_elim (λ p. by_told told refl p) (λ f.
-          let eio : e ≡ EIO = (let both : ◌≡◌ {A = Result Qid ℕ} (Err e) (Err EIO) =
-          sym refused ∙ f.1 in cc) in
-          ⊎_elim
-          (λ old. unopened (f.2 ∙ ap (λ (t : Tree). let y : ServerState = record copied { tree = t }
-          in y) old) (inr (f.0, eio)))
-          (λ new. by_fault told refl f.0 eio f.2 new) f.3) asks_copied
-        where
-          by_told : (c : Result (Unit {0} × Tree) ℕ) → told ≡ c
-              → pair x n2.state ≡ opened_or_emptied copied g.next flags (closed k.ino) c
-              → (t : Tree) × Left t
-          by_told (Ok (tt, u)) is p = absurd (let clash : Err e ≡ Ok (qid_at u k.ino) =
-              sym refused ∙ ap (λ (y : Result Qid ℕ × ServerState). y.0) p in cc)
-          by_told (Err d) is p =
-              let one : e ≡ d = (let both : ◌≡◌ {A = Result Qid ℕ} (Err e) (Err d) =
-              sym refused ∙ ap (λ (y : Result Qid ℕ × ServerState). y.0) p in cc) in
-              unopened (ap (λ (y : Result Qid ℕ × ServerState). y.1) p)
-              (inl (is ∙ ap (λ (d : ℕ). Err d) (sym one)))
-
-          by_fault : (c : Result (Unit {0} × Tree) ℕ) → told ≡ c → Rose n1.faults n2.faults
-              → e ≡ EIO → n2.state ≡ record copied { tree = n2.state.tree }
-              → n2.state.tree
-              ≡ (opened_or_emptied copied g.next flags (closed k.ino) c).1.tree
-              → (t : Tree) × Left t
-          by_fault (Err d) is rose eio only same = unopened (only
-              ∙ ap (λ (t : Tree). let y : ServerState = record copied { tree = t } in y) same)
-              (inr (rose, eio))
-          by_fault (Ok (tt, u)) is rose eio only same =
-              let tree = same ∙ ap (λ (y : ServerState). y.tree) (stand_is u is) in (
-                u,
-                record {
-                  state = only
-                      ∙ ap (λ (t : Tree). let y : ServerState = record copied { tree = t } in y)
-                      tree;
-                  part = told_part u is u refl;
-                  stands = stands_now u is;
-                  whole = kept_state_good (s1 u is) (good_now u is);
-                  why = inr (rose, eio);
-                },
-              )
-
-      pub left_stays : IsRoomy n2.state × IsSome (get n2.state.fids g.next)
-      left_stays = copy_stays left.0 n2.state left.1.state
-
-      gone_state : (y : ServerState) → y ≡ clunked n2.state g.next → y ≡ record s { tree = left.0 }
-      gone_state y gone = gone ∙ ap (λ (x : ServerState). clunked x g.next) left.1.state
-          ∙ copy_gone left.0 ∙ left.1.whole
+      pub fid_stays : IsRoomy n2.state × IsSome (get n2.state.fids g.next)
+      fid_stays = left_stays n h.stands good g.next k.ino (fid_free h.stands) part (inl refl)
+          Refuses server (told_by told refl) n1 n2 x asks_copied e refused
 
       -- no memory while the copy goes
-      pub left_part_of : (y : ServerState) → (y ≡ n2.state) ⊎ (y ≡ clunked n2.state g.next)
+      pub open_left : (y : ServerState) → (y ≡ n2.state) ⊎ (y ≡ clunked n2.state g.next)
           → part y.tree
-      left_part_of y part = subst (λ (t : Tree). LeavesOpening k flags (g, n) t)
-          (sym (⊎_elim
-          (λ w. ap (λ (x : ServerState). x.tree) (w ∙ left.1.state))
-          (λ w. ap (λ (x : ServerState). x.tree) (gone_state y w)) part)) left.1.part
+      open_left = left_part n h.stands good g.next k.ino (fid_free h.stands) part (inl refl)
+          Refuses server (told_by told refl) n1 n2 x asks_copied e refused
 
-      module _ (g3 : Gate) (n3 : Moment) (three : SentAlone 3 g n g3 n3)
-          (rises : n.faults ≤ n1.faults) (later : n2.faults ≤ n3.faults)
-          (gone : n3.state ≡ clunked n2.state g.next) where
-        state_is : n3.state ≡ record s { tree = left.0 }
-        state_is = gone_state n3.state gone
-
-        pub open_refused : ServesOpening k flags (g, n) (g3, n3) (Refused e)
-        open_refused = ⊎_elim
-            (λ w. by_refusal w.0 (state_is
-            ∙ ap (λ (t : Tree). let y : ServerState = record s { tree = t } in y) w.1))
-            (λ f.
-            let rose = f.0 in
-            record {
-              stands = subst (IsInStep g3) (sym state_is)
-                  (subst (λ (x : Gate). IsInStep x (record s { tree = left.0 })) (sym three.gate)
-                  (sent_stands left.1.stands g3.nine_frames));
-              sent = 3;
-              messages = three.messages;
-              outcome = inr (
-                omega (arith, rises, rose, later),
-                ap Refused f.1,
-                ap (λ (x : Gate). machine_of x n3.state) three.gate,
-                subst (λ (t : Tree). LeavesOpening k flags (g, n) t)
-                    (sym (ap (λ (x : ServerState). x.tree) state_is)) left.1.part,
-              );
-            })
-            left.1.why
-          where
-            by_refusal : told ≡ Err e → n3.state ≡ s
-                → ServesOpening k flags (g, n) (g3, n3) (Refused e)
-            by_refusal is same =
-                subst (λ (c : Result (Unit {0} × Tree) ℕ). Serves (opened_to m k.ino flags c)
-                (opened_messages c) part (g, n) (g3, n3) (Refused e)) (sym is)
-                (unchanged h.stands (opened_to m k.ino flags (Err e)) 3 part good g3 n3
-                (Refused e) three same refl refl)
+      pub open_refused : (g3 : Gate) (n3 : Moment) → SentAlone 3 g n g3 n3 → n.faults ≤ n1.faults
+          → n2.faults ≤ n3.faults → n3.state ≡ clunked n2.state g.next
+          → ServesOpening k flags (g, n) (g3, n3) (Refused e)
+      open_refused g3 n3 three rises later gone =
+          copy_let_go n h.stands good g.next k.ino (fid_free h.stands) part (inl refl) Refuses
+          server (told_by told refl) n1 n2 x asks_copied e refused g3 n3 three rises later gone
+          opens (opened_messages told)
+          (λ is. (
+            sym (ap (λ (c : Result (Unit {0} × Tree) ℕ). (opened_to m k.ino flags c).0) is),
+            ap (λ (c : Result (Unit {0} × Tree) ℕ). (opened_to m k.ino flags c).1) is,
+            sym (ap opened_messages is),
+          ))

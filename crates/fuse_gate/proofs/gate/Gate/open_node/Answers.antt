@@ -9,7 +9,7 @@ use Rattle.fuse_gate.proofs.Asking.{on_err}
 use Rattle.fuse_gate.proofs.Standings.{fid_free, fids_below}
 use Rattle.fuse_gate.proofs.Serving.{one_alone, one_more_sent}
 use Rattle.fuse_gate.proofs.EmptyingFiles.{copy_refused, copy_is, message_part, was_opened}
-use Rattle.fuse_gate.proofs.EmptyingFiles.{open_part, open_made, left_stays, left_part_of}
+use Rattle.fuse_gate.proofs.EmptyingFiles.{open_part, open_made, fid_stays, open_left}
 use Rattle.fuse_gate.proofs.EmptyingFiles.{open_refused}
 use Rattle.fuse_gate.proofs.gate.Gate.open_node.Goals as goal
 
@@ -73,7 +73,7 @@ returns-in_ok-add_handle-in-Ok-clause-served g c =
 
 pub clunk-requires-clause-known : goal.clunk-requires-clause-known
 clunk-requires-clause-known g c =
-    (left_stays (g.N.Nine.at c.args.nine.now) c.requires
+    (fid_stays (g.N.Nine.at c.args.nine.now) c.requires
     (g.met.N.Nine.good c.args.nine.now) (g.N.Nine.at c.copy_fid.new.nine)
     (g.N.Nine.at c.open_truncated.new.nine) (copy_is (g.N.Nine.at c.args.nine.now) c.requires
     (g.met.N.Nine.good c.args.nine.now) _ c.in_default.field-0
@@ -85,7 +85,7 @@ pub returns-in_err-clunk-in-Err-opened-clause-unfinished :
     goal.returns-in_err-clunk-in-Err-opened-clause-unfinished
 returns-in_err-clunk-in-Err-opened-clause-unfinished g c =
     on_err c.from_residual-in_err-clunk-in-Err-opened.result _
-    (left_part_of (g.N.Nine.at c.args.nine.now) c.requires
+    (open_left (g.N.Nine.at c.args.nine.now) c.requires
     (g.met.N.Nine.good c.args.nine.now) (g.N.Nine.at c.copy_fid.new.nine)
     (g.N.Nine.at c.open_truncated.new.nine) (copy_is (g.N.Nine.at c.args.nine.now) c.requires
     (g.met.N.Nine.good c.args.nine.now) _ c.in_default.field-0
