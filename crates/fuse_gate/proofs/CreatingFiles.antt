@@ -1,18 +1,16 @@
 -- A file is made by a copy of a directory's fid, which then names it; where that is refused, the
 -- copy goes again.
-use Rattle.std.proofs.Common.{◌≡◌, ℕ, ◌+◌, ◌<◌, ◌≤◌, Bool, true, false, ◌||◌, List}
+use Rattle.std.proofs.Common.{◌≡◌, ℕ, ◌+◌, ◌<◌, ◌≤◌, Bool, List}
 use Rattle.std.proofs.Common.{refl, sym, ap, ◌∙◌, subst, Option, Some, None, Result, Ok, Err, arith}
-use Rattle.std.proofs.Common.{IsSome, ◌⊎◌, inl, inr, ⊎_elim, nat_lt}
+use Rattle.std.proofs.Common.{IsSome, ◌⊎◌, inl, inr, ⊎_elim}
 use Rattle.std.proofs.lemmas.Bool.{false≢true}
-use Rattle.std.proofs.lemmas.Bool.Decides.{nat_tests}
 use Rattle.std.specs.FinMap.{get, insert, len}
-use Rattle.port_base.specs.Faults.{Rose}
 use Rattle.port_base.specs.declared.errno.TheConstants.{EIO}
-use Rattle.tree_model.specs.Tree.{Tree, Record, is_linked}
+use Rattle.tree_model.specs.Tree.{Tree, Record}
 use Rattle.tree_model.specs.Attributes.{Qid, attr_or_missing}
 use Rattle.tree_model.specs.Good.{IsGoodTree}
 use Rattle.tree_model.specs.Sound.{IsKept}
-use Rattle.tree_model.proofs.Maps.{inserted, insert_keeps, undone, same_by}
+use Rattle.tree_model.proofs.Maps.{inserted, undone}
 use Rattle.tree_machine.specs.State.{MachineState, kept_state, is_named}
 use Rattle.tree_machine.specs.Replies.{Reply}
 use Rattle.tree_machine.specs.Replies.Reply.{Refused}
@@ -25,20 +23,17 @@ use Rattle.tree_machine.proofs.MadeNames.{changed_tree_good}
 use Rattle.tree_machine.proofs.CreatedFiles.{create_access, create_leaves, create_openable}
 use Rattle.tree_machine.proofs.CreatedFiles.{create_keeps, create_stays, create_unknown}
 use Rattle.tree_machine.proofs.CreatedFiles.{room_for_one, room_for_two, opened_named}
-use Rattle.fid_model.specs.Fids.{ServerState, Fid, Fids, IsGoodServer, closed, is_held, fid_count}
-use Rattle.fid_model.specs.Fids.{kept_state as kept_server}
+use Rattle.fid_model.specs.Fids.{ServerState, Fid, Fids, IsGoodServer, closed, is_held}
 use Rattle.fid_model.specs.FidCalls.{by_fid}
 use Rattle.tree_model.specs.OpenedFiles.{new_file_of}
 use Rattle.fid_model.specs.Answers.{opened as fid_opened, qid_at, qid_told}
 use Rattle.fid_model.specs.Calls.{clunked}
 use Rattle.fid_model.specs.Moments.{Moment, AskedOne, Asks}
-use Rattle.fid_model.proofs.FidCounts.{fid_count-new}
-use Rattle.fid_model.proofs.Keeping.{keep_same, kept_state_kept, kept_state_good}
+use Rattle.fid_model.proofs.Keeping.{keep_same, kept_state_good}
 use Rattle.p9_client.specs.Changing.{OldOrTold}
 use Rattle.p9_client.specs.Views.{IsRoomy}
 use Rattle.p9_client.specs.Opening.{copied_told, created_told, created as client_created}
 use Rattle.fuse_gate.specs.Standing.{IsInStep, machine_of}
-use Rattle.fuse_gate.specs.Steps.{Serves}
 use Rattle.fuse_gate.specs.Changes.{without, one_sent}
 use Rattle.fuse_gate.specs.Creation.{HasOpen, MayCreate, ServesCreation, ServesOpenEntry}
 use Rattle.fuse_gate.specs.Creation.{LeavesCreation, creation}
@@ -47,15 +42,12 @@ use Rattle.fuse_gate.specs.declared.gate.Gate.{Gate}
 use Rattle.fuse_gate.proofs.Asking.{Tells, pair}
 use Rattle.fuse_gate.proofs.Standings.{node_good, fids_below, sent_stands, in_all}
 use Rattle.fuse_gate.proofs.Changing.{tree_paired}
-use Rattle.fuse_gate.proofs.Serving.{SentAlone, one_alone, one_message, unchanged}
+use Rattle.fuse_gate.proofs.CopiedFids.{CopyTold, MayStay, copy_let_go, copy_part, left_part}
+use Rattle.fuse_gate.proofs.CopiedFids.{left_stays, opened_copy}
+use Rattle.fuse_gate.proofs.Serving.{SentAlone, one_alone, one_message}
 use Rattle.fuse_gate.proofs.TreeChanging.{held_same}
 use Rattle.fuse_gate.proofs.MakingDirectories.{kept_more}
 use Rattle.fuse_gate.proofs.OpenEntries.{later_free}
-
--- what is held by a fid more
-more_held : (b c d : Bool) → (c ≡ true → d ≡ true) → (b || c) ≡ true → (b || d) ≡ true
-more_held true c d m h = refl
-more_held false c d m h = m h
 
 abbrev view : {A : Type 0} → Result A ℕ → Reply
 view (Ok a) = Refused EIO
@@ -109,22 +101,6 @@ module _ {g : Gate} (n : Moment) {id : ℕ} {k : Node} {name : List ℕ} (flags 
       → Tells (copied_told s k.ino (g.next + 1)) (Ok u) n n1 → n1.state ≡ copied
   copy_is u n1 tells = ⊎_elim (λ q. ap (λ (x : Result (Unit {0}) ℕ × ServerState). x.1) q)
       (λ f. absurd (let clash = f.1 in cc)) tells
-
-  copy_stays : (t : Tree) (x : ServerState) → x ≡ record copied { tree = t }
-      → IsRoomy x × IsSome (get x.fids (g.next + 1))
-  copy_stays t x is = subst (λ (x : ServerState). IsRoomy x × IsSome (get x.fids (g.next + 1)))
-      (sym is) (
-        record { enough = h.stands.roomy },
-        subst IsSome (sym (inserted s.fids (g.next + 1) (closed k.ino))) refl,
-      )
-
-  pub copy_roomy : (x : ServerState) → x ≡ copied → IsRoomy x
-  copy_roomy x is = (copy_stays s.tree x is).0
-
-  copy_gone : (t : Tree) → clunked (record copied { tree = t }) (g.next + 1)
-      ≡ kept_server (record s { tree = t })
-  copy_gone t = ap (λ (f : Fids). kept_server (record s { tree = t; fids = f }))
-      (undone s.fids (g.next + 1) (closed k.ino) copy_fresh)
 
   -- ---- what the server tells is what the machine tells
 
@@ -182,28 +158,9 @@ module _ {g : Gate} (n : Moment) {id : ℕ} {k : Node} {name : List ℕ} (flags 
     abbrev s2 : ServerState
     s2 = record s1 { fids = insert s.fids (g.next + 1) (fid_opened (closed ino) flags) }
 
-    twice : insert copied.fids (g.next + 1) (fid_opened (closed ino) flags)
-        ≡ insert s.fids (g.next + 1) (fid_opened (closed ino) flags)
-    twice = same_by _ _ (g.next + 1)
-        (inserted copied.fids (g.next + 1) (fid_opened (closed ino) flags)
-        ∙ sym (inserted s.fids (g.next + 1) (fid_opened (closed ino) flags)))
-        (λ q ne. insert_keeps copied.fids (g.next + 1) (fid_opened (closed ino) flags) q ne
-        ∙ insert_keeps s.fids (g.next + 1) (closed k.ino) q ne
-        ∙ sym (insert_keeps s.fids (g.next + 1) (fid_opened (closed ino) flags) q ne))
-
-    held_too : (i : ℕ) → is_held s.fids i ≡ true → is_held s2.fids i ≡ true
-    held_too i is =
-        let step = fid_count-new s.fids (g.next + 1) (fid_opened (closed ino) flags) copy_fresh i
-        in
-        more (fid_count s.fids i) (fid_count s2.fids i) (omega (arith, step)) is
-      where
-        more : (a b : ℕ) → a ≤ b → nat_lt 0 a ≡ true → nat_lt 0 b ≡ true
-        more a b low is = grind (arith, nat_tests)
-
     stand_is : (client_created copied (g.next + 1) flags (Ok (ino, u))).1 ≡ s2
-    stand_is = ap (λ (f : Fids). kept_server (record s1 { fids = f })) twice
-        ∙ kept_state_kept s2 (λ i some. more_held (is_linked u.records i) (is_held s.fids i)
-        (is_held s2.fids i) (held_too i) (kept_held i some))
+    stand_is = opened_copy s.fids (g.next + 1) copy_fresh (closed k.ino)
+        (fid_opened (closed ino) flags) s1 kept_held
 
     path_is : (qid_at u ino).1.1 ≡ ino
     path_is = by_record (get u.records ino) refl all.2 where
@@ -302,25 +259,37 @@ module _ {g : Gate} (n : Moment) {id : ℕ} {k : Node} {name : List ℕ} (flags 
                 served.outcome;
           }
 
-  -- ---- what the creating message left
+  -- ---- what the creating message told
 
   abbrev server : Result Qid ℕ × ServerState
   server = client_created copied (g.next + 1) flags told
 
-  left_part : (c : Result (ℕ × Tree) ℕ) → told ≡ c → (t : Tree)
-      → t ≡ (client_created copied (g.next + 1) flags c).1.tree → part t
-  left_part (Ok (ino, u)) is t same =
-      made_part ino u is t (same ∙ ap (λ (x : ServerState). x.tree) (stand_is ino u is))
-  left_part (Err e) is t same = inl same
+  abbrev Refuses : ℕ → Type 0
+  Refuses e = told ≡ Err e
+
+  told_by : (c : Result (ℕ × Tree) ℕ) → told ≡ c
+      → CopyTold n h.stands good (g.next + 1) k.ino copy_fresh part (inl refl) Refuses
+      (client_created copied (g.next + 1) flags c)
+  told_by (Ok (ino, u)) is = inr (
+    qid_at u ino,
+    refl,
+    subst (MayStay g s part) (sym (ap (λ (x : ServerState). x.tree) (stand_is ino u is))) (record {
+      done = made_part ino u is u refl;
+      stands = stands_now ino u is;
+      whole = kept_state_good (s1 ino u is) (good_now ino u is);
+    }),
+  )
+  told_by (Err e) is = inl (e, is, refl)
 
   -- no memory for the message
   pub create_part : (x : ServerState) → x ≡ copied → (t : Tree)
       → OldOrTold (created_told x (g.next + 1) name flags mode) x.tree t → part t
-  create_part x is t left = ⊎_elim
-      (λ same. inl (same ∙ ap (λ (y : ServerState). y.tree) is))
-      (λ same. left_part told refl t (same
-      ∙ ap (λ (y : ServerState). (created_told y (g.next + 1) name flags mode).1.tree) is
-      ∙ ap (λ (p : Result Qid ℕ × ServerState). p.1.tree) server_tells)) left
+  create_part x is t left =
+      copy_part n h.stands good (g.next + 1) k.ino copy_fresh part (inl refl) Refuses server
+      (told_by told refl) t
+      (subst (λ (p : Result Qid ℕ × ServerState). OldOrTold p s.tree t) server_tells
+      (subst (λ (y : ServerState). OldOrTold (created_told y (g.next + 1) name flags mode) y.tree t)
+      is left))
 
   module _ (n1 n2 : Moment) (copy : n1.state ≡ copied) (x : Result Qid ℕ)
       (asks : Asks (created_told n1.state (g.next + 1) name flags mode)
@@ -357,116 +326,26 @@ module _ {g : Gate} (n : Moment) {id : ℕ} {k : Node} {name : List ℕ} (flags 
     -- ---- no file is told
 
     module _ (e : ℕ) (refused : x ≡ Err e) where
-      -- the copy is still there, and the tree as before or after; the machine refuses so too, or a
-      -- fault was met
-      record Left (t : Tree) : Type 0 where
-        pub state : n2.state ≡ record copied { tree = t }
-        pub part : part t
-        pub stands : IsInStep g (record s { tree = t })
-        pub whole : kept_server (record s { tree = t }) ≡ record s { tree = t }
-        pub why : ((told ≡ Err e) × (t ≡ s.tree)) ⊎ (Rose n1.faults n2.faults × (e ≡ EIO))
-
-      unmade : n2.state ≡ copied
-          → ((told ≡ Err e) ⊎ (Rose n1.faults n2.faults × (e ≡ EIO))) → (t : Tree) × Left t
-      unmade same why = (
-        s.tree,
-        record {
-          state = same;
-          part = inl refl;
-          stands = h.stands;
-          whole = kept_state_good s good;
-          why = ⊎_elim (λ is. inl (is, refl)) (λ f. inr f) why;
-        },
-      )
-
-      left : (t : Tree) × Left t
-      left = ⊎_elim (λ p. by_told told refl p) (λ f.
-          let eio : e ≡ EIO = (let both : ◌≡◌ {A = Result Qid ℕ} (Err e) (Err EIO) =
-          sym refused ∙ f.1 in cc) in
-          ⊎_elim
-          (λ old. unmade (f.2 ∙ ap (λ (t : Tree). let y : ServerState = record copied { tree = t }
-          in y) old) (inr (f.0, eio)))
-          (λ new. by_fault told refl f.0 eio f.2 new) f.3) asks_copied
-        where
-          by_told : (c : Result (ℕ × Tree) ℕ) → told ≡ c
-              → pair x n2.state ≡ client_created copied (g.next + 1) flags c → (t : Tree) × Left t
-          by_told (Ok (ino, u)) is p = absurd (let clash : Err e ≡ Ok (qid_at u ino) =
-              sym refused ∙ ap (λ (y : Result Qid ℕ × ServerState). y.0) p in cc)
-          by_told (Err d) is p =
-              let one : e ≡ d = (let both : ◌≡◌ {A = Result Qid ℕ} (Err e) (Err d) =
-              sym refused ∙ ap (λ (y : Result Qid ℕ × ServerState). y.0) p in cc) in
-              unmade (ap (λ (y : Result Qid ℕ × ServerState). y.1) p)
-              (inl (is ∙ ap (λ (d : ℕ). Err d) (sym one)))
-
-          by_fault : (c : Result (ℕ × Tree) ℕ) → told ≡ c → Rose n1.faults n2.faults → e ≡ EIO
-              → n2.state ≡ record copied { tree = n2.state.tree }
-              → n2.state.tree ≡ (client_created copied (g.next + 1) flags c).1.tree
-              → (t : Tree) × Left t
-          by_fault (Err d) is rose eio only same = unmade (only
-              ∙ ap (λ (t : Tree). let y : ServerState = record copied { tree = t } in y) same)
-              (inr (rose, eio))
-          by_fault (Ok (ino, u)) is rose eio only same =
-              let tree = same ∙ ap (λ (y : ServerState). y.tree) (stand_is ino u is) in (
-                u,
-                record {
-                  state = only
-                      ∙ ap (λ (t : Tree). let y : ServerState = record copied { tree = t } in y)
-                      tree;
-                  part = made_part ino u is u refl;
-                  stands = stands_now ino u is;
-                  whole = kept_state_good (s1 ino u is) (good_now ino u is);
-                  why = inr (rose, eio);
-                },
-              )
-
-      pub left_stays : IsRoomy n2.state × IsSome (get n2.state.fids (g.next + 1))
-      left_stays = copy_stays left.0 n2.state left.1.state
-
-      gone_state : (y : ServerState) → y ≡ clunked n2.state (g.next + 1)
-          → y ≡ record s { tree = left.0 }
-      gone_state y gone = gone ∙ ap (λ (x : ServerState). clunked x (g.next + 1)) left.1.state
-          ∙ copy_gone left.0 ∙ left.1.whole
+      pub fid_stays : IsRoomy n2.state × IsSome (get n2.state.fids (g.next + 1))
+      fid_stays = left_stays n h.stands good (g.next + 1) k.ino copy_fresh part (inl refl) Refuses
+          server (told_by told refl) n1 n2 x asks_copied e refused
 
       -- no memory while the copy goes
-      pub left_part_of : (y : ServerState) → (y ≡ n2.state) ⊎ (y ≡ clunked n2.state (g.next + 1))
+      pub create_left : (y : ServerState) → (y ≡ n2.state) ⊎ (y ≡ clunked n2.state (g.next + 1))
           → part y.tree
-      left_part_of y part = subst (λ (t : Tree). LeavesCreation k name flags mode (g, n) t)
-          (sym (⊎_elim
-          (λ w. ap (λ (x : ServerState). x.tree) (w ∙ left.1.state))
-          (λ w. ap (λ (x : ServerState). x.tree) (gone_state y w)) part)) left.1.part
+      create_left = left_part n h.stands good (g.next + 1) k.ino copy_fresh part (inl refl)
+          Refuses server (told_by told refl) n1 n2 x asks_copied e refused
 
-      module _ (g3 : Gate) (n3 : Moment) (three : SentAlone 3 g n g3 n3)
-          (rises : n.faults ≤ n1.faults) (later : n2.faults ≤ n3.faults)
-          (gone : n3.state ≡ clunked n2.state (g.next + 1)) where
-        state_is : n3.state ≡ record s { tree = left.0 }
-        state_is = gone_state n3.state gone
-
-        pub create_refused : ServesCreation k name flags mode (g, n) (g3, n3) (Refused e)
-        create_refused = ⊎_elim
-            (λ w. by_refusal w.0 (state_is
-            ∙ ap (λ (t : Tree). let y : ServerState = record s { tree = t } in y) w.1))
-            (λ f.
-            let rose = f.0 in
-            record {
-              stands = subst (IsInStep g3) (sym state_is)
-                  (subst (λ (x : Gate). IsInStep x (record s { tree = left.0 })) (sym three.gate)
-                  (sent_stands left.1.stands g3.nine_frames));
-              sent = 3;
-              messages = three.messages;
-              outcome = inr (
-                omega (arith, rises, rose, later),
-                ap Refused f.1,
-                ap (λ (x : Gate). machine_of x n3.state) three.gate,
-                subst (λ (t : Tree). LeavesCreation k name flags mode (g, n) t)
-                    (sym (ap (λ (x : ServerState). x.tree) state_is)) left.1.part,
-              );
-            })
-            left.1.why
-          where
-            by_refusal : told ≡ Err e → n3.state ≡ s
-                → ServesCreation k name flags mode (g, n) (g3, n3) (Refused e)
-            by_refusal is same =
-                subst (λ (c : Result (ℕ × Tree) ℕ). Serves (created s.settings m flags c)
-                (created_messages c) part (g, n) (g3, n3) (Refused e)) (sym is)
-                (unchanged h.stands (created s.settings m flags (Err e)) 3 part good g3 n3
-                (Refused e) three same refl refl)
+      pub create_refused : (g3 : Gate) (n3 : Moment) → SentAlone 3 g n g3 n3
+          → n.faults ≤ n1.faults → n2.faults ≤ n3.faults
+          → n3.state ≡ clunked n2.state (g.next + 1)
+          → ServesCreation k name flags mode (g, n) (g3, n3) (Refused e)
+      create_refused g3 n3 three rises later gone =
+          copy_let_go n h.stands good (g.next + 1) k.ino copy_fresh part (inl refl) Refuses server
+          (told_by told refl) n1 n2 x asks_copied e refused g3 n3 three rises later gone
+          (creation k name flags mode (g, n)) (created_messages told)
+          (λ is. (
+            sym (ap (λ (c : Result (ℕ × Tree) ℕ). (created s.settings m flags c).0) is),
+            ap (λ (c : Result (ℕ × Tree) ℕ). (created s.settings m flags c).1) is,
+            sym (ap created_messages is),
+          ))

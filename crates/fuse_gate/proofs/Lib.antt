@@ -8,6 +8,8 @@ pub mod Changing
 pub mod Going
 pub mod LettingGo
 pub mod Batching
+pub mod CopiedFids
+pub mod EmptyingFiles
 pub mod Opening
 pub mod OpeningDirectories
 pub mod TreeChanging

@@ -1,32 +1,34 @@
 -- OPENDIR.
 use Rattle.std.proofs.Common.{◌≡◌, ◌≢◌, ℕ, ◌<◌, ◌^◌, Bool, true, false, not, [], ◌∷◌, refl, sym, ap}
-use Rattle.std.proofs.Common.{◌∙◌, subst, Option, Some, None, Result, Ok}
+use Rattle.std.proofs.Common.{◌∙◌, subst, Option, Some, None, Result, Ok, ⊎_elim}
 use Rattle.std.specs.Prelude.{◌==◌, option_map}
 use Rattle.std.specs.FinMap.{get}
 use Rattle.port_base.specs.declared.errno.TheConstants.{ENFILE, ENOTDIR, ESTALE}
 use Rattle.port_base.specs.declared.oflag.TheConstants.{O_RDONLY}
-use Rattle.tree_model.specs.Tree.{Body, body_at, is_directory_at}
+use Rattle.tree_model.specs.Tree.{Tree, Body, body_at, is_directory_at}
 use Rattle.tree_model.specs.Tree.Body.{File, Directory, Link}
 use Rattle.tree_model.specs.Attributes.{kind_of}
-use Rattle.tree_model.specs.Opening.{body_answer, unless, open_refused, open_check_of}
+use Rattle.tree_model.specs.OpenedFiles.{emptied_where, open_of}
+use Rattle.tree_model.specs.Opening.{body_answer, unless, open_refused}
 use Rattle.fuse_wire.specs.Request.{opendir}
 use Rattle.tree_machine.specs.State.{MachineState, Node as MachineNode, is_at_limit}
 use Rattle.tree_machine.specs.Replies.{Reply}
 use Rattle.tree_machine.specs.Replies.Reply.{Opened}
 use Rattle.tree_machine.specs.Refusals.{refused_if, first_refusal}
-use Rattle.tree_machine.specs.Core.{node_ino, opendir_refusal, opened as machine_opened, with_handle}
-use Rattle.tree_machine.specs.Requests.{refusal_before}
+use Rattle.tree_machine.specs.Core.{node_ino, opendir_refusal, with_handle}
+use Rattle.tree_machine.specs.Requests.{opened_to, refusal_before}
 use Rattle.tree_machine.specs.Messages.{opened_messages}
 use Rattle.fid_model.specs.Fids.{IsGoodServer}
 use Rattle.fid_model.specs.Moments.{Moment, Untouched}
 use Rattle.fuse_gate.specs.Standing.{IsInStep, machine_of, node_of}
 use Rattle.fuse_gate.specs.Steps.{Serves, ServesRequest}
-use Rattle.fuse_gate.specs.Changes.{MayOpen, ServesOpening}
+use Rattle.fuse_gate.specs.Changes.{MayOpen, ServesOpening, LeavesOpening, opening}
 use Rattle.fuse_gate.specs.declared.gate.Node.{Node}
 use Rattle.fuse_gate.specs.declared.gate.Gate.{Gate}
 use Rattle.fuse_gate.proofs.Standings.{node_good, node_seen, few_used}
+use Rattle.fuse_gate.proofs.EmptyingFiles.{tree_after}
 use Rattle.fuse_gate.proofs.Opening.{directory_by, equal_test, differ_test}
-use Rattle.fuse_gate.proofs.Serving.{served_after}
+use Rattle.fuse_gate.proofs.Serving.{served_after, weaker}
 
 -- a directory is opened to be read
 directory_checked : (o : Option Body) → is_directory_at o ≡ true
@@ -86,21 +88,33 @@ module _ {g : Gate} (n : Moment) (st : IsInStep g n.state) (good : IsGoodServer 
       may_open_directory small = record {
         stands = st;
         known = at;
-        whole = refl;
         plain = λ is. (refl, refl);
         room = sym room;
         few = few_used st (sym room) small;
       }
 
-      pub opendir_opened : (new : Gate × Moment) (reply : Reply)
-          → ServesOpening k O_RDONLY (g, n) new reply → ServesRequest node (opendir 0) (g, n) new
-          reply
-      opendir_opened new reply served =
-          let checked : open_check_of n.state.tree k.ino O_RDONLY ≡ Ok tt =
-          directory_checked (body_at n.state.tree.records k.ino) directory in
-          served_after st good node (opendir 0) (by_tests false true room (sym directory)) new reply
-          (subst (λ (i : ℕ). Serves (Opened m.next, with_handle m i O_RDONLY) 2
-          (Untouched n.state.tree) (g, n) new reply)
-          (sym (ap node_ino (node_seen st node (Some k) at)))
-          (subst (λ (c : Result (Unit {0}) ℕ). Serves (machine_opened m k.ino O_RDONLY c)
-          (opened_messages c) (Untouched n.state.tree) (g, n) new reply) checked served))
+      told : open_of n.state.tree k.ino O_RDONLY ≡ Ok (tt, n.state.tree)
+      told = ap (λ (r : Result (Unit {0}) ℕ). emptied_where r n.state.tree k.ino O_RDONLY)
+          (directory_checked (body_at n.state.tree.records k.ino) directory)
+
+      module _ (small : n.state.settings.limit < 2 ^ 32) where
+        -- such an opening leaves the tree
+        pub opendir_left : (t : Tree) → LeavesOpening k O_RDONLY (g, n) t → t ≡ n.state.tree
+        opendir_left t left = ⊎_elim (λ same. same)
+            (λ is. is ∙ tree_after n (may_open_directory small) good n.state.tree told) left
+
+        pub opendir_opened : (new : Gate × Moment) (reply : Reply)
+            → ServesOpening k O_RDONLY (g, n) new reply
+            → ServesRequest node (opendir 0) (g, n) new reply
+        opendir_opened new reply served =
+            served_after st good node (opendir 0) (by_tests false true room (sym directory)) new
+            reply
+            (subst (λ (i : ℕ). Serves (Opened m.next, with_handle m i O_RDONLY) 2
+            (Untouched n.state.tree) (g, n) new reply)
+            (sym (ap node_ino (node_seen st node (Some k) at)))
+            (subst (λ (c : Result (Unit {0} × Tree) ℕ). Serves (opened_to m k.ino O_RDONLY c)
+            (opened_messages c) (Untouched n.state.tree) (g, n) new reply) told
+            (weaker (opening k O_RDONLY (g, n))
+            (opened_messages (open_of n.state.tree k.ino O_RDONLY))
+            (LeavesOpening k O_RDONLY (g, n)) (Untouched n.state.tree) opendir_left (g, n) new
+            reply served)))

@@ -8,7 +8,7 @@ use Rattle.tree_model.specs.Tree.{Tree, Record, Body, body_at}
 use Rattle.tree_model.specs.Tree.Body.{File, Directory, Link}
 use Rattle.tree_model.specs.Creating.{mkdir_of}
 use Rattle.tree_model.specs.Finding.{find}
-use Rattle.tree_model.specs.Opening.{body_answer, open_check_of, read_body, readlink_body}
+use Rattle.tree_model.specs.Opening.{body_answer, read_body, readlink_body}
 use Rattle.tree_model.specs.AttributeSteps.{run}
 use Rattle.tree_model.specs.Settings.{Settings}
 use Rattle.tree_model.specs.declared.attributes.Attr.{Attr}
@@ -34,12 +34,12 @@ use Rattle.tree_machine.specs.Replies.Reply.{Refused, Granted, Entry, Attributes
 use Rattle.tree_machine.specs.Replies.Reply.{Sizes, Done, Created, Written}
 use Rattle.tree_machine.specs.Refusals.{refused_or}
 use Rattle.tree_machine.specs.Core.{node_ino, handle_ino, node_of, node_for, entry_reply, shown_at}
-use Rattle.tree_machine.specs.Core.{looked_up, getattr_ino, attr_reply, opened, bytes_reply}
+use Rattle.tree_machine.specs.Core.{looked_up, getattr_ino, attr_reply, bytes_reply}
 use Rattle.tree_machine.specs.Core.{unlink_told, changed_by}
 use Rattle.tree_machine.specs.Naming.{rmdir_told, rename_told, made, link_told, linked}
-use Rattle.tree_model.specs.OpenedFiles.{new_file_of}
+use Rattle.tree_model.specs.OpenedFiles.{new_file_of, open_of}
 use Rattle.tree_machine.specs.Creating.{created, created_reply}
-use Rattle.tree_machine.specs.Requests.{refusal_before, effect_of, answer_of}
+use Rattle.tree_machine.specs.Requests.{refusal_before, effect_of, answer_of, opened_to}
 use Rattle.tree_machine.specs.Writing.{write_told, written_reply}
 use Rattle.tree_machine.specs.Step.{request_in_turn}
 use Rattle.tree_machine.proofs.Listing.{listing_short}
@@ -153,9 +153,9 @@ set_short : (s : Settings) (m : MachineState) (ino : ℕ) (r : Result (Unit {0})
 set_short s m ino (Ok u, t) = attr_short (shown_at s t ino)
 set_short s m ino (Err e, t) = tt
 
-opened_short : (m : MachineState) (ino flags : ℕ) (r : Result (Unit {0}) ℕ)
-    → IsShort (opened m ino flags r).0
-opened_short m ino flags (Ok u) = tt
+opened_short : (m : MachineState) (ino flags : ℕ) (r : Result (Unit {0} × Tree) ℕ)
+    → IsShort (opened_to m ino flags r).0
+opened_short m ino flags (Ok (u, t)) = tt
 opened_short m ino flags (Err e) = tt
 
 part_short : (size : ℕ) (rest : List ℕ) → length (take (min size MAX_READ) rest) ≤ MAX_READ
@@ -195,7 +195,7 @@ module _ (s : Settings) (m : MachineState) (good : IsGoodTree m.tree) where
       (find s.casefold m.tree (node_ino (get m.nodes node)) name)
   effect_short node (getattr handle) = attr_short (shown_at s m.tree (getattr_ino m node handle))
   effect_short node (open_file flags) = let ino =
-      node_ino (get m.nodes node) in opened_short m ino flags (open_check_of m.tree ino flags)
+      node_ino (get m.nodes node) in opened_short m ino flags (open_of m.tree ino flags)
   effect_short node (read fh offset size flags lock) =
       bytes_short offset size (body_at m.tree.records (handle_ino (get m.handles fh)))
   effect_short node (setattr asked) = set_short s m (getattr_ino m node (given_handle asked))

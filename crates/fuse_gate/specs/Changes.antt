@@ -3,16 +3,19 @@ use Rattle.std.specs.Prelude.{◌≡◌, ℕ, ◌+◌, ◌-◌, ◌^◌, ◌<◌
 use Rattle.std.specs.Prelude.{None, IsSome, Result, Ok, Err}
 use Rattle.std.specs.FinMap as map
 use Rattle.port_base.specs.OpenFlags.{access, has_flag}
-use Rattle.port_base.specs.declared.oflag.TheConstants.{O_APPEND, O_RDONLY, O_TRUNC}
-use Rattle.tree_model.specs.Tree.{body_at, is_directory_at}
+use Rattle.port_base.specs.declared.oflag.TheConstants.{O_APPEND, O_RDONLY}
+use Rattle.tree_model.specs.Tree.{Tree, body_at, is_directory_at}
 use Rattle.tree_model.specs.Attributes.{Qid}
-use Rattle.tree_model.specs.Opening.{open_check_of}
+use Rattle.tree_model.specs.OpenedFiles.{open_of}
 use Rattle.tree_model.specs.Reading.{part}
-use Rattle.tree_machine.specs.State.{is_at_limit, COUNT_LIMIT, Node as MachineNode}
+use Rattle.tree_machine.specs.State.{MachineState, is_at_limit, COUNT_LIMIT, Node as MachineNode}
+use Rattle.tree_machine.specs.State.{kept_state}
 use Rattle.tree_machine.specs.Replies.{Reply}
 use Rattle.tree_machine.specs.Replies.Reply.{Bytes}
-use Rattle.tree_machine.specs.Core.{looked_up, node_of, getattr_refusal, getattr_ino, opened}
+use Rattle.tree_machine.specs.Core.{looked_up, node_of, getattr_refusal, getattr_ino}
+use Rattle.tree_machine.specs.Faults.{IsEither}
 use Rattle.tree_machine.specs.Messages.{opened_messages, pieces}
+use Rattle.tree_machine.specs.Requests.{opened_to}
 use Rattle.tree_machine.specs.Setting.{is_read_alone, set_through}
 use Rattle.fid_model.specs.Fids.{ServerState, Fid, closed, IsGoodServer}
 use Rattle.fid_model.specs.Answers.{qid_at}
@@ -80,12 +83,11 @@ without_handle g id = record g { handles = map.remove g.handles id; used = g.use
 abbrev pub without : ServerState → ℕ → ServerState
 without s fid = record s { fids = map.remove s.fids fid }
 
--- a node may be opened by these flags, which empty no file, a directory to be read alone, and a
--- number is left for the handle
+-- a node may be opened by these flags, a directory to be read alone, and a number is left for the
+-- handle
 pub record MayOpen (g : Gate) (s : ServerState) (id : ℕ) (n : Node) (flags : ℕ) : Type 0 where
   pub stands : IsInStep g s
   pub known : map.get g.nodes id ≡ Some n
-  pub whole : has_flag O_TRUNC flags ≡ false
   pub plain : is_directory_at (body_at s.tree.records n.ino) ≡ true
       → (access flags ≡ O_RDONLY) × (has_flag O_APPEND flags ≡ false)
   pub room : is_at_limit s.settings (machine_of g s) ≡ false
@@ -124,16 +126,26 @@ IsSubject g s node handle (Ok fid) =
     × (is_open_to_read_alone f.open_state ≡ is_read_alone (set_through (machine_of g s) handle)))
 IsSubject g s node handle (Err e) = getattr_refusal (machine_of g s) node handle ≡ Some e
 
--- the opening of a node that may be opened
-abbrev pub ServesOpening : Node → ℕ → Gate × Moment → Gate × Moment → Reply → Type 0
-ServesOpening n flags old new reply =
-    let checked = open_check_of old.1.state.tree n.ino flags in
-    Serves (opened (machine_at old) n.ino flags checked) (opened_messages checked)
-    (Untouched old.1.state.tree) old new reply
-
 -- the reading of a fid's file, piece by piece
 abbrev pub ServesReading : ℕ → ℕ → ℕ → Gate × Moment → Gate × Moment → Reply → Type 0
 ServesReading fid offset size old new reply =
     let bytes = part (file_at old.1.state fid) offset size in
     Serves (Bytes bytes, machine_at old) (pieces (piece_of old.1.state) size (length bytes))
     (Untouched old.1.state.tree) old new reply
+
+-- ---- opening, which may empty a file
+
+-- what the machine answers where a node is opened by these flags
+abbrev pub opening : Node → ℕ → Gate × Moment → Reply × MachineState
+opening n flags old = opened_to (machine_at old) n.ino flags (open_of old.1.state.tree n.ino flags)
+
+-- the tree before, or the one after it
+abbrev pub LeavesOpening : Node → ℕ → Gate × Moment → Tree → Type 0
+LeavesOpening n flags old t =
+    IsEither old.1.state.tree (kept_state (opening n flags old).1).tree t
+
+-- the opening of a node that may be opened
+abbrev pub ServesOpening : Node → ℕ → Gate × Moment → Gate × Moment → Reply → Type 0
+ServesOpening n flags old new reply =
+    Serves (opening n flags old) (opened_messages (open_of old.1.state.tree n.ino flags))
+    (LeavesOpening n flags old) old new reply

@@ -6,4 +6,5 @@ mod KeptRows
 mod LookupLemmas
 mod MovingLemmas
 mod PathLemmas
+mod PrintLemmas
 mod RowLemmas

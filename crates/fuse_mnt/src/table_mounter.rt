@@ -1,8 +1,14 @@
 //! A mounter in memory.
-ghost use Rattle.std.specs.Prelude.{◌≡◌, ◌++◌, ◌∷◌, [], IfOk, OnOk, OnErr, IsTrue};
-ghost use Rattle.port_base.specs.Failing.{first_calls};
-ghost use Rattle.libmount.specs.MountTables.{first_table};
-ghost use Rattle.libmount.specs.Mounters.{HasRoom};
+ghost use Rattle.std.specs.Prelude.{◌≡◌, ◌≢◌, ◌↔◌, ◌++◌, ◌∷◌, [], ℕ, Err, IfOk, OnOk, OnErr};
+ghost use Rattle.std.specs.Prelude.{IsTrue, false, option_copied};
+ghost use Rattle.std.specs.List.{AllZip};
+ghost use Rattle.port_base.specs.Failing.{after_call, first_calls, is_due};
+ghost use Rattle.port_base.specs.Flags.{bits_of};
+ghost use Rattle.libmount.specs.declared.mounter.MountFault.TheVariants as mount_fault;
+ghost use Rattle.libmount.specs.Items.{items};
+ghost use Rattle.libmount.specs.MountTables.{first_table, mount, print_table, umount};
+ghost use Rattle.libmount.specs.Mounters.{Caused, HasRoom, Leaves, is_remount};
+ghost use Rattle.libmount.specs.ReadBack.{IsItemOf};
 ghost use Rattle.libmount.specs.Scripts.{calls_of};
 ghost use Rattle.fuse_mnt.specs.Kept.{IsKept, IsKept-prop, good_from_kept};
 
@@ -80,21 +86,55 @@ impl Mounter for TableMounter {
         fstype: Option<&[u8]>,
         flags: MsFlags,
         options: Option<&[u8]>,
-    ) -> Result<(), MountFault> {
+    ) -> Result<(), MountFault>
+        requires room { is_remount (bits_of flags) ≡ false → HasRoom self.old.table }
+        ensures leaves { Leaves
+            (mount
+            (record {
+              source = option_copied source.entry;
+              target = target.now;
+              fstype = option_copied fstype.entry;
+              flags = bits_of flags;
+              options = option_copied options.entry;
+            }) self.old.table)
+            self.old.table self.new.table result }
+        ensures caused { Caused (calls_of self.old.failing) (calls_of self.new.failing) result }
+        ensures fails { (result ≡ Err mount_fault.Fault) ↔ IsTrue
+            (is_due self.old.failing.script) }
+        ensures script { self.new.failing.script ≡ after_call self.old.failing.script }
+    {
         if strikes(&mut self.failing) {
             return Err(MountFault::Fault);
         }
         self.table.mount(source, target, fstype, flags, options)
     }
 
-    fn umount(&mut self, target: &[u8]) -> Result<(), MountFault> {
+    fn umount(&mut self, target: &[u8]) -> Result<(), MountFault>
+        ensures leaves { Leaves (umount target.now self.old.table) self.old.table self.new.table
+            result }
+        ensures memory { result ≢ Err mount_fault.NoMemory }
+        ensures caused { Caused (calls_of self.old.failing) (calls_of self.new.failing) result }
+        ensures fails { (result ≡ Err mount_fault.Fault) ↔ IsTrue
+            (is_due self.old.failing.script) }
+        ensures script { self.new.failing.script ≡ after_call self.old.failing.script }
+    {
         if strikes(&mut self.failing) {
             return Err(MountFault::Fault);
         }
         self.table.umount(target)
     }
 
-    fn print(&mut self, alloc: Global) -> Result<Vec<u8>, MountFault> {
+    fn print(&mut self, alloc: Global) -> Result<Vec<u8>, MountFault>
+        ensures text { IfOk result (λ text. text.items ≡ print_table self.old.table) }
+        ensures read_back { IfOk result (λ text. (place : ℕ)
+            → AllZip IsItemOf self.old.table.rows (items (place, text.items))) }
+        ensures table { self.new.table ≡ self.old.table }
+        ensures errno { (errno : ℕ) → result ≢ Err (mount_fault.Errno errno) }
+        ensures caused { Caused (calls_of self.old.failing) (calls_of self.new.failing) result }
+        ensures fails { (result ≡ Err mount_fault.Fault) ↔ IsTrue
+            (is_due self.old.failing.script) }
+        ensures script { self.new.failing.script ≡ after_call self.old.failing.script }
+    {
         if strikes(&mut self.failing) {
             return Err(MountFault::Fault);
         }

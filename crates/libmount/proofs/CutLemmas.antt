@@ -18,13 +18,13 @@ abbrev pub from : List ℕ → ℕ → List ℕ
 from bytes at = take (length bytes - at) (drop at bytes)
 
 module _ (mark : List ℕ) where
-  cut-stands : (text : List ℕ) → 0 < length text → starts_with nat_eq text mark ≡ true
+  pub cut-stands : (text : List ℕ) → 0 < length text → starts_with nat_eq text mark ≡ true
       → cut mark text ≡ ([], drop (length mark) text)
   unfolding cut
   cut-stands [] some h = absurd (omega arith)
   cut-stands (byte ∷ bytes) some h = rw h refl
 
-  cut-passes : (byte : ℕ) (bytes : List ℕ) → starts_with nat_eq (byte ∷ bytes) mark ≡ false
+  pub cut-passes : (byte : ℕ) (bytes : List ℕ) → starts_with nat_eq (byte ∷ bytes) mark ≡ false
       → cut mark (byte ∷ bytes) ≡ after_byte byte (cut mark bytes)
   unfolding cut
   cut-passes byte bytes h = rw h refl

@@ -44,7 +44,7 @@ spells-more n ds h k = record {
       ∙ ap (λ (v : ℕ). with_digit v (48 + n % 10)) k.value ∙ omega arith;
 }
 
-spells-decimal : (n : ℕ) → n < 2 ^ 64 → Spells n (decimal n)
+pub spells-decimal : (n : ℕ) → n < 2 ^ 64 → Spells n (decimal n)
 spells-decimal n h = decimal_by_steps Spells spells-one spells-more n h
 
 module _ (n : ℕ) (fits : n < 2 ^ 64) where

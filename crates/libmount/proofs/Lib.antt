@@ -18,3 +18,10 @@ pub mod ScriptLemmas
 mod PartLemmas
 mod PlaceLemmas
 mod SliceLemmas
+pub mod PrintedTexts
+pub mod PrintedFields
+pub mod PrintedFlags
+pub mod PrintedReadings
+pub mod PrintedRows
+pub mod PrintedTables
+pub mod PrintedLookups

@@ -8,7 +8,7 @@ use Rattle.std.proofs.lemmas.List.Splits.{length-slice_split}
 use Rattle.libmount.specs.Items.{line_feed, numbered, place_of}
 use Rattle.libmount.specs.Parts.{is_mark, parts}
 
-numbered-more : (before place : ℕ) (line : List ℕ) (lines : List (List ℕ)) → 0 < length lines
+pub numbered-more : (before place : ℕ) (line : List ℕ) (lines : List (List ℕ)) → 0 < length lines
     → numbered before place (line ∷ lines) ≡ (before + 1, (place, line))
     ∷ numbered (before + 1) (place + (length line + 1)) lines
 numbered-more before place line [] some = absurd (omega arith)

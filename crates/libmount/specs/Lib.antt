@@ -26,3 +26,4 @@ pub mod Explanations
 pub mod Mountings
 pub mod Scripts
 pub mod WorkedTables
+pub mod ReadBack

@@ -32,11 +32,10 @@ use Rattle.libmount.specs.Builders.{Bind, FlagChange, InMemory, Layers, Relocati
 use Rattle.libmount.specs.Builders.{with_flag}
 use Rattle.libmount.specs.BuilderTexts.{overlay_options, tmpfs_options}
 use Rattle.libmount.specs.Mounters.{Calls, FaultedIn}
-use Rattle.libmount.specs.Lookup.{flags_in}
 use Rattle.libmount.specs.OperationTexts.{TellsFailure}
 use Rattle.libmount.specs.MountTables.{MountCall, MountTable, is_absolute, mount, print_table}
 use Rattle.libmount.specs.Probes.{Facts, IsFact}
-use Rattle.libmount.specs.Reading.{Message}
+use Rattle.libmount.specs.ReadBack.{flags_of_last}
 
 abbrev pub move_call : Relocation → MountCall
 move_call move = record {
@@ -131,17 +130,17 @@ pub record TellsPlace (facts : Option Facts) (path : List ℕ)
     (result : Result (Vec ℕ Global) RemountError) (old new : Calls) : Type 0 where
   pub place : PlaceBy facts path result old new
 
-abbrev pub FlagsBy : Result (Option ℕ) Message → Result (Option MsFlags) RemountError → Calls
-    → Calls → Type 0
-FlagsBy told (Ok found) old new = (told ≡ Ok (option_map bits_of found)) × (new ≡ old)
+abbrev pub FlagsBy : Option ℕ → Result (Option MsFlags) RemountError → Calls → Calls → Type 0
+FlagsBy told (Ok found) old new = (told ≡ option_map bits_of found) × (new ≡ old)
 FlagsBy told (Err (NotRead CurrentDir)) old new = ⊥
 FlagsBy told (Err (NotRead MountInfo)) old new = FaultedIn old new
-FlagsBy told (Err (ParseMountInfo message)) old new = (told ≡ Err message.items) × (new ≡ old)
+FlagsBy told (Err (ParseMountInfo message)) old new = ⊥
 FlagsBy told (Err (UnknownMountPoint path)) old new = ⊥
 FlagsBy told (Err NoRemountMemory) old new = new ≡ old
 
--- the flags of a place in a printed table, or why they aren't told
-pub record TellsFlags (told : Result (Option ℕ) Message)
+-- the flags of a place, read from a printed table, or why they aren't told: a printed table can be
+-- read
+pub record TellsFlags (told : Option ℕ)
     (result : Result (Option MsFlags) RemountError) (old new : Calls) : Type 0 where
   pub flags : FlagsBy told result old new
 
@@ -156,10 +155,6 @@ pub record Prints (table : MountTable) (result : Result (Vec ℕ Global) Remount
     (old new : Calls) : Type 0 where
   pub printed : PrintsBy table result old new
 
--- what a table's text says of the flags of a place
-abbrev pub flags_told : MountTable → List ℕ → Result (Option ℕ) Message
-flags_told table place = flags_in place (print_table table)
-
 -- the mount that changes the flags of a place
 abbrev pub remount_call : FlagChange → List ℕ → ℕ → MountCall
 remount_call change place flags = record {
@@ -170,21 +165,14 @@ remount_call change place flags = record {
   options = None;
 }
 
--- the place was found, with its flags in the printed table, and mounted with the changed ones
+-- the place was found, with the flags of the last mount there, and mounted with the changed ones
 pub record ChangesFlags (facts : Option Facts) (change : FlagChange) (old : MountTable)
     (told : Result MountTable ℕ) : Type 0 where
   pub place : List ℕ
   pub flags : ℕ
   pub is_place : IsPlace facts change.path place
-  pub were : flags_told old place ≡ Ok (Some flags)
+  pub were : flags_of_last place old.rows ≡ Some flags
   pub mounted : mount (remount_call change place flags) old ≡ told
-
--- no flags are told of the place
-pub record HasNoFlags (facts : Option Facts) (path : List ℕ) (old : MountTable)
-    (answer : Result (Option ℕ) Message) : Type 0 where
-  pub place : List ℕ
-  pub is_place : IsPlace facts path place
-  pub told : flags_told old place ≡ answer
 
 -- who was called: the calls of a mounter and of a probe
 pub record BothCalls : Type 0 where
@@ -200,10 +188,10 @@ IsRemountCause facts change table old new (Remount (NotRead CurrentDir)) =
     FaultedIn old.probe new.probe × (new.mounter ≡ old.mounter)
 IsRemountCause facts change table old new (Remount (NotRead MountInfo)) =
     FaultedIn old.mounter new.mounter × (new.probe ≡ old.probe)
-IsRemountCause facts change table old new (Remount (ParseMountInfo message)) =
-    HasNoFlags facts change.path table (Err message.items) × (new ≡ old)
+IsRemountCause facts change table old new (Remount (ParseMountInfo message)) = ⊥
 IsRemountCause facts change table old new (Remount (UnknownMountPoint place)) =
-    IsPlace facts change.path place.items × (flags_told table place.items ≡ Ok None) × (new ≡ old)
+    IsPlace facts change.path place.items
+    × (flags_of_last place.items table.rows ≡ None) × (new ≡ old)
 IsRemountCause facts change table old new (Remount NoRemountMemory) = new ≡ old
 IsRemountCause facts change table old new NoMemory = new ≡ old
 

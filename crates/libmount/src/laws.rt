@@ -1,13 +1,15 @@
 //! What the definitions of a mountinfo row come to.
-ghost use Rattle.std.specs.Prelude.{◌≡◌, ◌^◌, ◌<◌, ◌∷◌, ℕ, List, Ok, Some};
+ghost use Rattle.std.specs.Prelude.{◌≡◌, ◌++◌, ◌^◌, ◌<◌, ◌∷◌, ℕ, List, Ok, Some};
 ghost use Rattle.std.specs.Borrow.{Bor};
 ghost use Rattle.std.specs.Fmt.{decimal};
 ghost use Rattle.std.specs.declared.option.Option.{Option};
 ghost use Rattle.std.specs.declared.result.Result.{Result};
+ghost use Rattle.port_base.specs.Escapes.{escaped};
 ghost use Rattle.libmount.specs.declared.mountinfo.errors.ParseError.{ParseError};
 ghost use Rattle.libmount.specs.declared.mountinfo.rows.MountPoint.{MountPoint};
 ghost use Rattle.libmount.specs.CutLaws.{IsCut};
-ghost use Rattle.libmount.specs.Cuts.{cut};
+ghost use Rattle.libmount.specs.Cuts.{cut, space};
+ghost use Rattle.libmount.specs.Escapes.{decoded};
 ghost use Rattle.libmount.specs.Numbers.{number_of};
 ghost use Rattle.libmount.specs.Parsers.{ItemLiesInRest};
 ghost use Rattle.libmount.specs.Rows.{row};
@@ -39,4 +41,17 @@ pub fn parts_of_parts_are_parts()
         → StaysIn middle last → StaysIn first last }
     ensures item { (first later : Option (Bor (List ℕ))) (item : Result MountPoint ParseError)
         → StaysIn first later → ItemLiesInRest later item → ItemLiesInRest first item }
+{}
+
+/// The decoding of a mountinfo field undoes the escapes of a printed table, whatever the text is.
+#[tactic(auto, using(crate::proofs::PrintedTexts::decoded_escaped))]
+pub fn escaped_texts_are_decoded()
+    ensures { (text : List ℕ) → decoded (escaped text) ≡ text }
+{}
+
+/// A printed field is cut at the space behind it, whatever the text is: it has no space in it.
+#[tactic(auto, using(crate::proofs::PrintedFields::printed_field_cut))]
+pub fn printed_fields_are_cut()
+    ensures { (text rest : List ℕ) → cut space (escaped text ++ (space ++ rest))
+        ≡ (escaped text, rest) }
 {}

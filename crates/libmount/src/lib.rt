@@ -30,5 +30,6 @@ pub mod remount;
 mod remounting;
 pub mod script_probe;
 mod table_examples;
+pub mod table_laws;
 mod texts;
 pub mod tmpfs;

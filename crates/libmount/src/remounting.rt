@@ -4,8 +4,9 @@ ghost use Rattle.port_base.specs.Flags.{bits_of};
 ghost use Rattle.port_base.specs.Paths.{is_slash};
 ghost use Rattle.libmount.specs.Mounters.{Caused, Leaves};
 ghost use Rattle.libmount.specs.Mountings.{Ends, Prints, RemountsBare, TellsFlags, TellsPlace};
-ghost use Rattle.libmount.specs.Mountings.{Tries, below, flags_told, remount_call};
+ghost use Rattle.libmount.specs.Mountings.{Tries, below, remount_call};
 ghost use Rattle.libmount.specs.MountTables.{is_absolute, mount};
+ghost use Rattle.libmount.specs.ReadBack.{flags_of_last};
 
 use crate::errors::{Failure, IoCause, MountError, OSError, RemountError};
 use crate::failure::explained;
@@ -73,13 +74,13 @@ fn printed<M: Mounter>(alloc: Global, mounts: &mut M) -> Result<Vec<u8>, Remount
     }
 }
 
-// The flags of a place in the table that its mounter prints.
+// The flags of the last mount at a place, read from the table that its mounter prints.
 fn found_flags<M: Mounter>(
     alloc: Global,
     place: &[u8],
     mounts: &mut M,
 ) -> Result<Option<MsFlags>, RemountError>
-    ensures told { TellsFlags (flags_told (M.table mounts.old) place.now) result
+    ensures told { TellsFlags (flags_of_last place.now (M.table mounts.old).rows) result
         (M.calls mounts.old) (M.calls mounts.new) }
     ensures table { M.table mounts.new ≡ M.table mounts.old }
 {
@@ -130,9 +131,10 @@ impl Remount {
     }
 
     /// Changes the flags of the mount at the path; a relative path is taken from the current
-    /// directory. The flags that no setter named are those of the printed table. `Io` is the
-    /// table's refusal, or 5 where the mounter failed; `Remount` says why the flags can't be told.
-    /// After an error the table is as before.
+    /// directory. The flags that no setter named are those of the last mount there, as the printed
+    /// table has them. `Io` is the table's refusal, or 5 where the mounter failed; `Remount` says
+    /// why the flags can't be told, which is never that the table couldn't be parsed. After an
+    /// error the table is as before.
     pub fn bare_remount<M: Mounter, P: Probe>(
         self,
         alloc: Global,

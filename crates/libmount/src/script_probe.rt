@@ -1,9 +1,14 @@
 //! A probe that goes by a script.
-ghost use Rattle.std.specs.Prelude.{◌≡◌, ◌++◌, ◌∷◌, [], IsTrue, IfOk, OnOk, OnErr, Some, None};
-ghost use Rattle.std.specs.Prelude.{false, map};
-ghost use Rattle.port_base.specs.Failing.{first_calls};
+ghost use Rattle.std.specs.Prelude.{◌≡◌, ◌↔◌, ◌++◌, ◌∷◌, [], IsTrue, IfOk, OnOk, OnErr, None};
+ghost use Rattle.std.specs.Prelude.{Err, false, map};
+ghost use Rattle.std.specs.Option.{is_some};
+ghost use Rattle.port_base.specs.Failing.{after_call, first_calls, is_due};
+ghost use Rattle.libmount.specs.declared.probe.ProbeFault.TheVariants as probe_fault;
+ghost use Rattle.libmount.specs.declared.probe.User.TheVariants as user_kind;
 ghost use Rattle.libmount.specs.Mounters.{FaultedIn};
-ghost use Rattle.libmount.specs.Scripts.{Place, calls_of, device_at, facts_of, place_view};
+ghost use Rattle.libmount.specs.Probes.{Facts, ToldBy, ToldOrFault};
+ghost use Rattle.libmount.specs.Scripts.{Place, answer_of, calls_of, device_at, facts_of};
+ghost use Rattle.libmount.specs.Scripts.{place_view, told_of};
 
 use crate::probe::{Probe, ProbeFault, User};
 use port_base::failing::FailingCalls;
@@ -31,6 +36,8 @@ pub struct ScriptProbe {
 /// Counts a call, and says whether it faults. The count of faults rises at a fault alone.
 #[tactic(auto, using(crate::proofs::ScriptLemmas::due_is_loud))]
 pub fn strikes(failing: &mut FailingCalls) -> bool
+    ensures due { result ≡ is_due failing.old.script }
+    ensures script { failing.new.script ≡ after_call failing.old.script }
     ensures fault { IsTrue result → FaultedIn (calls_of failing.old) (calls_of failing.new) }
     ensures none { result ≡ false → calls_of failing.new ≡ calls_of failing.old }
 {
@@ -89,21 +96,28 @@ impl ScriptProbe {
         ensures more { OnOk result
             (self.new.failing.script.numbers ≡ self.old.failing.script.numbers ++ fails.now) }
         ensures refused { OnErr result (self.new.failing ≡ self.old.failing) }
-        ensures facts { facts_of self.new.user self.new.dir.items
-            (map place_view self.new.places.items) ≡ facts_of self.old.user self.old.dir.items
-            (map place_view self.old.places.items) }
+        ensures made { self.new.failing.script.calls ≡ self.old.failing.script.calls }
+        ensures faults { self.new.failing.faults ≡ self.old.failing.faults }
+        ensures facts { told_of self.new ≡ told_of self.old }
     {
         self.failing.fail_at(fails)
     }
 }
 
 impl Probe for ScriptProbe {
-    ghost facts = { λ p. Some (facts_of p.user p.dir.items (map place_view p.places.items)) };
+    ghost facts = { λ p. told_of p };
 
     ghost calls = { λ p. calls_of p.failing };
 
     #[tactic(auto, using(crate::proofs::ScriptLemmas::told_fact, crate::proofs::ScriptLemmas::told_fault))]
-    fn exists(&mut self, path: &[u8]) -> bool {
+    fn exists(&mut self, path: &[u8]) -> bool
+        ensures told { ToldBy (told_of self.old) (λ (f : Facts). f.exists path.now) false result
+            (calls_of self.old.failing) (calls_of self.new.failing) }
+        ensures facts { told_of self.new ≡ told_of self.old }
+        ensures exact { result ≡ answer_of self.old.failing.script false
+            (is_some (device_at path.now (map place_view self.old.places.items))) }
+        ensures script { self.new.failing.script ≡ after_call self.old.failing.script }
+    {
         if strikes(&mut self.failing) {
             return false;
         }
@@ -111,7 +125,14 @@ impl Probe for ScriptProbe {
     }
 
     #[tactic(auto, using(crate::proofs::ScriptLemmas::told_fact, crate::proofs::ScriptLemmas::told_fault))]
-    fn device(&mut self, path: &[u8]) -> Option<u64> {
+    fn device(&mut self, path: &[u8]) -> Option<u64>
+        ensures told { ToldBy (told_of self.old) (λ (f : Facts). f.device path.now) None result
+            (calls_of self.old.failing) (calls_of self.new.failing) }
+        ensures facts { told_of self.new ≡ told_of self.old }
+        ensures exact { result ≡ answer_of self.old.failing.script None
+            (device_at path.now (map place_view self.old.places.items)) }
+        ensures script { self.new.failing.script ≡ after_call self.old.failing.script }
+    {
         if strikes(&mut self.failing) {
             return None;
         }
@@ -119,14 +140,28 @@ impl Probe for ScriptProbe {
     }
 
     #[tactic(auto, using(crate::proofs::ScriptLemmas::told_fact, crate::proofs::ScriptLemmas::told_fault))]
-    fn user(&mut self) -> User {
+    fn user(&mut self) -> User
+        ensures told { ToldBy (told_of self.old) (λ (f : Facts). f.user) user_kind.RootUnreadable
+            result (calls_of self.old.failing) (calls_of self.new.failing) }
+        ensures facts { told_of self.new ≡ told_of self.old }
+        ensures exact { result ≡ answer_of self.old.failing.script user_kind.RootUnreadable
+            self.old.user }
+        ensures script { self.new.failing.script ≡ after_call self.old.failing.script }
+    {
         if strikes(&mut self.failing) {
             return User::RootUnreadable;
         }
         self.user
     }
 
-    fn current_dir(&mut self, alloc: Global) -> Result<Vec<u8>, ProbeFault> {
+    fn current_dir(&mut self, alloc: Global) -> Result<Vec<u8>, ProbeFault>
+        ensures told { ToldOrFault (told_of self.old) (λ (f : Facts). f.dir) result
+            (calls_of self.old.failing) (calls_of self.new.failing) }
+        ensures facts { told_of self.new ≡ told_of self.old }
+        ensures fails { (result ≡ Err probe_fault.Fault) ↔ IsTrue
+            (is_due self.old.failing.script) }
+        ensures script { self.new.failing.script ≡ after_call self.old.failing.script }
+    {
         if strikes(&mut self.failing) {
             return Err(ProbeFault::Fault);
         }

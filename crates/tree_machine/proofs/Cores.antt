@@ -1,11 +1,11 @@
 -- On core requests both machines take the same steps.
 use Rattle.std.proofs.Common.{◌≡◌, ℕ, Bool, true, false, List, [], ◌∷◌, ◌++◌, refl, sym, ap}
-use Rattle.std.proofs.Common.{◌∙◌, subst, Option, Some, None, Result, Ok, Err}
+use Rattle.std.proofs.Common.{◌∙◌, subst, Option, Result, Ok, Err}
 use Rattle.std.specs.Prelude.{IsTrue, if◌then◌else◌}
 use Rattle.std.proofs.lemmas.Bool.{false≢true}
 use Rattle.std.specs.FinMap.{get}
-use Rattle.port_base.specs.declared.errno.TheConstants.{ENOSYS, EPROTO}
-use Rattle.tree_model.specs.Tree.{Tree, body_at}
+use Rattle.port_base.specs.declared.errno.TheConstants.{EPROTO}
+use Rattle.tree_model.specs.Tree.{Tree}
 use Rattle.tree_model.specs.Settings.{Settings}
 use Rattle.fuse_wire.specs.Head.{head_of}
 use Rattle.fuse_wire.specs.Request.{Request, request_of, init, lookup, getattr, unlink, open_file}
@@ -13,24 +13,14 @@ use Rattle.fuse_wire.specs.Request.{read, opendir, readdir, releasedir, flush, r
 use Rattle.fuse_wire.specs.Request.{batch_forget, rmdir, rename, rename2, symlink, mknod, readlink}
 use Rattle.fuse_wire.specs.Request.{statfs, fsync, fsyncdir, interrupt, destroy, mkdir, setattr}
 use Rattle.fuse_wire.specs.Request.{write, link, create}
-use Rattle.port_base.specs.OpenFlags.{has_flag}
-use Rattle.port_base.specs.declared.oflag.TheConstants.{O_TRUNC}
 use Rattle.tree_machine.specs.State.{MachineState, Node, begun}
-use Rattle.tree_machine.specs.Refusals.{refused_if, first_refusal, refused_or}
-use Rattle.tree_machine.specs.Core.{node_ino, opened, open_refusal, link_check, core}
+use Rattle.tree_machine.specs.Refusals.{refused_or}
+use Rattle.tree_machine.specs.Core.{node_ino, open_refusal, core}
 use Rattle.tree_machine.specs.Requests.{is_core, answer_of}
 use Rattle.tree_machine.specs.Step.{is_in_turn, step, core_step, stepped}
 use Rattle.tree_machine.specs.Play.{play, play_from, core_play, core_play_from, told_of}
 use Rattle.tree_machine.specs.Play.{IsCoreRequest, AreCoreRequests}
-use Rattle.tree_machine.proofs.Opening.{checked_alike, to_read}
-
--- flags that are served refuse nothing
-flags_pass : (b : Bool) (o : Option ℕ) → b ≡ false
-    → o ≡ first_refusal (refused_if b ENOSYS ∷ o ∷ [])
-flags_pass b o is = rw is (only o) where
-  only : (o : Option ℕ) → o ≡ first_refusal (o ∷ [])
-  only None = refl
-  only (Some e) = refl
+use Rattle.tree_machine.proofs.Opening.{opened_alike}
 
 module _ (s : Settings) (m : MachineState) (node : ℕ) where
   pub core_alike : (r : Request) → IsTrue (is_core r)
@@ -40,13 +30,7 @@ module _ (s : Settings) (m : MachineState) (node : ℕ) where
   core_alike (getattr handle) h = refl
   core_alike (open_file flags) h =
       let o : Option Node = get m.nodes node in
-      ap (λ (r : Option ℕ). refused_or m r (opened m (node_ino o) flags
-      (link_check (body_at m.tree.records (node_ino o)))))
-      (flags_pass (has_flag O_TRUNC flags) (open_refusal s m o) (to_read flags h).truncate)
-      ∙ ap (λ (r : Result (Unit {0}) ℕ). refused_or m
-      (first_refusal (refused_if (has_flag O_TRUNC flags) ENOSYS ∷ open_refusal s m o ∷ []))
-      (opened m (node_ino o) flags r)) (sym
-      (checked_alike flags h (body_at m.tree.records (node_ino o))))
+      ap (refused_or m (open_refusal s m o)) (opened_alike m (node_ino o) flags h)
   core_alike (read fh offset size flags lock) h = refl
   core_alike (unlink name) h = refl
   core_alike (opendir flags) h = refl

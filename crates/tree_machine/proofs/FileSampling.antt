@@ -1,14 +1,19 @@
 -- The first example goes on: `hello` is opened, read, closed and forgotten.
 use Rattle.std.proofs.Common.{◌≡◌, ℕ, ◌+◌, Bool, false, cond, List, [], ◌∷◌, refl, sym, ap, ◌∙◌}
-use Rattle.std.proofs.Common.{Option, Some, None, Ok, arith}
+use Rattle.std.proofs.Common.{Option, Some, None, Result, Ok, arith}
 use Rattle.std.specs.Prelude.{codes, drop, min, is_some, option_map, nat_le, ◌||◌}
 use Rattle.std.specs.Ordering.{nat_cmp}
 use Rattle.std.specs.Cmp.{nat_cmp_total}
 use Rattle.std.specs.FinMap.{FinMap, get, remove, empty, len, len-insert, len-empty, get-empty}
-use Rattle.port_base.specs.declared.errno.TheConstants.{EBADF, EISDIR, ENFILE, ENOSYS, ESTALE}
-use Rattle.tree_model.specs.Tree.{Record, body_at, is_directory_at}
+use Rattle.port_base.specs.declared.errno.TheConstants.{EBADF, EISDIR, ENFILE, ESTALE}
+use Rattle.tree_model.specs.Tree.{Tree, Record, body_at, is_directory_at}
 use Rattle.tree_model.specs.Attributes.{kind_of}
 use Rattle.tree_model.specs.Opening.{body_answer, unless, open_refused, open_check_of, read_body}
+use Rattle.tree_model.specs.Attributing.{len_refused, refused_at, resized, rewritten_at}
+use Rattle.tree_model.specs.Attributing.{with_changed}
+use Rattle.tree_model.specs.Making.{unless_refused}
+use Rattle.tree_model.specs.OpenedFiles.{emptied_where, open_of}
+use Rattle.tree_model.proofs.Changing.{change_at}
 use Rattle.tree_model.proofs.Maps.{inserted, insert_keeps, undone}
 use Rattle.fuse_wire.specs.Fields.{u32_at, u64_at}
 use Rattle.fuse_wire.specs.Head.{head_of}
@@ -24,9 +29,9 @@ use Rattle.tree_machine.specs.Replies.{Reply, answer_bytes}
 use Rattle.tree_machine.specs.Replies.Reply.{Refused, Opened, Bytes, Done}
 use Rattle.tree_machine.specs.Refusals.{refused_if, refused_unknown, first_refusal, refused_or}
 use Rattle.tree_machine.specs.Refusals.{none_or}
-use Rattle.tree_machine.specs.Core.{node_ino, open_refusal, opened, read_refusal, bytes_read}
-use Rattle.tree_machine.specs.Core.{bytes_reply}
-use Rattle.tree_machine.specs.Requests.{answer_of}
+use Rattle.tree_machine.specs.Core.{node_ino, open_refusal, read_refusal, bytes_read, bytes_reply}
+use Rattle.tree_machine.specs.Core.{with_handle}
+use Rattle.tree_machine.specs.Requests.{answer_of, opened_to}
 use Rattle.tree_machine.specs.Forgetting.{less_where, forgotten, all_forgotten, pairs_of}
 use Rattle.tree_machine.specs.Step.{step, request_in_turn, frame_answer}
 use Rattle.tree_machine.specs.Messages.{messages, request_messages, opened_messages, read_messages}
@@ -34,6 +39,7 @@ use Rattle.tree_machine.specs.Messages.{gone}
 use Rattle.tree_machine.specs.Samples.{tree, settings, started, with_hello}
 use Rattle.tree_machine.specs.FileSamples.{open_frame, open_reply, with_open, read_frame}
 use Rattle.tree_machine.specs.FileSamples.{read_reply, release_frame, release_reply, with_closed}
+use Rattle.tree_machine.specs.FileSamples.{to_empty, emptied_hello}
 use Rattle.tree_machine.specs.FileSamples.{forget_frame, with_none, thrice_given, batch_frame}
 use Rattle.tree_machine.proofs.Sampling.{file, file_at, root_node, top_at}
 use Rattle.tree_machine.proofs.Forgetting.{gone_one}
@@ -99,13 +105,17 @@ open_checked =
     ∙ ap (λ (o : Option Record). body_answer (λ b. unless (open_refused 0 (kind_of b)))
     (option_map (λ (r : Record). r.body) o)) file_at
 
+not_emptied : open_of tree (node_ino (get with_hello.nodes 2)) 0 ≡ Ok (tt, tree)
+not_emptied = ap (λ (r : Result (Unit {0}) ℕ). emptied_where r tree
+    (node_ino (get with_hello.nodes 2)) 0) open_checked
+
 opened_is : answer_of settings with_hello 2 (Ok (open_file 0)) ≡ (Opened 3, with_open)
 opened_is =
-    ap (λ (o : Option ℕ). refused_or with_hello (first_refusal (o ∷ []))
-    (opened with_hello (node_ino (get with_hello.nodes 2)) 0
-    (open_check_of tree (node_ino (get with_hello.nodes 2)) 0))) open_passed
-    ∙ ap (λ r. opened with_hello (node_ino (get with_hello.nodes 2)) 0 r) open_checked
-    ∙ ap (λ (o : Option Node). opened with_hello (node_ino o) 0 (Ok tt)) hello_known
+    ap (λ (o : Option ℕ). refused_or with_hello o
+    (opened_to with_hello (node_ino (get with_hello.nodes 2)) 0
+    (open_of tree (node_ino (get with_hello.nodes 2)) 0))) open_passed
+    ∙ ap (λ r. opened_to with_hello (node_ino (get with_hello.nodes 2)) 0 r) not_emptied
+    ∙ ap (λ (o : Option Node). opened_to with_hello (node_ino o) 0 (Ok (tt, tree))) hello_known
 
 open_told : frame_answer settings with_hello open_frame ≡ (Opened 3, with_open)
 open_told =
@@ -127,18 +137,64 @@ pub open_counted : messages 4341 settings with_hello open_frame ≡ 2
 open_counted =
     ap (λ r. request_messages 4341 settings with_hello (head_of open_frame).nodeid r) open_asked
     ∙ ap (λ n. request_messages 4341 settings with_hello n (Ok (open_file 0))) open_nodeid
-    ∙ ap (λ (o : Option ℕ). none_or (first_refusal (o ∷ []))
-    (opened_messages (open_check_of tree (node_ino (get with_hello.nodes 2)) 0))) open_passed
-    ∙ ap opened_messages open_checked
+    ∙ ap (λ (o : Option ℕ). none_or o
+    (opened_messages (open_of tree (node_ino (get with_hello.nodes 2)) 0))) open_passed
+    ∙ ap opened_messages not_emptied
 
--- flags that aren't served come first, then a node that isn't there, then a directory
-pub open_cut : (answer_of settings with_hello 9 (Ok (open_file 512))).0 ≡ Refused ENOSYS
-open_cut = refl
+-- ---- OPEN of a file that it empties
 
-pub open_unknown : (answer_of settings with_hello 9 (Ok (open_file 0))).0 ≡ Refused ESTALE
-open_unknown = ap (λ (o : Option Node). (refused_or with_hello
-    (first_refusal (open_refusal settings with_hello o ∷ []))
-    (opened with_hello (node_ino o) 0 (open_check_of tree (node_ino o) 0))).0) nine_unknown
+abbrev empty_tree : Tree
+empty_tree = with_changed (rewritten_at tree.moment (resized 0)) 2 tree
+
+empties : open_of tree (node_ino (get with_hello.nodes 2)) to_empty ≡ Ok (tt, empty_tree)
+empties =
+    ap (λ (o : Option Node). open_of tree (node_ino o) to_empty) hello_known
+    ∙ ap (λ (o : Option Record). emptied_where (body_answer
+    (λ b. unless (open_refused to_empty (kind_of b))) (option_map (λ (r : Record). r.body) o))
+    tree 2 to_empty) file_at
+    ∙ ap (λ (o : Option Record). unless_refused {A = Unit {0}} (refused_at
+    (len_refused tree.limits.file 0) (option_map (λ (r : Record). r.body) o)) tt empty_tree) file_at
+
+emptied_is : answer_of settings with_hello 2 (Ok (open_file to_empty))
+    ≡ (Opened 3, with_handle (record with_hello { tree = empty_tree }) 2 to_empty)
+emptied_is =
+    ap (λ (o : Option ℕ). refused_or with_hello o
+    (opened_to with_hello (node_ino (get with_hello.nodes 2)) to_empty
+    (open_of tree (node_ino (get with_hello.nodes 2)) to_empty))) open_passed
+    ∙ ap (λ r. opened_to with_hello (node_ino (get with_hello.nodes 2)) to_empty r) empties
+    ∙ ap (λ (o : Option Node). opened_to with_hello (node_ino o) to_empty (Ok (tt, empty_tree)))
+    hello_known
+
+pub emptied_answered : (answer_of settings with_hello 2 (Ok (open_file to_empty))).0 ≡ Opened 3
+emptied_answered = ap (λ (x : Reply × MachineState). x.0) emptied_is
+
+pub emptied_leaves : get (answer_of settings with_hello 2
+    (Ok (open_file to_empty))).1.tree.records 2 ≡ Some emptied_hello
+emptied_leaves =
+    ap (λ (x : Reply × MachineState). get x.1.tree.records 2) emptied_is
+    ∙ change_at (rewritten_at tree.moment (resized 0)) tree.records 2
+    ∙ ap (option_map (rewritten_at tree.moment (resized 0))) file_at
+
+pub emptied_open : get (answer_of settings with_hello 2 (Ok (open_file to_empty))).1.handles 3
+    ≡ Some (record { ino = 2; access = 1; append = false })
+emptied_open = ap (λ (x : Reply × MachineState). get x.1.handles 3) emptied_is
+    ∙ inserted with_hello.handles 3 (record { ino = 2; access = 1; append = false })
+
+pub emptied_counted : request_messages 4341 settings with_hello 2 (Ok (open_file to_empty)) ≡ 2
+emptied_counted =
+    ap (λ (o : Option ℕ). none_or o
+    (opened_messages (open_of tree (node_ino (get with_hello.nodes 2)) to_empty))) open_passed
+    ∙ ap opened_messages empties
+
+-- ---- a node that isn't there is refused first, then a directory
+
+abbrev opens : ℕ → Option Node → Reply × MachineState
+opens flags o = refused_or with_hello (open_refusal settings with_hello o)
+    (opened_to with_hello (node_ino o) flags (open_of tree (node_ino o) flags))
+
+pub open_unknown : (flags : ℕ) → (answer_of settings with_hello 9 (Ok (open_file flags))).0
+    ≡ Refused ESTALE
+open_unknown flags = ap (λ (o : Option Node). (opens flags o).0) nine_unknown
 
 pub root_known : get with_hello.nodes 1 ≡ Some root_node
 root_known = insert_keeps started.nodes 2 hello_node 1 (λ h. absurd (omega (arith, h)))
@@ -152,10 +208,11 @@ directory_refused =
     ∙ ap (λ (o : Option Record). first_refusal
     (refused_if (is_directory_at (option_map (λ (r : Record). r.body) o)) EISDIR ∷ [])) top_at
 
-pub open_directory : (answer_of settings with_hello 1 (Ok (open_file 0))).0 ≡ Refused EISDIR
-open_directory = ap (λ (o : Option ℕ). (refused_or with_hello (first_refusal (o ∷ []))
-    (opened with_hello (node_ino (get with_hello.nodes 1)) 0
-    (open_check_of tree (node_ino (get with_hello.nodes 1)) 0))).0) directory_refused
+pub open_directory : (flags : ℕ) → (answer_of settings with_hello 1 (Ok (open_file flags))).0
+    ≡ Refused EISDIR
+open_directory flags = ap (λ (o : Option ℕ). (refused_or with_hello o
+    (opened_to with_hello (node_ino (get with_hello.nodes 1)) flags
+    (open_of tree (node_ino (get with_hello.nodes 1)) flags))).0) directory_refused
 
 nine_closed : get with_open.handles 9 ≡ None
 nine_closed = insert_keeps with_hello.handles 3 hello_handle 9 (λ h. absurd (omega (arith, h)))

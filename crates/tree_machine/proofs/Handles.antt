@@ -1,15 +1,18 @@
 -- Handles: one more, and one that goes.
 use Rattle.std.proofs.Common.{◌≡◌, ◌≢◌, ℕ, ◌+◌, ◌<◌, ◌≤◌, false, cond, refl, sym, ap, ◌∙◌, subst}
-use Rattle.std.proofs.Common.{Option, Some, None, ◌⊎◌, inl, inr, ⊎_elim, arith}
+use Rattle.std.proofs.Common.{Option, Some, None, ◌⊎◌, inl, inr, ⊎_elim, arith, true, nat_lt}
 use Rattle.std.specs.Prelude.{is_some}
 use Rattle.std.proofs.lemmas.Bool.{cases_eq}
+use Rattle.std.proofs.lemmas.Bool.Decides.{nat_tests}
 use Rattle.std.specs.Cmp.{nat_cmp_total}
-use Rattle.std.specs.FinMap.{get, insert, remove, len, len-insert}
-use Rattle.tree_model.specs.Tree.{body_at}
+use Rattle.std.specs.FinMap.{get, insert, remove, entries, len, len-insert}
+use Rattle.tree_model.specs.Tree.{body_at, weigh, weight}
 use Rattle.port_base.specs.OpenFlags.{access}
 use Rattle.tree_model.specs.Settings.{Settings}
 use Rattle.tree_model.proofs.Maps.{inserted, insert_keeps, removed, remove_keeps}
-use Rattle.tree_machine.specs.State.{MachineState, Handle, is_at_limit}
+use Rattle.tree_model.proofs.Counting.{weigh-insert}
+use Rattle.tree_machine.specs.State.{MachineState, Handle, is_at_limit, is_named, node_weight}
+use Rattle.tree_machine.specs.State.{handle_weight}
 use Rattle.tree_machine.specs.Good.{IsGoodMachine, IsOpenable}
 use Rattle.tree_machine.proofs.Nodes.{fresh_handle, root_below, below_limit, len_fewer}
 
@@ -65,6 +68,18 @@ module _ (s : Settings) (m : MachineState) (g : IsGoodMachine s m) where
     longer = len-insert nat_cmp_total m.handles m.next v
         ∙ ap (λ (o : Option Handle). cond (is_some o) (len m.handles) (len m.handles + 1))
         (fresh_handle s m g (get m.handles m.next) refl)
+
+  -- what is named still is
+  pub drawn_named : (v : Handle) (i : ℕ) → is_named m.nodes m.handles i ≡ true
+      → is_named m.nodes (insert m.handles m.next v) i ≡ true
+  drawn_named v i is =
+      let free = ap (weight (handle_weight i)) (fresh_handle s m g (get m.handles m.next) refl) in
+      let step = weigh-insert (handle_weight i) m.handles m.next v in
+      more (weigh (node_weight i) (entries m.nodes)) (weigh (handle_weight i) (entries m.handles))
+      (weigh (handle_weight i) (entries (insert m.handles m.next v))) (omega (arith, free, step)) is
+    where
+      more : (a b c : ℕ) → b ≤ c → nat_lt 0 (a + b) ≡ true → nat_lt 0 (a + c) ≡ true
+      more a b c low is = grind (arith, nat_tests)
 
   -- a handle goes
   pub handle_gone : (id : ℕ) → IsGoodMachine s (record m { handles = remove m.handles id })

@@ -15,7 +15,6 @@ use Rattle.tree_model.specs.Tree.Body.{File, Directory, Link}
 use Rattle.tree_model.specs.Good.{IsGoodTree}
 use Rattle.tree_model.specs.Attributes.{kind_of}
 use Rattle.tree_model.specs.Creating.{stamped, with_new, with_name}
-use Rattle.tree_model.specs.Attributing.{with_changed}
 use Rattle.tree_model.specs.Finding.{lookup_of}
 use Rattle.tree_model.specs.Making.{change, joined_by, with_entries, next_cookie, unless_refused}
 use Rattle.tree_model.specs.Placing.{one_link_more}
@@ -76,6 +75,15 @@ is_stored : (o : Option Record) (h : Handle) → IsOpenable (option_map (λ (r :
 is_stored None h openable = absurd openable
 is_stored (Some r) h openable = refl
 
+-- what may be open still may, where it is of the same kind
+pub openable_still : (h : Handle) (o p : Option Record)
+    → IsOpenable (option_map (λ (r : Record). r.body) o) h
+    → (IsSome o → kind_in p ≡ kind_in o) → IsOpenable (option_map (λ (r : Record). r.body) p) h
+openable_still h o p openable same =
+    of_kind (option_map (λ (r : Record). r.body) p) h
+    (subst (λ k. openable_kind k h) (sym (same (is_stored o h openable)))
+    (by_kind (option_map (λ (r : Record). r.body) o) h openable))
+
 -- ---- a change that keeps the kinds of what is named keeps a good state good
 
 module _ (s : Settings) (m : MachineState) (g : IsGoodMachine s m) where
@@ -96,11 +104,8 @@ module _ (s : Settings) (m : MachineState) (g : IsGoodMachine s m) where
       positive = old.positive;
       drawn = old.drawn;
       access = old.access;
-      openable = of_kind (body_at u.records h.ino) h
-          (subst (λ k. openable_kind k h)
-          (sym (same h.ino (handle_is_named m.nodes m.handles id h at)
-          (is_stored (get m.tree.records h.ino) h old.openable)))
-          (by_kind (body_at m.tree.records h.ino) h old.openable));
+      openable = openable_still h (get m.tree.records h.ino) (get u.records h.ino) old.openable
+          (same h.ino (handle_is_named m.nodes m.handles id h at));
     };
     apart = g.apart;
     once = g.once;

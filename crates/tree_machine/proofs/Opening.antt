@@ -1,29 +1,41 @@
 -- OPEN leaves a good state, and is refused by a core request's rule where it is one.
-use Rattle.std.proofs.Common.{◌≡◌, ◌≢◌, ℕ, ◌+◌, ◌≤◌, ◌<◌, Bool, true, false, cond, not, ◌||◌, ◌&&◌, [], ◌∷◌}
-use Rattle.std.proofs.Common.{refl, sym, ◌∙◌, Option, Some, None, Result, Ok, Err, arith}
-use Rattle.std.specs.Prelude.{◌==◌, ◌%◌}
+use Rattle.std.proofs.Common.{◌≡◌, ◌≢◌, ℕ, ◌+◌, ◌≤◌, ◌<◌, Bool, true, false, cond, not, ◌||◌, ◌&&◌}
+use Rattle.std.proofs.Common.{refl, sym, ap, ◌∙◌, subst, Option, Some, None, Result, Ok, Err, arith}
+use Rattle.std.proofs.Common.{◌⊎◌, inl, inr, ⊎_elim, [], ◌∷◌}
+use Rattle.std.specs.Prelude.{◌==◌, ◌%◌, if◌then◌else◌}
 use Rattle.std.proofs.lemmas.Bool.{false≢true}
 use Rattle.std.proofs.lemmas.Bool.Decides.{nat_tests}
 use borrow.Author.Tests.{eqb-true}
-use Rattle.std.specs.FinMap.{insert}
+use Rattle.std.specs.FinMap.{get, insert}
 use Rattle.port_base.specs.OpenFlags.{access, has_flag}
-use Rattle.tree_model.specs.Tree.{Body, body_at, is_directory_at}
+use Rattle.tree_model.specs.Tree.{Tree, Records, Body, body_at, is_directory_at}
 use Rattle.tree_model.specs.Tree.Body.{File, Directory, Link}
 use Rattle.tree_model.specs.Attributes.{kind_of}
+use Rattle.tree_model.specs.Attributing.{len_refused, refused_at, resized, rewritten_at}
+use Rattle.tree_model.specs.Attributing.{set_len_of, with_changed}
+use Rattle.tree_model.specs.Good.{IsGoodTree}
+use Rattle.tree_model.specs.Making.{change, unless_refused}
+use Rattle.tree_model.specs.Sound.{AreStored, IsKept}
+use Rattle.tree_model.proofs.Attributing.{amended_kept, amended_stored}
+use Rattle.tree_model.proofs.Rewriting.{resized_good}
+use Rattle.tree_model.specs.OpenedFiles.{emptied_where, open_of}
 use Rattle.tree_model.specs.Opening.{body_answer, unless, open_refused, open_check_of}
 use Rattle.tree_model.specs.Opening.{kind_refused, opens_to_change}
 use Rattle.tree_model.specs.Settings.{Settings}
 use Rattle.port_base.specs.declared.errno.TheConstants.{EEXIST, EINVAL, EISDIR, ELOOP, ENFILE}
-use Rattle.port_base.specs.declared.errno.TheConstants.{ENOSYS, ENOTDIR, ESTALE}
+use Rattle.port_base.specs.declared.errno.TheConstants.{ENOTDIR, ESTALE}
 use Rattle.port_base.specs.declared.oflag.TheConstants.{O_ACCMODE, O_APPEND, O_CREAT, O_DIRECTORY}
 use Rattle.port_base.specs.declared.oflag.TheConstants.{O_EXCL, O_RDONLY, O_RDWR, O_TRUNC, O_WRONLY}
 use Rattle.tree_machine.specs.State.{MachineState, Node, Handle, is_at_limit}
-use Rattle.tree_machine.specs.Refusals.{refused_if, refused_unknown, first_refusal}
+use Rattle.tree_machine.specs.Refusals.{refused_if, refused_unknown}
 use Rattle.tree_machine.specs.Core.{node_ino, opened, open_refusal, link_check}
-use Rattle.tree_machine.specs.Requests.{opens_to_read}
+use Rattle.tree_machine.specs.Requests.{opened_to, opens_to_read}
 use Rattle.tree_machine.specs.Good.{IsGoodMachine, IsOpenable}
 use Rattle.tree_machine.proofs.KeptStates.{kept_good, Gives}
 use Rattle.tree_machine.proofs.Handles.{handle_drawn}
+use Rattle.tree_machine.proofs.KindsKept.{openable_still}
+use Rattle.tree_machine.proofs.KindsKept.{tree_in}
+use Rattle.tree_machine.proofs.Setting.{Keeps, keeps_refl, length_tame, set_to}
 use Rattle.tree_machine.proofs.Refusals.{passes, fails}
 
 both : (a b : Bool) → (a && b) ≡ true → (a ≡ true) × (b ≡ true)
@@ -127,31 +139,105 @@ checked_alike flags h (Some (Link target)) =
     link_opened (access flags == O_ACCMODE) (has_flag O_CREAT flags) (has_flag O_EXCL flags)
     (other flags 3 r.access (omega arith)) r.create
 
+-- what is opened to be read is emptied in no case
+pub opened_alike : (m : MachineState) (ino flags : ℕ) → opens_to_read flags ≡ true
+    → opened m ino flags (link_check (body_at m.tree.records ino))
+    ≡ opened_to m ino flags (open_of m.tree ino flags)
+opened_alike m ino flags h =
+    ap (opened m ino flags) (sym (checked_alike flags h (body_at m.tree.records ino)))
+    ∙ by_check (open_check_of m.tree ino flags)
+  where
+    by_check : (r : Result (Unit {0}) ℕ)
+        → opened m ino flags r ≡ opened_to m ino flags (emptied_where r m.tree ino flags)
+    by_check (Ok tt) = ap (λ (b : Bool). opened_to m ino flags
+        (if b then set_len_of m.tree ino 0 else Ok (tt, m.tree)))
+        (sym (to_read flags h).truncate)
+    by_check (Err e) = refl
+
+-- ---- what an open leaves
+
+module _ (t : Tree) (g : IsGoodTree t) (ino flags : ℕ) (u : Tree)
+    (is : open_of t ino flags ≡ Ok (tt, u)) where
+  -- what is opened was allowed to be
+  was_allowed : open_check_of t ino flags ≡ Ok tt
+  was_allowed = by_check (open_check_of t ino flags) is where
+    by_check : (r : Result (Unit {0}) ℕ) → emptied_where r t ino flags ≡ Ok (tt, u) → r ≡ Ok tt
+    by_check (Ok tt) is = refl
+    by_check (Err e) is = absurd cc
+
+  -- the tree is as it was, or a file has no bytes
+  left_or_emptied : (u ≡ t) ⊎ (set_len_of t ino 0 ≡ Ok (tt, u))
+  left_or_emptied = by_check (open_check_of t ino flags) is where
+    by_flag : (truncates : Bool)
+        → (if truncates then set_len_of t ino 0 else Ok (tt, t)) ≡ Ok (tt, u)
+        → (u ≡ t) ⊎ (set_len_of t ino 0 ≡ Ok (tt, u))
+    by_flag true is = inr is
+    by_flag false is = inl (sym (ap (tree_in u) is))
+
+    by_check : (r : Result (Unit {0}) ℕ) → emptied_where r t ino flags ≡ Ok (tt, u)
+        → (u ≡ t) ⊎ (set_len_of t ino 0 ≡ Ok (tt, u))
+    by_check (Ok tt) is = by_flag (has_flag O_TRUNC flags) is
+    by_check (Err e) is = absurd cc
+
+  pub open_keeps : Keeps t u
+  open_keeps = ⊎_elim (λ same. subst (Keeps t) (sym same) (keeps_refl t g))
+      (λ told. length_tame ino 0 t u g told) left_or_emptied
+
+  -- what holds of a tree, and of it with the file emptied, holds of what is left
+  by_record : (P : Records → Type 0) → P t.records
+      → (refused_at (len_refused t.limits.file 0) (body_at t.records ino) ≡ None
+      → P (change (rewritten_at t.moment (resized 0)) t.records ino))
+      → P u.records
+  by_record P old new = ⊎_elim
+      (λ same. subst (λ (x : Tree). P x.records) (sym same) old)
+      (λ told. by_refusal (refused_at (len_refused t.limits.file 0) (body_at t.records ino)) told
+      new)
+      left_or_emptied
+    where
+      by_refusal : (o : Option ℕ)
+          → unless_refused {A = Unit {0}} o tt
+          (with_changed (rewritten_at t.moment (resized 0)) ino t) ≡ Ok (tt, u)
+          → (o ≡ None → P (change (rewritten_at t.moment (resized 0)) t.records ino)) → P u.records
+      by_refusal (Some e) is new = absurd cc
+      by_refusal None is new = subst (λ (x : Tree). P x.records) (ap (tree_in u) is) (new refl)
+
+  -- what is held stays stored, and what isn't linked or held isn't stored
+  pub open_stays : (held : ℕ → Bool) → IsKept t.records held → IsKept u.records held
+  open_stays held kept = by_record (λ rs. IsKept rs held) kept
+      (λ free. amended_kept t g ino (len_refused t.limits.file 0)
+      (rewritten_at t.moment (resized 0)) (resized_good t g ino 0) free held kept)
+
+  pub open_stored : (held : ℕ → Bool) → AreStored t.records held → AreStored u.records held
+  open_stored held stored = by_record (λ rs. AreStored rs held) stored
+      (λ free. amended_stored t g ino (len_refused t.limits.file 0)
+      (rewritten_at t.moment (resized 0)) (resized_good t g ino 0) free held stored)
+
 module _ (s : Settings) (m : MachineState) (g : IsGoodMachine s m) where
   pub opened_good : (flags ino : ℕ) → is_at_limit s m ≡ false
       → (is_directory_at (body_at m.tree.records ino) ≡ true
       → (access flags ≡ 0) × (has_flag O_APPEND flags ≡ false))
-      → (r : Result (Unit {0}) ℕ) → open_check_of m.tree ino flags ≡ r
-      → Gives s (opened m ino flags r)
+      → (r : Result (Unit {0} × Tree) ℕ) → open_of m.tree ino flags ≡ r
+      → Gives s (opened_to m ino flags r)
   opened_good flags ino open_limit plain (Err e) told = kept_good s m g
-  opened_good flags ino open_limit plain (Ok tt) told =
+  opened_good flags ino open_limit plain (Ok (tt, u)) told =
+      let keeps = open_keeps m.tree g.tree ino flags u told in
+      let allowed = was_allowed m.tree g.tree ino flags u told in
+      let changed : MachineState = record m { tree = u } in
       let v : Handle = record { ino = ino; access = access flags; append = has_flag O_APPEND flags }
       in
-      kept_good s (record m { handles = insert m.handles m.next v; next = m.next + 1 })
-      (handle_drawn s m g v (opened_access (body_at m.tree.records ino) flags told)
-      (opened_is_openable (body_at m.tree.records ino) flags v plain told) open_limit)
+      kept_good s (record changed { handles = insert m.handles m.next v; next = m.next + 1 })
+      (handle_drawn s changed (set_to s m g u keeps) v
+      (opened_access (body_at m.tree.records ino) flags allowed)
+      (openable_still v (get m.tree.records ino) (get u.records ino)
+      (opened_is_openable (body_at m.tree.records ino) flags v plain allowed) (keeps.kinds ino))
+      open_limit)
 
-  pub open_good : (flags : ℕ) (o : Option Node)
-      → first_refusal (refused_if (has_flag O_TRUNC flags) ENOSYS ∷ open_refusal s m o ∷ [])
-      ≡ None
-      → Gives s (opened m (node_ino o) flags (open_check_of m.tree (node_ino o) flags))
+  pub open_good : (flags : ℕ) (o : Option Node) → open_refusal s m o ≡ None
+      → Gives s (opened_to m (node_ino o) flags (open_of m.tree (node_ino o) flags))
   open_good flags o none =
-      let served = passes (refused_if (has_flag O_TRUNC flags) ENOSYS) (open_refusal s m o ∷ [])
-      none in
-      let rest = passes (open_refusal s m o) [] served.1 in
       let known = passes (refused_unknown o ESTALE)
       (refused_if (is_at_limit s m) ENFILE
-      ∷ refused_if (is_directory_at (body_at m.tree.records (node_ino o))) EISDIR ∷ []) rest.0
+      ∷ refused_if (is_directory_at (body_at m.tree.records (node_ino o))) EISDIR ∷ []) none
       in
       let below = passes (refused_if (is_at_limit s m) ENFILE)
       (refused_if (is_directory_at (body_at m.tree.records (node_ino o))) EISDIR ∷ []) known.1
@@ -162,4 +248,4 @@ module _ (s : Settings) (m : MachineState) (g : IsGoodMachine s m) where
       (fails (is_at_limit s m) ENFILE below.0)
       (λ is. absurd (false≢true (sym (fails (is_directory_at (body_at m.tree.records (node_ino o)))
       EISDIR plain.0) ∙ is)))
-      (open_check_of m.tree (node_ino o) flags) refl
+      (open_of m.tree (node_ino o) flags) refl

@@ -1,6 +1,9 @@
 -- More frames for the first example: its file is opened, read, closed and forgotten.
-use Rattle.std.specs.Prelude.{ℕ, List, [], ◌∷◌, ◌++◌, replicate, codes, false}
+use Rattle.std.specs.Prelude.{ℕ, ◌+◌, List, [], ◌∷◌, ◌++◌, replicate, codes, false}
 use Rattle.std.specs.FinMap.{insert}
+use Rattle.port_base.specs.declared.oflag.TheConstants.{O_TRUNC, O_WRONLY}
+use Rattle.tree_model.specs.Tree.{Record}
+use Rattle.tree_model.specs.Tree.Body.{File}
 use Rattle.tree_machine.specs.State.{MachineState}
 use Rattle.tree_machine.specs.Samples.{started, with_hello}
 use Rattle.fuse_wire.specs.declared.setattr.SetAttrIn.{SetAttrIn}
@@ -23,6 +26,23 @@ with_open =
           insert with_hello.handles 3 (record { ino = 2; access = 0; append = false });
       next = 4;
     }
+
+-- ---- node 2 is opened to be written, and emptied: handle 3, and the file as it is then
+
+abbrev pub to_empty : ℕ
+to_empty = O_WRONLY + O_TRUNC
+
+abbrev pub emptied_hello : Record
+emptied_hello = record {
+  body = File [];
+  mode = 420;
+  uid = 1000;
+  gid = 1000;
+  links = 1;
+  atime = record { sec = 1600000000; nsec = 0 };
+  mtime = record { sec = 1700000000; nsec = 5 };
+  ctime = record { sec = 1700000000; nsec = 5 };
+}
 
 -- ---- four bytes of handle 3 from its second byte on
 

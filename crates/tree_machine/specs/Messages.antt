@@ -9,7 +9,6 @@ use Rattle.tree_model.specs.Tree.{Tree}
 use Rattle.tree_model.specs.AttributeSteps.{run}
 use Rattle.tree_model.specs.Creating.{mkdir_of}
 use Rattle.tree_model.specs.Finding.{find}
-use Rattle.tree_model.specs.Opening.{open_check_of}
 use Rattle.tree_model.specs.Reading.{Entry}
 use Rattle.tree_model.specs.Pages.{page_of, last_cookie}
 use Rattle.tree_model.specs.Settings.{Settings}
@@ -25,7 +24,7 @@ use Rattle.tree_machine.specs.State.{MachineState, Node, begun}
 use Rattle.tree_machine.specs.Refusals.{none_or}
 use Rattle.tree_machine.specs.Core.{node_ino, handle_ino, node_of, bytes_read}
 use Rattle.tree_machine.specs.Naming.{link_told}
-use Rattle.tree_model.specs.OpenedFiles.{new_file_of}
+use Rattle.tree_model.specs.OpenedFiles.{new_file_of, open_of}
 use Rattle.tree_machine.specs.Listing.{listed_page}
 use Rattle.tree_machine.specs.Requests.{refusal_before}
 use Rattle.tree_machine.specs.Setting.{set_steps}
@@ -64,8 +63,8 @@ created_messages (Ok x) = 4
 created_messages (Err e) = 3
 
 -- the node's fid is copied, and the copy opened; where that is refused, the copy is let go again
-abbrev pub opened_messages : Result (Unit {0}) ℕ → ℕ
-opened_messages (Ok u) = 2
+abbrev pub opened_messages : {A : Type 0} → Result A ℕ → ℕ
+opened_messages (Ok x) = 2
 opened_messages (Err e) = 3
 
 -- so many bytes were asked for, in pieces of at most `piece` bytes, and so many are there: the last
@@ -123,7 +122,7 @@ effect_messages piece s m node (lookup name) =
     found_messages m (find s.casefold m.tree (node_ino (map.get m.nodes node)) name)
 effect_messages piece s m node (getattr handle) = 1
 effect_messages piece s m node (open_file flags) =
-    opened_messages (open_check_of m.tree (node_ino (map.get m.nodes node)) flags)
+    opened_messages (open_of m.tree (node_ino (map.get m.nodes node)) flags)
 effect_messages piece s m node (read fh offset size flags lock) =
     read_messages piece (min size MAX_READ) (bytes_read m offset size (map.get m.handles fh))
 effect_messages piece s m node (setattr asked) =

@@ -1,14 +1,14 @@
 -- Every request: the core requests, and those beyond them.
-use Rattle.std.specs.Prelude.{ℕ, Bool, true, false, not, ◌&&◌, ◌||◌, [], ◌∷◌, Option, None, Result}
+use Rattle.std.specs.Prelude.{ℕ, Bool, true, false, not, ◌&&◌, ◌||◌, Option, None, Result}
 use Rattle.std.specs.Prelude.{Ok, Err}
 use Rattle.std.specs.Prelude.{◌==◌}
 use Rattle.std.specs.FinMap as map
 use Rattle.port_base.specs.OpenFlags.{access, has_flag}
-use Rattle.port_base.specs.declared.errno.TheConstants.{EACCES, EBADF, ENOSYS, ESTALE}
+use Rattle.port_base.specs.declared.errno.TheConstants.{EACCES, EBADF, ESTALE}
 use Rattle.port_base.specs.declared.oflag.TheConstants.{O_RDONLY, O_CREAT, O_TRUNC, O_DIRECTORY}
 use Rattle.tree_model.specs.Attributes.{statfs_of}
 use Rattle.tree_model.specs.Creating.{mkdir_of}
-use Rattle.tree_model.specs.Opening.{open_check_of, readlink_of}
+use Rattle.tree_model.specs.Opening.{readlink_of}
 use Rattle.tree_model.specs.Tree.{Tree}
 use Rattle.tree_model.specs.Settings.{Settings}
 use Rattle.fuse_wire.specs.Request.{Request, rmdir, rename, rename2, symlink, mknod, readlink}
@@ -18,14 +18,14 @@ use Rattle.tree_machine.specs.State.{MachineState}
 use Rattle.tree_machine.specs.State.Phase.{Over}
 use Rattle.tree_machine.specs.Replies.{Reply}
 use Rattle.tree_machine.specs.Replies.Reply.{Refused, Sizes, Done}
-use Rattle.tree_machine.specs.Refusals.{refused_if, refused_unknown, first_refusal, refused_or}
-use Rattle.tree_machine.specs.Core.{node_ino, opened, open_refusal, name_refusal, bytes_reply}
+use Rattle.tree_machine.specs.Refusals.{refused_unknown, refused_or}
+use Rattle.tree_machine.specs.Core.{node_ino, opened, name_refusal, bytes_reply}
 use Rattle.tree_machine.specs.Core.{getattr_refusal, lookup_refusal}
 use Rattle.tree_machine.specs.Core.{changed_by, core_refusal, core_effect}
 use Rattle.tree_machine.specs.Naming.{rmdir_told, rename_refusal, rename2_refusal, rename_told}
 use Rattle.tree_machine.specs.Naming.{symlink_refusal, made, link_refusal, link_told, linked}
 use Rattle.tree_machine.specs.Setting.{given_handle, set_attributes}
-use Rattle.tree_model.specs.OpenedFiles.{new_file_of}
+use Rattle.tree_model.specs.OpenedFiles.{new_file_of, open_of}
 use Rattle.tree_machine.specs.Creating.{create_refusal, created}
 use Rattle.tree_machine.specs.Writing.{write_refusal, write_told, wrote}
 
@@ -60,12 +60,13 @@ is_core _ = true
 abbrev pub sizes_reply : Tree → Reply
 sizes_reply t = Sizes (statfs_of t).blocks (statfs_of t).files
 
--- the refusals that stand before a request's first message; an OPEN that empties isn't served
+-- a file is opened; with O_TRUNC it is emptied
+abbrev pub opened_to : MachineState → ℕ → ℕ → Result (Unit {0} × Tree) ℕ → Reply × MachineState
+opened_to m ino flags (Ok (u, t)) = opened (record m { tree = t }) ino flags (Ok u)
+opened_to m ino flags (Err e) = opened m ino flags (Err e)
+
+-- the refusals that stand before a request's first message
 abbrev pub refusal_before : Settings → MachineState → ℕ → Request → Option ℕ
-refusal_before s m node (open_file flags) = first_refusal (
-    refused_if (has_flag O_TRUNC flags) ENOSYS
-    ∷ open_refusal s m (map.get m.nodes node)
-    ∷ [])
 refusal_before s m node (setattr asked) = getattr_refusal m node (given_handle asked)
 refusal_before s m node (write fh offset bytes) = write_refusal (map.get m.handles fh)
 refusal_before s m node (rmdir name) = name_refusal name (map.get m.nodes node)
@@ -91,7 +92,7 @@ refusal_before s m node r = core_refusal s m node r
 -- the reply, and the state that is left, where none of these refusals stands
 abbrev pub effect_of : Settings → MachineState → ℕ → Request → Reply × MachineState
 effect_of s m node (open_file flags) =
-    let ino = node_ino (map.get m.nodes node) in opened m ino flags (open_check_of m.tree ino flags)
+    let ino = node_ino (map.get m.nodes node) in opened_to m ino flags (open_of m.tree ino flags)
 effect_of s m node (setattr asked) = set_attributes s m node asked
 effect_of s m node (write fh offset bytes) = wrote m (write_told m fh offset bytes)
 effect_of s m node (rmdir name) =

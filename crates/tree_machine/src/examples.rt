@@ -1,7 +1,7 @@
 //! The first example, computed. Each function makes no call: its contract is the example.
 ghost use Rattle.std.specs.Prelude.{◌≡◌, true, false, Ok, Err, Some, None, [], codes};
 ghost use Rattle.std.specs.FinMap as map;
-ghost use Rattle.port_base.specs.declared.errno.TheConstants.{EBADF, EISDIR, ENOSYS, ENOTDIR};
+ghost use Rattle.port_base.specs.declared.errno.TheConstants.{EBADF, EISDIR, ENOTDIR};
 ghost use Rattle.port_base.specs.declared.errno.TheConstants.{EACCES, EFBIG, EINVAL, ESTALE};
 ghost use Rattle.tree_machine.specs.State.{begun};
 ghost use Rattle.fuse_wire.specs.Request.{unlink, open_file, read, opendir, readdir, flush};
@@ -12,7 +12,7 @@ ghost use Rattle.tree_machine.specs.State.Phase.{Over};
 ghost use Rattle.tree_machine.specs.Requests.{answer_of, is_core};
 ghost use Rattle.tree_machine.specs.Forgetting.{forgotten};
 ghost use Rattle.tree_machine.specs.Setting.{given_handle, is_read_alone, new_attributes};
-ghost use Rattle.tree_machine.specs.FileSamples.{asked};
+ghost use Rattle.tree_machine.specs.FileSamples.{asked, emptied_hello, to_empty};
 ghost use Rattle.tree_machine.specs.Creating.{create_refusal, created, lacks_two};
 ghost use Rattle.tree_machine.specs.Messages.{created_messages, linked_messages};
 ghost use Rattle.tree_machine.specs.Messages.{write_messages, write_piece};
@@ -24,6 +24,7 @@ ghost use Rattle.tree_machine.specs.FileSamples.{read_reply, release_frame, rele
 ghost use Rattle.tree_machine.specs.FileSamples.{with_closed, forget_frame, with_none};
 ghost use Rattle.tree_machine.specs.FileSamples.{thrice_given, batch_frame};
 ghost use Rattle.tree_machine.specs.Messages.{messages, pieces, readdir_messages};
+ghost use Rattle.tree_machine.specs.Messages.{request_messages};
 ghost use Rattle.tree_machine.specs.DirectorySamples.{with_root_open, hello_listed};
 ghost use Rattle.tree_machine.specs.DirectorySamples.{hello_without_name};
 ghost use Rattle.tree_machine.specs.Step.{step, frame_answer};
@@ -57,14 +58,27 @@ fn hello_is_opened()
     ensures messages { messages 4341 settings with_hello open_frame ≡ 2 }
 {}
 
-/// OPEN's refusals in order: a flag that isn't served, a node that isn't there, a directory.
-#[tactic(auto, using(crate::proofs::FileSampling::open_cut, crate::proofs::FileSampling::open_unknown, crate::proofs::FileSampling::open_directory))]
+/// OPEN of that node to write to it, with the flag that empties a file, gives handle 3, with two
+/// messages; the file has no bytes then, and was changed at the tree's moment.
+#[tactic(auto, using(crate::proofs::FileSampling::emptied_answered, crate::proofs::FileSampling::emptied_leaves, crate::proofs::FileSampling::emptied_open, crate::proofs::FileSampling::emptied_counted))]
+fn hello_is_emptied()
+    ensures reply { (answer_of settings with_hello 2 (Ok (open_file to_empty))).0 ≡ Opened 3 }
+    ensures emptied { map.get
+        (answer_of settings with_hello 2 (Ok (open_file to_empty))).1.tree.records 2
+        ≡ Some emptied_hello }
+    ensures handle { map.get (answer_of settings with_hello 2 (Ok (open_file to_empty))).1.handles 3
+        ≡ Some (record { ino = 2; access = 1; append = false }) }
+    ensures messages { request_messages 4341 settings with_hello 2 (Ok (open_file to_empty)) ≡ 2 }
+{}
+
+/// OPEN's refusals in order: a node that isn't there, a directory; and which is a core request.
+#[tactic(auto, using(crate::proofs::FileSampling::open_unknown, crate::proofs::FileSampling::open_directory))]
 fn opens_are_refused()
-    ensures cut { (answer_of settings with_hello 9 (Ok (open_file 512))).0 ≡ Refused ENOSYS }
-    ensures unknown { (answer_of settings with_hello 9 (Ok (open_file 0))).0 ≡ Refused ESTALE }
-    ensures directory { (answer_of settings with_hello 1 (Ok (open_file 0))).0 ≡ Refused EISDIR }
+    ensures unknown { (answer_of settings with_hello 9 (Ok (open_file 512))).0 ≡ Refused ESTALE }
+    ensures directory { (answer_of settings with_hello 1 (Ok (open_file 512))).0 ≡ Refused EISDIR }
     ensures to_read { is_core (open_file 0) ≡ true }
     ensures to_write { is_core (open_file 2) ≡ false }
+    ensures to_empty { is_core (open_file 512) ≡ false }
 {}
 
 /// What a handle is asked that isn't open.

@@ -1,18 +1,18 @@
 // OPEN.
 ghost use Rattle.std.specs.Prelude.{◌≡◌, IfOk, OnErr};
 ghost use Rattle.fuse_wire.specs.Request.{open_file};
-ghost use Rattle.fid_model.specs.Moments.{Keeps, SameTree};
+ghost use Rattle.fid_model.specs.Moments.{Keeps};
 ghost use Rattle.fuse_gate.specs.Standing.{IsInStep};
 ghost use Rattle.fuse_gate.specs.Replies.{reply_of};
-ghost use Rattle.fuse_gate.specs.Steps.{ServesRequest};
-ghost use Rattle.fuse_gate.specs.Changes.{MayOpen, ServesOpening, handle_by};
+ghost use Rattle.fuse_gate.specs.Steps.{ServesRequest, LeavesPartOf};
+ghost use Rattle.fuse_gate.specs.Changes.{MayOpen, ServesOpening, LeavesOpening, handle_by};
 
 use crate::gate::reply::Reply;
 use crate::gate::{Gate, Handle, Node};
 use fid_model::Nine;
-use p9_client::{clunk, copy_fid, open};
-use port_base::errno::{EISDIR, ENFILE, ENOSYS, ESTALE};
-use port_base::oflag::{O_APPEND, O_TRUNC, access_mode, has_flag};
+use p9_client::{clunk, copy_fid, open_truncated};
+use port_base::errno::{EISDIR, ENFILE, ESTALE};
+use port_base::oflag::{O_APPEND, access_mode, has_flag};
 use port_base::sink::NoMemory;
 use tree_model::attributes::QTDIR;
 
@@ -30,6 +30,7 @@ fn handle_by(node: Node, flags: u32) -> Handle
 
 impl Gate {
     // Opens a copy of a node's fid under the next number, which becomes a handle, or goes again.
+    // The flags may have `O_TRUNC` among them, which empties the file.
     pub(super) fn open_node<N: Nine>(
         &mut self,
         nine: &mut N,
@@ -40,7 +41,8 @@ impl Gate {
         requires { MayOpen self.old (N.at nine.old).state id node flags }
         ensures served { IfOk result (λ reply. ServesOpening node flags
             (self.old, N.at nine.old) (self.new, N.at nine.new) (reply_of reply)) }
-        ensures unfinished { OnErr result (SameTree (N.at nine.old) (N.at nine.new)) }
+        ensures unfinished { OnErr result (LeavesOpening node flags
+            (self.old, N.at nine.old) (N.at nine.new).state.tree) }
         ensures kept { Keeps (N.at nine.old) (N.at nine.new) }
     {
         let fresh = self.next;
@@ -49,7 +51,7 @@ impl Gate {
         if let Err(errno) = copied {
             return Ok(Reply::Refused(errno));
         }
-        let opened = open(self.alloc, nine, fresh, flags)?;
+        let opened = open_truncated(self.alloc, nine, fresh, flags)?;
         self.count_message();
         match opened {
             Ok(_) => {
@@ -66,7 +68,7 @@ impl Gate {
         }
     }
 
-    // Opens a node that is no directory, by flags that empty no file.
+    // Opens a node that is no directory.
     pub(super) fn open<N: Nine>(
         &mut self,
         nine: &mut N,
@@ -76,12 +78,10 @@ impl Gate {
         requires { IsInStep self.old (N.at nine.old).state }
         ensures served { IfOk result (λ reply. ServesRequest node (open_file flags)
             (self.old, N.at nine.old) (self.new, N.at nine.new) (reply_of reply)) }
-        ensures unfinished { OnErr result (SameTree (N.at nine.old) (N.at nine.new)) }
+        ensures unfinished { OnErr result (LeavesPartOf node (open_file flags)
+            (self.old, N.at nine.old) (N.at nine.new)) }
         ensures kept { Keeps (N.at nine.old) (N.at nine.new) }
     {
-        if has_flag(flags, O_TRUNC) {
-            return Ok(Reply::Refused(ENOSYS));
-        }
         let Some(found) = self.nodes.get(node).copied() else {
             return Ok(Reply::Refused(ESTALE));
         };

@@ -8,7 +8,7 @@ use Rattle.fuse_gate.proofs.Standings.{node_fid}
 use Rattle.fuse_gate.proofs.Serving.{one_alone, one_more_sent}
 use Rattle.fuse_gate.proofs.CreatingFiles.{copy_fresh, copy_below, copy_refused, copy_is, create_part}
 use Rattle.fuse_gate.proofs.CreatingFiles.{file_made, may_enter, entry_part, entry_served}
-use Rattle.fuse_gate.proofs.CreatingFiles.{left_stays, left_part_of, create_refused}
+use Rattle.fuse_gate.proofs.CreatingFiles.{fid_stays, create_left, create_refused}
 use Rattle.fuse_gate.proofs.gate.Gate.create_in.Goals as goal
 
 pub copy_fid-requires-clause-fresh : goal.copy_fid-requires-clause-fresh
@@ -104,7 +104,7 @@ returns-in-Ok-clause-unfinished g c =
 
 pub clunk-requires-clause-known : goal.clunk-requires-clause-known
 clunk-requires-clause-known g c =
-    (left_stays (g.N.Nine.at c.args.nine.now) c.args.flags c.args.mode c.requires
+    (fid_stays (g.N.Nine.at c.args.nine.now) c.args.flags c.args.mode c.requires
     (g.met.N.Nine.good c.args.nine.now) (g.N.Nine.at c.copy_fid.new.nine)
     (g.N.Nine.at c.create.new.nine) (copy_is (g.N.Nine.at c.args.nine.now) c.args.flags c.args.mode c.requires
     (g.met.N.Nine.good c.args.nine.now) c.in_default.field-0
@@ -118,7 +118,7 @@ pub returns-in_err-clunk-in-Err-made-clause-unfinished :
     goal.returns-in_err-clunk-in-Err-made-clause-unfinished
 returns-in_err-clunk-in-Err-made-clause-unfinished g c =
     on_err c.from_residual-in_err-clunk-in-Err-made.result _
-    (left_part_of (g.N.Nine.at c.args.nine.now) c.args.flags c.args.mode c.requires
+    (create_left (g.N.Nine.at c.args.nine.now) c.args.flags c.args.mode c.requires
     (g.met.N.Nine.good c.args.nine.now) (g.N.Nine.at c.copy_fid.new.nine)
     (g.N.Nine.at c.create.new.nine) (copy_is (g.N.Nine.at c.args.nine.now) c.args.flags c.args.mode c.requires
     (g.met.N.Nine.good c.args.nine.now) c.in_default.field-0

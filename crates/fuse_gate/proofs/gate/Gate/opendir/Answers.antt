@@ -1,11 +1,11 @@
 -- The refusals in order, and then the opening.
 use Rattle.std.proofs.Common.{sym, ◌∙◌, arith}
 use Rattle.fuse_wire.specs.Request.{opendir}
-use Rattle.fuse_gate.proofs.Asking.{ok_map}
+use Rattle.fuse_gate.proofs.Asking.{ok_map, err_map}
 use Rattle.fuse_gate.proofs.Standings.{node_below}
 use Rattle.fuse_gate.proofs.Serving.{refused_before}
 use Rattle.fuse_gate.proofs.OpeningDirectories.{opendir_unknown, opendir_full, opendir_file}
-use Rattle.fuse_gate.proofs.OpeningDirectories.{may_open_directory, opendir_opened}
+use Rattle.fuse_gate.proofs.OpeningDirectories.{may_open_directory, opendir_left, opendir_opened}
 use Rattle.fuse_gate.proofs.gate.Gate.opendir.Goals as goal
 
 pub returns-in_default-clause-served : goal.returns-in_default-clause-served
@@ -45,6 +45,15 @@ returns-clause-served g c =
     ok_map c.open_node.result _ _
     (λ r served. opendir_opened (g.N.Nine.at c.args.nine.now) c.requires
     (g.met.N.Nine.good c.args.nine.now) c.args.node c.in-Some.found
-    (sym (c.in-Some.ensures ∙ c.get.ensures)) c.if-is_full.ensures.full c.if-found.false _ _
-    served)
+    (sym (c.in-Some.ensures ∙ c.get.ensures)) c.if-is_full.ensures.full c.if-found.false
+    c.if-is_full.ensures.small _ _ served)
     c.open_node.ensures.served
+
+pub returns-clause-unfinished : goal.returns-clause-unfinished
+returns-clause-unfinished g c =
+    err_map c.open_node.result _ _
+    (λ left. opendir_left (g.N.Nine.at c.args.nine.now) c.requires
+    (g.met.N.Nine.good c.args.nine.now) c.args.node c.in-Some.found
+    (sym (c.in-Some.ensures ∙ c.get.ensures)) c.if-is_full.ensures.full c.if-found.false
+    c.if-is_full.ensures.small _ left)
+    c.open_node.ensures.unfinished

@@ -1,6 +1,4 @@
 -- The call without an explanation, and then the explanation.
-use Rattle.std.proofs.Common.{subst}
-use Rattle.libmount.specs.OperationTexts.{TellsFailure}
 use Rattle.libmount.proofs.flag_change.Remount.remount.Goals as goal
 
 pub returns-clause-ends : goal.returns-clause-ends
