@@ -1,5 +1,5 @@
 -- The answers of a desk, and the replies that they are.
-use Rattle.std.proofs.Common.{◌≡◌, ℕ, ◌+◌, ◌-◌, ◌≤◌, min, arith, List, [], ◌++◌, length, drop, Result, Ok, Err, IfOk}
+use Rattle.std.proofs.Common.{◌≡◌, ℕ, ◌+◌, List, [], ◌++◌, length, drop, Result, Ok, Err, IfOk}
 use Rattle.std.proofs.Common.{OnErr, sym, subst, ap, ◌∙◌, append_assoc, append-nil}
 use Rattle.std.specs.Bool.{⊤}
 use Rattle.std.proofs.lemmas.List.{length-append}
@@ -14,7 +14,7 @@ use Rattle.fuse_wire.specs.declared.answers.FsFail.TheVariants as fail
 use Rattle.fuse_gate.specs.Replies.{reply_of}
 use Rattle.fuse_gate.specs.Desks.{told_as, bytes_told, AnswersAs, IsFrontOf}
 use Rattle.fuse_wire.specs.Request.{Request}
-use Rattle.fid_model.specs.Moments.{Moment, SameTree}
+use Rattle.fid_model.specs.Moments.{Moment}
 use Rattle.fuse_gate.specs.Steps.{ServesRequest}
 use Rattle.fuse_gate.specs.declared.gate.Gate.{Gate}
 use Rattle.fuse_gate.specs.declared.gate.reply.Reply.{Reply as GateReply}

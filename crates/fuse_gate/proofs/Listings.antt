@@ -37,12 +37,12 @@ Added end entry old new true = (end < length old + length entry) × (new ≡ old
 Added end entry old new false = (length old + length entry ≤ end) × (new ≡ old ++ entry)
 
 pub record Adding (end : ℕ) (old new : List ℕ) (ds so_far rest : List Dirent) (next : ℕ) : Type 0
-    where
-  pub all : ds ≡ so_far ++ rest
-  pub items : new ≡ old ++ flat_map told_bytes so_far
-  pub front : front_within told_size (end - length old) ds
-      ≡ so_far ++ front_within told_size (end - length new) rest
-  pub cookie : next ≡ last_told 0 so_far
+  where
+    pub all : ds ≡ so_far ++ rest
+    pub items : new ≡ old ++ flat_map told_bytes so_far
+    pub front : front_within told_size (end - length old) ds
+        ≡ so_far ++ front_within told_size (end - length new) rest
+    pub cookie : next ≡ last_told 0 so_far
 
 told_long : (d : Dirent) → length (told_bytes d) ≡ told_size d
 told_long d = length-dirent_bytes d.0.1.1 d.1.0 (type_by d.1.1.0) d.1.1.1
@@ -215,23 +215,23 @@ some_of (d ∷ ds) n is long none = cc
 
 module _ (before now new : List ℕ) (behind : now ≡ before ++ rest_of before now) (all end : ℕ)
     (same : end ≡ all) (ds : List Dirent) (next : Option ℕ) (adds : AddsFront end now new ds next)
-    where
-  abbrev room : ℕ
-  room = (all - length before) - length (rest_of before now)
+  where
+    abbrev room : ℕ
+    room = (all - length before) - length (rest_of before now)
 
-  left_same : end - length now ≡ room
-  left_same = let long = rest_long before now behind in omega (arith, long, same)
+    left_same : end - length now ≡ room
+    left_same = let long = rest_long before now behind in omega (arith, long, same)
 
-  pub listed_more : rest_of before new
-      ≡ rest_of before now ++ flat_map told_bytes (front_within told_size room ds)
-  listed_more = rest_more before now behind
-      (flat_map told_bytes (front_within told_size (end - length now) ds)) new adds.items
-      ∙ ap (λ (k : ℕ). rest_of before now ++ flat_map told_bytes (front_within told_size k ds))
-      left_same
+    pub listed_more : rest_of before new
+        ≡ rest_of before now ++ flat_map told_bytes (front_within told_size room ds)
+    listed_more = rest_more before now behind
+        (flat_map told_bytes (front_within told_size (end - length now) ds)) new adds.items
+        ∙ ap (λ (k : ℕ). rest_of before now ++ flat_map told_bytes (front_within told_size k ds))
+        left_same
 
-  pub listed_behind : new ≡ before ++ rest_of before new
-  listed_behind = behind_more before now behind
-      (flat_map told_bytes (front_within told_size (end - length now) ds)) new adds.items
+    pub listed_behind : new ≡ before ++ rest_of before new
+    listed_behind = behind_more before now behind
+        (flat_map told_bytes (front_within told_size (end - length now) ds)) new adds.items
 
-  pub listed_next : next ≡ next_told (front_within told_size room ds) ds
-  listed_next = adds.told ∙ ap (λ (k : ℕ). next_told (front_within told_size k ds) ds) left_same
+    pub listed_next : next ≡ next_told (front_within told_size room ds) ds
+    listed_next = adds.told ∙ ap (λ (k : ℕ). next_told (front_within told_size k ds) ds) left_same

@@ -280,10 +280,16 @@ module _ (g : Gate) (n : Moment) (fid offset : ℕ) (bytes : List ℕ) where
           ∙ sym (ap (written_tree t1) is)
 
     front_left : (u : Tree) → OldOrTold seen t1 u → LeavesFront fid offset bytes n.state u
-    front_left u (inl is) = (w + 0, is ∙ sym (fronts 0
-        ∙ ap (written_tree t1) (none_written t1 ino (place + w) r.old r.file)))
-    front_left u (inr is) = (w + size, is ∙ seen_tree ∙ sym (fronts size
-        ∙ ap (λ (l : List ℕ). written_tree t1 (write_of t1 ino (place + w) l)) (sym xs_is)))
+    front_left u (inl is) = (
+      w + 0,
+      is ∙ sym (fronts 0
+          ∙ ap (written_tree t1) (none_written t1 ino (place + w) r.old r.file)),
+    )
+    front_left u (inr is) = (
+      w + size,
+      is ∙ seen_tree ∙ sym (fronts size
+          ∙ ap (λ (l : List ℕ). written_tree t1 (write_of t1 ino (place + w) l)) (sym xs_is)),
+    )
 
     keeps_told : KeepsAll t0 (written_tree t1 told1)
     keeps_told = by_told told1 refl where
@@ -551,8 +557,8 @@ module _ (g : Gate) (n : Moment) (fid offset : ℕ) (bytes : List ℕ) where
           pub goes_on : Writing g2 n2 (w + k)
           goes_on =
               let ends = (let long = ends_within t1 ino (place + w) r.old r.file xs q.v whole_is some
-                  in let eq = equal in let most = r.keeps.good.limits.0 in
-                  let x : place + (w + k) ≤ 1073741824 = omega (arith, long, eq, most) in x) in
+              in let eq = equal in let most = r.keeps.good.limits.0 in
+              let x : place + (w + k) ≤ 1073741824 = omega (arith, long, eq, most) in x) in
               let some_k : 1 ≤ k = (let s = some in let eq = equal in omega (arith, s, eq)) in
               let tree_is : n2.state.tree ≡ q.v = ap (λ (s : ServerState). s.tree) q.state in
               subst_tree tree_is ends some_k where
@@ -604,8 +610,7 @@ module _ (g : Gate) (n : Moment) (fid offset : ℕ) (bytes : List ℕ) where
               let both = q ∙ ap (changed n1.state (λ k. k)) told in
               let clash : Err e ≡ Err d =
               sym is ∙ ap (λ (y : Result ℕ ℕ × ServerState). y.0) both in
-              let equal : d ≡ e = cc in
-              (
+              let equal : d ≡ e = cc in (
                 told ∙ ap (λ (i : ℕ). let y : Result (ℕ × Tree) ℕ = Err i in y) equal,
                 ap (λ (y : Result ℕ ℕ × ServerState). y.1) both,
               )

@@ -43,9 +43,9 @@ next_told run ds = if nat_lt (length run) (length ds) then None else Some (last_
 
 -- of entries those that have room in so many bytes were added, and it is told where to read on
 pub record AddsFront (end : ℕ) (old new : List ℕ) (ds : List Dirent) (next : Option ℕ) : Type 0
-    where
-  pub items : new ≡ old ++ flat_map told_bytes (front_within told_size (end - length old) ds)
-  pub told : next ≡ next_told (front_within told_size (end - length old) ds) ds
+  where
+    pub items : new ≡ old ++ flat_map told_bytes (front_within told_size (end - length old) ds)
+    pub told : next ≡ next_told (front_within told_size (end - length old) ds) ds
 
 -- the fid is open, and names this directory
 pub record ListsDirectory (s : ServerState) (fid dir : ℕ) : Type 0 where

@@ -87,7 +87,8 @@ impl<N: Nine> AsyncFilesystem for Desk<'_, N> {
         ino: INodeNo,
         file_handle: Option<FileHandle>,
     ) -> Result<GetAttrResponse, FsFail> {
-        self.gate.getattr(self.nine, ino.0, file_handle.map(|handle| handle.0))
+        self.gate
+            .getattr(self.nine, ino.0, file_handle.map(|handle| handle.0))
     }
 
     fn read(
@@ -102,7 +103,9 @@ impl<N: Nine> AsyncFilesystem for Desk<'_, N> {
         out_bytes: &mut Vec<u8>,
     ) -> Result<(), FsFail> {
         let before = out_bytes.len();
-        let told = self.gate.read(self.nine, file_handle.0, offset, size, out_bytes);
+        let told = self
+            .gate
+            .read(self.nine, file_handle.0, offset, size, out_bytes);
         if told.is_err() {
             out_bytes.truncate(before);
         }

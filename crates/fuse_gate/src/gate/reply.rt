@@ -10,8 +10,8 @@ use fuse_wire::attr::FileAttr;
 use fuse_wire::ids::{Errno, FileHandle, INodeNo, RequestId};
 use fuse_wire::reply::{
     ATTR_OUT_SIZE, CREATE_OUT_SIZE, ENTRY_OUT_SIZE, INIT_OUT_SIZE, OPEN_OUT_SIZE, OUT_HEADER_SIZE,
-    STATFS_OUT_SIZE, WRITE_OUT_SIZE, reply_attr, reply_bytes, reply_created, reply_empty, reply_entry,
-    reply_error, reply_init, reply_opened, reply_statfs, reply_written,
+    STATFS_OUT_SIZE, WRITE_OUT_SIZE, reply_attr, reply_bytes, reply_created, reply_empty,
+    reply_entry, reply_error, reply_init, reply_opened, reply_statfs, reply_written,
 };
 use p9_rmsg::Rgetattr;
 use port_base::sink::NoMemory;

@@ -39,7 +39,13 @@ impl Gate {
         'pieces: loop {
             let size = (bytes.len() - written).min(most);
             let place = offset.saturating_add(written as u64);
-            let told = write(self.alloc, nine, fid, place, &bytes[written..written + size])?;
+            let told = write(
+                self.alloc,
+                nine,
+                fid,
+                place,
+                &bytes[written..written + size],
+            )?;
             self.count_message();
             let count = match told {
                 Ok(count) => count as usize,

@@ -1,5 +1,5 @@
 -- The first message, the next ones, and each end.
-use Rattle.std.proofs.Common.{◌≡◌, ◌-◌, ◌++◌, ℕ, List, length, ap, ◌∙◌, arith, subst, sym, refl, Some}
+use Rattle.std.proofs.Common.{◌-◌, List, ap, ◌∙◌, arith, subst, sym, refl, Some}
 use Rattle.std.proofs.Common.{None}
 use Rattle.std.specs.Prelude.{map as each}
 use Rattle.p9_rmsg.specs.Dirents.{dirent_of}
@@ -136,29 +136,29 @@ pages-preserved g c =
     (listed_by c.pages.builder.entries.now) (listed_by c.add_entries.new.builder.entries.now)
     (each dirent_of ds) (Some c.in-Some.next)) c.deref.ensures.value c.in-Some.ensures.added) in
     record {
-  paging = goes_on (g.N.Nine.at c.args.nine.now) c.requires.stands c.requires.opened
-    (names_short (g.N.Nine.at c.args.nine.now).state.tree c.requires.stands.good.tree _)
-    c.args.offset (room_of c.args.builder.now) c.pages.invariant.paging c.count_message.new.self
-    (g.N.Nine.at c.read_entries.new.nine) c.count_message.ensures c.in_ok-told.ensures.kept
-    (c.min-piece.result - 11) (omega (arith, c.min-piece.ensures, c.msize.ensures))
-    (entries_answer c.in_ok-told.told) c.in_ok-told.ensures.answer
-    (each dirent_of c.in-Ok.entries.items) (ap entries_answer c.in-Ok.is)
-    (rest_of (listed_by c.args.builder.now.entries.now)
-    (listed_by c.add_entries.new.builder.entries.now)) (Some c.in-Some.next)
-    (listed_more (listed_by c.args.builder.now.entries.now) (listed_by c.pages.builder.entries.now)
-    (listed_by c.add_entries.new.builder.entries.now) c.pages.invariant.behind
-    c.args.builder.now.end c.pages.builder.end c.pages.invariant.end
-    (each dirent_of c.in-Ok.entries.items) (Some c.in-Some.next) adds)
-    (listed_next (listed_by c.args.builder.now.entries.now) (listed_by c.pages.builder.entries.now)
-    (listed_by c.add_entries.new.builder.entries.now) c.pages.invariant.behind
-    c.args.builder.now.end c.pages.builder.end c.pages.invariant.end
-    (each dirent_of c.in-Ok.entries.items) (Some c.in-Some.next) adds)
-    c.in-Some.next refl (some_of c.in-Ok.entries.items _ c.if-is_empty.ensures
-    (omega (arith, c.in-Ok.entries.ok.0)));
-  behind = listed_behind (listed_by c.args.builder.now.entries.now) (listed_by c.pages.builder.entries.now)
-    (listed_by c.add_entries.new.builder.entries.now) c.pages.invariant.behind
-    c.args.builder.now.end c.pages.builder.end c.pages.invariant.end
-    (each dirent_of c.in-Ok.entries.items) (Some c.in-Some.next) adds;
-  end = c.in-Some.ensures.end ∙ c.pages.invariant.end;
-  reference = c.in-Some.ensures.same_reference ∙ c.pages.invariant.reference;
-}
+      paging = goes_on (g.N.Nine.at c.args.nine.now) c.requires.stands c.requires.opened
+          (names_short (g.N.Nine.at c.args.nine.now).state.tree c.requires.stands.good.tree _)
+          c.args.offset (room_of c.args.builder.now) c.pages.invariant.paging c.count_message.new.self
+          (g.N.Nine.at c.read_entries.new.nine) c.count_message.ensures c.in_ok-told.ensures.kept
+          (c.min-piece.result - 11) (omega (arith, c.min-piece.ensures, c.msize.ensures))
+          (entries_answer c.in_ok-told.told) c.in_ok-told.ensures.answer
+          (each dirent_of c.in-Ok.entries.items) (ap entries_answer c.in-Ok.is)
+          (rest_of (listed_by c.args.builder.now.entries.now)
+          (listed_by c.add_entries.new.builder.entries.now)) (Some c.in-Some.next)
+          (listed_more (listed_by c.args.builder.now.entries.now) (listed_by c.pages.builder.entries.now)
+          (listed_by c.add_entries.new.builder.entries.now) c.pages.invariant.behind
+          c.args.builder.now.end c.pages.builder.end c.pages.invariant.end
+          (each dirent_of c.in-Ok.entries.items) (Some c.in-Some.next) adds)
+          (listed_next (listed_by c.args.builder.now.entries.now) (listed_by c.pages.builder.entries.now)
+          (listed_by c.add_entries.new.builder.entries.now) c.pages.invariant.behind
+          c.args.builder.now.end c.pages.builder.end c.pages.invariant.end
+          (each dirent_of c.in-Ok.entries.items) (Some c.in-Some.next) adds)
+          c.in-Some.next refl (some_of c.in-Ok.entries.items _ c.if-is_empty.ensures
+          (omega (arith, c.in-Ok.entries.ok.0)));
+      behind = listed_behind (listed_by c.args.builder.now.entries.now) (listed_by c.pages.builder.entries.now)
+          (listed_by c.add_entries.new.builder.entries.now) c.pages.invariant.behind
+          c.args.builder.now.end c.pages.builder.end c.pages.invariant.end
+          (each dirent_of c.in-Ok.entries.items) (Some c.in-Some.next) adds;
+      end = c.in-Some.ensures.end ∙ c.pages.invariant.end;
+      reference = c.in-Some.ensures.same_reference ∙ c.pages.invariant.reference;
+    }

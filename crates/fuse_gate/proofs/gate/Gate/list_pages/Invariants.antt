@@ -1,5 +1,5 @@
 -- So far whole messages were listed, behind what was there.
-use Rattle.std.proofs.Common.{◌≡◌, ◌-◌, ◌++◌, length}
+use Rattle.std.proofs.Common.{◌≡◌, ◌-◌, length}
 use Rattle.fuse_wire.specs.Answers.{listed_by, rest_of}
 use Rattle.fuse_gate.specs.Desks.{AddsListed, room_of}
 use Rattle.fuse_gate.specs.Standing.{piece_of}

@@ -1,10 +1,10 @@
 -- The first piece, the next ones, and each end.
-use Rattle.std.proofs.Common.{◌≡◌, ◌<◌, ◌+◌, ℕ, List, ◌++◌, length, ◌∙◌, ap, inl, inr, ◌⊎◌, arith}
+use Rattle.std.proofs.Common.{◌≡◌, ◌<◌, ℕ, List, ◌++◌, length, ◌∙◌, ap, inl, inr, ◌⊎◌, arith}
 use Rattle.p9_client.specs.Views.{bytes_answer}
 use Rattle.fuse_wire.specs.Answers.{rest_of}
 use Rattle.fuse_gate.proofs.Asking.{fid_tells}
 use Rattle.fuse_gate.proofs.Desks.{rest_none, behind_none, rest_more, behind_more, rest_long}
-use Rattle.fuse_gate.proofs.Reading.{begins, reading_fits, refused, finished, goes_on, shrinks}
+use Rattle.fuse_gate.proofs.Reading.{begins, reading_fits, refused, finished, goes_on}
 use Rattle.fuse_gate.proofs.gate.Gate.read_pieces.Goals as goal
 use Rattle.fuse_gate.proofs.gate.Gate.read_pieces.Goals.{then-len-asked-via-then-len-asked}
 use Rattle.fuse_gate.proofs.gate.Gate.read_pieces.Goals.{then-len-asked-via-else-len-asked+then-len-before}
@@ -99,8 +99,15 @@ pieces-preserved g c =
           c.in-Ok.data (ap bytes_answer c.in-Ok.is)
           (rest_of before c.extend_from_slice.new.self.items) longer
           (omega (arith, c.if-len-asked.false, c.in-Ok.data.0.ok.0))
-          (λ e. c.if-len-before.false (omega (arith, e, now, c.len-else-len-asked.ensures,
-          c.extend_from_slice.new.self.ok.0, c.args.out.now.ok.0, c.pieces.invariant.before)));
+          (λ e. c.if-len-before.false (omega (
+            arith,
+            e,
+            now,
+            c.len-else-len-asked.ensures,
+            c.extend_from_slice.new.self.ok.0,
+            c.args.out.now.ok.0,
+            c.pieces.invariant.before,
+          )));
       behind = behind;
       before = c.pieces.invariant.before;
     }
