@@ -30,10 +30,8 @@ fn frame_of(alloc: Global, message: &Tmessage) -> Result<MemSink, NoMemory>
     ensures { IfOk result (λ s. s.bytes.items ≡ message_frame 0 (message_of message.now)) }
 {
     let mut sink = MemSink::new(alloc);
-    match message.send_frame(TAG, &mut sink) {
-        Ok(()) => Ok(sink),
-        Err(_) => Err(NoMemory),
-    }
+    message.send_frame(TAG, &mut sink).map_err(|_| NoMemory)?;
+    Ok(sink)
 }
 
 // What the server answers to a frame.
@@ -48,10 +46,10 @@ fn reply_to<N: Nine>(alloc: Global, nine: &mut N, frame: &[u8]) -> Result<MemSin
 {
     let mut reader = SliceSource::new(frame);
     let mut writer = MemSink::new(alloc);
-    match nine.handle_message(&mut reader, &mut writer) {
-        Ok(()) => Ok(writer),
-        Err(_) => Err(NoMemory),
-    }
+    let Ok(()) = nine.handle_message(&mut reader, &mut writer) else {
+        return Err(NoMemory);
+    };
+    Ok(writer)
 }
 
 // The message that a reply's frame spells.

@@ -63,14 +63,12 @@ fn walk_message(alloc: Global, fid: u32, newfid: u32, name: &[u8]) -> Result<Tme
     ensures { IfOk result (λ m. message_of m ≡ walk fid newfid (name.now ∷ [])) }
 {
     let text = text_of(alloc, name)?;
-    match vec![in alloc; text] {
-        Ok(wnames) => Ok(Tmessage::Walk(Twalk {
-            fid,
-            newfid,
-            wnames,
-        })),
-        Err(_) => Err(NoMemory),
-    }
+    let wnames = vec![in alloc; text].map_err(|_| NoMemory)?;
+    Ok(Tmessage::Walk(Twalk {
+        fid,
+        newfid,
+        wnames,
+    }))
 }
 
 /// Walks by one name without a fault, to a new fid.

@@ -18,10 +18,12 @@ use p9_wire::text::P9String;
 use port_base::sink::NoMemory;
 use std::alloc::Global;
 
-/// A device: its numbers of a driver and of an instance.
+/// A device.
 #[derive(Clone, Copy, Debug, PartialEq, Eq)]
 pub struct Device {
+    /// The number of the driver.
     pub major: u32,
+    /// The number of the instance.
     pub minor: u32,
 }
 

@@ -59,7 +59,9 @@ impl fmt::Display for ConfigError {
 /// A host that isn't served, and why.
 #[derive(Drop)]
 pub struct Refused<H> {
+    /// The host, as it was.
     pub host: H,
+    /// Why it isn't served.
     pub cause: ConfigError,
 }
 

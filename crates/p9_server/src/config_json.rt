@@ -18,7 +18,7 @@ use crate::config::Config;
 use crate::share::ServerIdMap;
 use port_base::decimals::number_of;
 use serde_json::{Map, Value, json, put};
-use std::alloc::{AllocError, Global};
+use std::alloc::{AllocError, AllocFailed, Global};
 use std::collections::BTreeMap;
 use thiserror::Error;
 
@@ -41,6 +41,22 @@ pub enum ConfigJsonError {
     /// Out of memory.
     #[error("no memory")]
     NoMemory,
+}
+
+impl From<AllocError> for ConfigJsonError {
+    ghost from_gives = { λ _ e. e ≡ error.NoMemory };
+
+    fn from(_: AllocError) -> Self {
+        ConfigJsonError::NoMemory
+    }
+}
+
+impl<T: Drop> From<AllocFailed<T>> for ConfigJsonError {
+    ghost from_gives = { λ _ e. e ≡ error.NoMemory };
+
+    fn from(_: AllocFailed<T>) -> Self {
+        ConfigJsonError::NoMemory
+    }
 }
 
 // ---- writing
@@ -98,10 +114,7 @@ fn below_32(n: u64) -> Option<u32>
 fn u32_of(value: &Value) -> Option<u32>
     ensures { result ≡ u32_of (view value.now) }
 {
-    match value.as_u64() {
-        Some(n) => below_32(n),
-        None => None,
-    }
+    value.as_u64().and_then(below_32)
 }
 
 // The owner that a key writes.
@@ -131,10 +144,7 @@ fn ids_from(
         let Some(shown) = u32_of(shown) else {
             return Err(ConfigJsonError::Key(key));
         };
-        match ids.insert(id, shown) {
-            Ok(_) => {}
-            Err(_) => return Err(ConfigJsonError::NoMemory),
-        }
+        ids.insert(id, shown)?;
     }
     Ok(ids)
 }
@@ -149,45 +159,39 @@ fn ids_of(
     ensures { JsonGives (λ ids. map.from_entries ids.entries) result
         (key_of key ids_of name.now (view config.now)) }
 {
-    match config.get(name).and_then(Value::as_object) {
-        Some(object) => ids_from(alloc, object, key),
-        None => Err(ConfigJsonError::Key(key)),
-    }
+    let Some(object) = config.get(name).and_then(Value::as_object) else {
+        return Err(ConfigJsonError::Key(key));
+    };
+    ids_from(alloc, object, key)
 }
 
 fn number_at(config: &Value, name: &str, key: u32) -> Result<u32, ConfigJsonError>
     ensures { JsonGives (λ n. n) result (key_of key u32_of name.now (view config.now)) }
 {
-    match config.get(name) {
-        Some(value) => match u32_of(value) {
-            Some(n) => Ok(n),
-            None => Err(ConfigJsonError::Key(key)),
-        },
-        None => Err(ConfigJsonError::Key(key)),
-    }
+    config
+        .get(name)
+        .and_then(u32_of)
+        .ok_or(ConfigJsonError::Key(key))
 }
 
 fn folds_case(config: &Value) -> Result<bool, ConfigJsonError>
     ensures { JsonGives (λ b. b) result
         (key_of 5 as_bool (codes "ascii_casefold") (view config.now)) }
 {
-    match config.get("ascii_casefold").and_then(Value::as_bool) {
-        Some(folds) => Ok(folds),
-        None => Err(ConfigJsonError::Key(5)),
-    }
+    config
+        .get("ascii_casefold")
+        .and_then(Value::as_bool)
+        .ok_or(ConfigJsonError::Key(5))
 }
 
 fn root_of(alloc: Global, config: &Value) -> Result<Vec<u8>, ConfigJsonError>
     ensures { JsonGives (λ root. root.items) result
         (key_of 1 as_str (codes "root") (view config.now)) }
 {
-    match config.get("root").and_then(Value::as_str) {
-        Some(root) => match Vec::from_slice(alloc, root.as_bytes()) {
-            Ok(root) => Ok(root),
-            Err(_) => Err(ConfigJsonError::NoMemory),
-        },
-        None => Err(ConfigJsonError::Key(1)),
-    }
+    let Some(root) = config.get("root").and_then(Value::as_str) else {
+        return Err(ConfigJsonError::Key(1));
+    };
+    Ok(Vec::from_slice(alloc, root.as_bytes())?)
 }
 
 // That there are no more keys than fields.
@@ -209,10 +213,10 @@ fn check_members(config: &Value) -> Result<(), ConfigJsonError>
 fn check_object(config: &Value) -> Result<(), ConfigJsonError>
     ensures { JsonGives (λ u. u) result (check_object (as_object (view config.now))) }
 {
-    match config.as_object() {
-        Some(_) => Ok(()),
-        None => Err(ConfigJsonError::NotObject),
+    if config.as_object().is_none() {
+        return Err(ConfigJsonError::NotObject);
     }
+    Ok(())
 }
 
 impl Config {

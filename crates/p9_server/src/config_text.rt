@@ -78,10 +78,8 @@ fn part_value(part: &[u8]) -> Result<bool, ConfigTextError>
 fn with_part(read: Result<bool, ConfigTextError>, part: &[u8]) -> Result<bool, ConfigTextError>
     ensures { result ≡ with_part read part.now }
 {
-    match read {
-        Ok(_) => part_value(part),
-        Err(e) => Err(e),
-    }
+    read?;
+    part_value(part)
 }
 
 // The last value of a text's parts, or why the first bad one is refused.
@@ -109,9 +107,7 @@ impl Config {
             (result_map_both configuration (λ e. e) result) }
     {
         let ascii_casefold = casefold_of(text.as_bytes())?;
-        let Ok(standard) = Config::standard(alloc) else {
-            return Err(ConfigTextError::NoMemory);
-        };
+        let standard = Config::standard(alloc).map_err(|_| ConfigTextError::NoMemory)?;
         Ok(Config {
             ascii_casefold,
             ..standard

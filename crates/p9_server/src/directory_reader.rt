@@ -57,16 +57,14 @@ fn shown(alloc: Global, entry: &Entry) -> Result<DirEntry, HostError>
     ensures shows { IfOk result (λ d. Shows d entry.now) }
     ensures memory { IfErr result (λ e. e ≡ HostError.NoMemory) }
 {
-    match P9String::new(alloc, &entry.name) {
-        Ok(name) => Ok(DirEntry {
-            ino: entry.attr.ino,
-            offset: entry.cookie,
-            kind_: entry_type(entry.attr.kind),
-            name,
-        }),
-        // The name of an entry is a text.
-        Err(_) => Err(HostError::NoMemory),
-    }
+    // The name of an entry is a text.
+    let name = P9String::new(alloc, &entry.name).map_err(|_| HostError::NoMemory)?;
+    Ok(DirEntry {
+        ino: entry.attr.ino,
+        offset: entry.cookie,
+        kind_: entry_type(entry.attr.kind),
+        name,
+    })
 }
 
 /// A reader of the entries of a directory, which stands behind the entry that it gave last.

@@ -10,7 +10,9 @@ use std::marker::Model;
 /// Whether a fid is open, and how.
 #[derive(Drop)]
 pub enum OpenMode {
+    /// It isn't open.
     Closed,
+    /// It is open: its access mode (`O_ACCMODE`), and whether what is written goes to the end.
     Opened { access: u32, append: bool },
 }
 

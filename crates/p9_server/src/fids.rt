@@ -17,10 +17,7 @@ use tree_model::HostError;
 fn ino_before(fids: &Table<FidState>, fid: u32) -> Option<u64>
     ensures { result ≡ ino_before (map.get fids.now fid) }
 {
-    match fids.get(fid as u64) {
-        Some(state) => Some(state.ino()),
-        None => None,
-    }
+    fids.get(fid as u64).map(|state| state.ino())
 }
 
 /// Gives a fid, new or not, an inode whose hold was taken. What it named before is let go. Without

@@ -47,10 +47,8 @@ fn find_folded<H: Host>(host: &mut H, dir: u64, name: &[u8]) -> Result<u64, Host
     ensures cause { Counts (H.calls host.old) (H.calls host.new) result }
     ensures steady { (H.calls host.new).steady ≡ (H.calls host.old).steady }
 {
-    match folded_name(host, dir, name) {
-        Ok(found) => host.lookup(dir, &found),
-        Err(e) => Err(e),
-    }
+    let found = folded_name(host, dir, name)?;
+    host.lookup(dir, &found)
 }
 
 /// The inode that a name of a directory names, which gets a hold: by the exact name, and where that

@@ -56,10 +56,8 @@ pub fn attach_path<H: Host>(host: &mut H, path: &[u8]) -> Result<Attr, HostError
     ensures cause { Counts (H.calls host.old) (H.calls host.new) result }
     ensures steady { (H.calls host.new).steady ≡ (H.calls host.old).steady }
 {
-    match host.attach_path(path) {
-        Ok(ino) => told_of(host, ino),
-        Err(e) => Err(e),
-    }
+    let ino = host.attach_path(path)?;
+    told_of(host, ino)
 }
 
 // The inode that a name of a directory names, which gets a hold. A name with a fault isn't looked
@@ -78,10 +76,8 @@ fn step_to<H: Host>(host: &mut H, share: &Share, dir: u64, name: &[u8]) -> Resul
     if let Some(fault) = name_fault(name) {
         return Err(HostError::Errno(fault));
     }
-    match find(host, share, dir, name) {
-        Ok(ino) => told_of(host, ino),
-        Err(e) => Err(e),
-    }
+    let ino = find(host, share, dir, name)?;
+    told_of(host, ino)
 }
 
 // Lets the hold go that a walk of so many names took of the inode where it stands.
@@ -180,8 +176,6 @@ pub fn reach<H: Host>(
     if !names.is_empty() {
         return walk(host, share, start, names, qids);
     }
-    match host.hold_again(start) {
-        Ok(()) => Ok(start),
-        Err(e) => Err(e),
-    }
+    host.hold_again(start)?;
+    Ok(start)
 }

@@ -28,7 +28,7 @@ use p9_wire::frame::frame_size;
 use p9_wire::protocol::P9_GETATTR_BASIC;
 use p9_wire::qid::Qid;
 use port_base::errno::EIO;
-use port_base::sink::{Sink, SinkFault};
+use port_base::sink::Sink;
 pub use session::{flush_reply, getlock_reply, lock_reply, version_reply};
 use tree_model::attributes::BLOCK_SIZE;
 use tree_model::{Attr, HostError};
@@ -40,11 +40,7 @@ pub const REPLY_ROOM: usize = 256;
 fn blocks_of(size: u64) -> u64
     ensures { result ≡ blocks_of size }
 {
-    if size % 512 == 0 {
-        size / 512
-    } else {
-        size / 512 + 1
-    }
+    size.div_ceil(512)
 }
 
 /// A refusal with its error number.
@@ -119,10 +115,7 @@ pub fn attach_reply(step: Result<Qid, HostError>) -> Result<Rmessage, WireError>
     ensures reply { result_view reply_of result ≡ reply_told (λ q. attach (qid_of q)) step }
     ensures short { IfOk result (λ m. IsShort (reply_of m)) }
 {
-    match step {
-        Ok(qid) => Ok(root_told(qid)),
-        Err(e) => refusal(e),
-    }
+    step.map(root_told).or_else(refusal)
 }
 
 /// The reply to Twalk.
@@ -133,10 +126,7 @@ pub fn walk_reply(step: Result<Vec<Qid>, HostError>) -> Result<Rmessage, WireErr
         step }
     ensures short { IfOk result (λ m. IsShort (reply_of m)) }
 {
-    match step {
-        Ok(qids) => Ok(walk_told(qids)),
-        Err(e) => refusal(e),
-    }
+    step.map(walk_told).or_else(refusal)
 }
 
 /// The reply to Tgetattr.
@@ -144,10 +134,7 @@ pub fn getattr_reply(step: Result<Attr, HostError>) -> Result<Rmessage, WireErro
     ensures reply { result_view reply_of result ≡ reply_told (λ a. getattr (attributes_of a)) step }
     ensures short { IfOk result (λ m. IsShort (reply_of m)) }
 {
-    match step {
-        Ok(attr) => Ok(attributes_told(attr)),
-        Err(e) => refusal(e),
-    }
+    step.map(attributes_told).or_else(refusal)
 }
 
 /// The reply to Tclunk.
@@ -155,10 +142,7 @@ pub fn clunk_reply(step: Result<(), HostError>) -> Result<Rmessage, WireError>
     ensures reply { result_view reply_of result ≡ reply_told (λ _. clunk) step }
     ensures short { IfOk result (λ m. IsShort (reply_of m)) }
 {
-    match step {
-        Ok(()) => Ok(Rmessage::Clunk),
-        Err(e) => refusal(e),
-    }
+    step.map(|()| Rmessage::Clunk).or_else(refusal)
 }
 
 // The qid of a fid that was opened; a client may read as much at once as it likes.
@@ -174,10 +158,7 @@ pub fn open_reply(step: Result<Qid, HostError>) -> Result<Rmessage, WireError>
     ensures reply { result_view reply_of result ≡ reply_told (λ q. lopen (qid_of q) 0) step }
     ensures short { IfOk result (λ m. IsShort (reply_of m)) }
 {
-    match step {
-        Ok(qid) => Ok(open_told(qid)),
-        Err(e) => refusal(e),
-    }
+    step.map(open_told).or_else(refusal)
 }
 
 /// The reply to Tread, in a frame of at most `msize` bytes.
@@ -187,12 +168,10 @@ pub fn read_reply(step: Result<Vec<u8>, HostError>, msize: u32) -> Result<Rmessa
     ensures reply { result_view reply_of result ≡ reply_told (λ bytes. read bytes.items) step }
     ensures fits { IfOk result (λ m. Fits msize (reply_of m)) }
 {
-    match step {
-        Ok(bytes) => Ok(Rmessage::Read(Rread {
-            payload: Data(bytes),
-        })),
-        Err(e) => refusal(e),
-    }
+    step.map(|bytes| Rmessage::Read(Rread {
+        payload: Data(bytes),
+    }))
+    .or_else(refusal)
 }
 
 /// Makes room for so many bytes.
@@ -203,10 +182,7 @@ pub fn make_room<K: Sink>(writer: &mut K, bytes: usize) -> Result<(), WireError>
     ensures faults { K.faults writer.new ≡ K.faults writer.old }
     ensures kept { K.kept writer.new ≡ K.kept writer.old }
 {
-    match writer.reserve(bytes) {
-        Ok(()) => Ok(()),
-        Err(_) => Err(WireError::NoMemory),
-    }
+    writer.reserve(bytes).map_err(|_| WireError::NoMemory)
 }
 
 /// Makes room for a reply that is longer than what there is room for.
@@ -237,11 +213,6 @@ pub fn send_reply<K: Sink>(reply: &Rmessage, tag: u16, writer: &mut K) -> Result
         (K.sent writer.new) (K.faults writer.old) (K.faults writer.new) result }
     ensures kept { K.kept writer.new ≡ K.kept writer.old }
 {
-    match reply.send_frame(tag, writer) {
-        Ok(()) => Ok(()),
-        Err(fault) => match fault {
-            SinkFault::Failed => Err(WireError::Write),
-            SinkFault::NoMemory => unreachable!(),
-        },
-    }
+    reply.send_frame(tag, writer)?;
+    Ok(())
 }

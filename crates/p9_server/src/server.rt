@@ -47,10 +47,10 @@ impl<H: Host> Server<H> {
     fn ino_of(&self, fid: u32) -> Result<u64, HostError>
         ensures { result ≡ ino_told (map.get self.now.fids fid) }
     {
-        match self.fids.get(fid as u64) {
-            Some(state) => Ok(state.ino()),
-            None => Err(HostError::Errno(EBADF)),
-        }
+        let Some(state) = self.fids.get(fid as u64) else {
+            return Err(HostError::Errno(EBADF));
+        };
+        Ok(state.ino())
     }
 
     // Takes a fid away, with its hold.

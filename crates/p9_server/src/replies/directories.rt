@@ -27,10 +27,7 @@ pub fn mkdir_reply(step: Result<Qid, HostError>) -> Result<Rmessage, WireError>
     ensures reply { result_view reply_of result ≡ reply_told (λ q. mkdir (qid_of q)) step }
     ensures short { IfOk result (λ m. IsShort (reply_of m)) }
 {
-    match step {
-        Ok(qid) => Ok(directory_told(qid)),
-        Err(e) => refusal(e),
-    }
+    step.map(directory_told).or_else(refusal)
 }
 
 /// The reply to Tlink.
@@ -38,10 +35,7 @@ pub fn link_reply(step: Result<(), HostError>) -> Result<Rmessage, WireError>
     ensures reply { result_view reply_of result ≡ reply_told (λ _. link) step }
     ensures short { IfOk result (λ m. IsShort (reply_of m)) }
 {
-    match step {
-        Ok(()) => Ok(Rmessage::Link),
-        Err(e) => refusal(e),
-    }
+    step.map(|()| Rmessage::Link).or_else(refusal)
 }
 
 /// The reply to Trenameat.
@@ -49,10 +43,7 @@ pub fn rename_reply(step: Result<(), HostError>) -> Result<Rmessage, WireError>
     ensures reply { result_view reply_of result ≡ reply_told (λ _. renameat) step }
     ensures short { IfOk result (λ m. IsShort (reply_of m)) }
 {
-    match step {
-        Ok(()) => Ok(Rmessage::RenameAt),
-        Err(e) => refusal(e),
-    }
+    step.map(|()| Rmessage::RenameAt).or_else(refusal)
 }
 
 /// The reply to Tunlinkat.
@@ -60,10 +51,7 @@ pub fn unlink_reply(step: Result<(), HostError>) -> Result<Rmessage, WireError>
     ensures reply { result_view reply_of result ≡ reply_told (λ _. unlinkat) step }
     ensures short { IfOk result (λ m. IsShort (reply_of m)) }
 {
-    match step {
-        Ok(()) => Ok(Rmessage::UnlinkAt),
-        Err(e) => refusal(e),
-    }
+    step.map(|()| Rmessage::UnlinkAt).or_else(refusal)
 }
 
 /// The reply to Treaddir, in a frame of at most `msize` bytes.
@@ -73,10 +61,8 @@ pub fn readdir_reply(step: Result<Vec<u8>, HostError>, msize: u32) -> Result<Rme
     ensures reply { result_view reply_of result ≡ reply_told (λ bytes. readdir bytes.items) step }
     ensures fits { IfOk result (λ m. Fits msize (reply_of m)) }
 {
-    match step {
-        Ok(bytes) => Ok(Rmessage::Readdir(Rreaddir {
-            payload: Data(bytes),
-        })),
-        Err(e) => refusal(e),
-    }
+    step.map(|bytes| Rmessage::Readdir(Rreaddir {
+        payload: Data(bytes),
+    }))
+    .or_else(refusal)
 }

@@ -40,10 +40,7 @@ pub fn sizes_reply(step: Result<Statfs, HostError>) -> Result<Rmessage, WireErro
     ensures reply { result_view reply_of result ≡ reply_told statfs_reply step }
     ensures short { IfOk result (λ m. IsShort (reply_of m)) }
 {
-    match step {
-        Ok(sizes) => Ok(sizes_told(sizes)),
-        Err(e) => refusal(e),
-    }
+    step.map(sizes_told).or_else(refusal)
 }
 
 /// The reply to Tfsync.
@@ -51,10 +48,7 @@ pub fn fsync_reply(step: Result<(), HostError>) -> Result<Rmessage, WireError>
     ensures reply { result_view reply_of result ≡ reply_told (λ _. fsync) step }
     ensures short { IfOk result (λ m. IsShort (reply_of m)) }
 {
-    match step {
-        Ok(()) => Ok(Rmessage::Fsync),
-        Err(e) => refusal(e),
-    }
+    step.map(|()| Rmessage::Fsync).or_else(refusal)
 }
 
 // The target of a link, in a frame of at most `msize` bytes.
@@ -74,10 +68,8 @@ pub fn readlink_reply(step: Result<P9String, HostError>, msize: u32) -> Result<R
     ensures reply { result_view reply_of result ≡ reply_told (λ target. readlink target) step }
     ensures fits { IfOk result (λ m. Fits msize (reply_of m)) }
 {
-    match step {
-        Ok(target) => Ok(target_told(target, msize)),
-        Err(e) => refusal(e),
-    }
+    step.map(|target| target_told(target, msize))
+        .or_else(refusal)
 }
 
 // The qid of a file that was made and opened; a client may write as much at once as it likes.
@@ -93,10 +85,7 @@ pub fn create_reply(step: Result<Qid, HostError>) -> Result<Rmessage, WireError>
     ensures reply { result_view reply_of result ≡ reply_told (λ q. lcreate (qid_of q) 0) step }
     ensures short { IfOk result (λ m. IsShort (reply_of m)) }
 {
-    match step {
-        Ok(qid) => Ok(created(qid)),
-        Err(e) => refusal(e),
-    }
+    step.map(created).or_else(refusal)
 }
 
 // How many bytes were written.
@@ -112,10 +101,7 @@ pub fn write_reply(step: Result<u32, HostError>) -> Result<Rmessage, WireError>
     ensures reply { result_view reply_of result ≡ reply_told write step }
     ensures short { IfOk result (λ m. IsShort (reply_of m)) }
 {
-    match step {
-        Ok(count) => Ok(written(count)),
-        Err(e) => refusal(e),
-    }
+    step.map(written).or_else(refusal)
 }
 
 /// The reply to Tsetattr.
@@ -123,8 +109,5 @@ pub fn setattr_reply(step: Result<(), HostError>) -> Result<Rmessage, WireError>
     ensures reply { result_view reply_of result ≡ reply_told (λ _. setattr) step }
     ensures short { IfOk result (λ m. IsShort (reply_of m)) }
 {
-    match step {
-        Ok(()) => Ok(Rmessage::SetAttr),
-        Err(e) => refusal(e),
-    }
+    step.map(|()| Rmessage::SetAttr).or_else(refusal)
 }

@@ -26,10 +26,7 @@ pub fn version_reply(step: Result<Rversion, HostError>) -> Result<Rmessage, Wire
     ensures reply { result_view reply_of result ≡ reply_told (λ v. version v.msize v.version) step }
     ensures short { IfOk result (λ m. IsShort (reply_of m)) }
 {
-    match step {
-        Ok(session) => Ok(agreed(session)),
-        Err(e) => refusal(e),
-    }
+    step.map(agreed).or_else(refusal)
 }
 
 /// The reply to Tflush: each message was answered before the next is read.
@@ -53,10 +50,7 @@ pub fn lock_reply(step: Result<Rlock, HostError>) -> Result<Rmessage, WireError>
     ensures reply { result_view reply_of result ≡ reply_told (λ r. lock r.status) step }
     ensures short { IfOk result (λ m. IsShort (reply_of m)) }
 {
-    match step {
-        Ok(status) => Ok(locked(status)),
-        Err(e) => refusal(e),
-    }
+    step.map(locked).or_else(refusal)
 }
 
 // The lock that stands in the way, in a frame of at most `msize` bytes.
@@ -78,8 +72,5 @@ pub fn getlock_reply(step: Result<Rgetlock, HostError>, msize: u32) -> Result<Rm
         ≡ reply_told (λ r. getlock r.kind_ r.start r.length r.proc_id r.client_id) step }
     ensures fits { IfOk result (λ m. Fits msize (reply_of m)) }
 {
-    match step {
-        Ok(found) => Ok(lock_told(found, msize)),
-        Err(e) => refusal(e),
-    }
+    step.map(|found| lock_told(found, msize)).or_else(refusal)
 }

@@ -26,16 +26,13 @@ impl<H: Host> Server<H> {
     fn readable_ino(&self, fid: u32) -> Result<u64, HostError>
         ensures { result ≡ readable_told (map.get self.now.fids fid) }
     {
-        match self.fids.get(fid as u64) {
-            Some(state) => {
-                if state.is_readable() {
-                    Ok(state.ino())
-                } else {
-                    Err(HostError::Errno(EBADF))
-                }
-            }
-            None => Err(HostError::Errno(EBADF)),
+        let Some(state) = self.fids.get(fid as u64) else {
+            return Err(HostError::Errno(EBADF));
+        };
+        if !state.is_readable() {
+            return Err(HostError::Errno(EBADF));
         }
+        Ok(state.ino())
     }
 
     // Opens a fid by the flags of `open(2)`, also where it is open already. With `O_TRUNC` its

@@ -74,16 +74,13 @@ impl<H: Host> Server<H> {
     pub(super) fn open_ino(&self, fid: u32) -> Result<u64, HostError>
         ensures { result ≡ open_told is_open (map.get self.now.fids fid) }
     {
-        match self.fids.get(fid as u64) {
-            Some(state) => {
-                if state.is_open() {
-                    Ok(state.ino())
-                } else {
-                    Err(HostError::Errno(EBADF))
-                }
-            }
-            None => Err(HostError::Errno(EBADF)),
+        let Some(state) = self.fids.get(fid as u64) else {
+            return Err(HostError::Errno(EBADF));
+        };
+        if !state.is_open() {
+            return Err(HostError::Errno(EBADF));
         }
+        Ok(state.ino())
     }
 
     // Locks the file of a fid that is open, at once.

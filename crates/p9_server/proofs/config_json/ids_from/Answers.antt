@@ -12,4 +12,4 @@ loop-name-preserved c =
     _ c.in-Some-id_of.id c.in-Some-u32_of.shown c.in-Some.ensures.steps c.as_str.ensures.value
     l.invariant c.in-Some-id_of.ensures c.in-Some-u32_of.ensures
     (insert_view l.ids.entries c.insert.new.self.entries c.in-Some-id_of.id
-    c.in-Some-u32_of.shown c.in-Ok.ensures.updates.0)
+    c.in-Some-u32_of.shown c.in_ok-insert.ensures.updates.0)

@@ -6,11 +6,11 @@ use Rattle.p9_server.proofs.lookup.find_folded.Goals as goal
 
 pub lookup-requires-clause-named : goal.lookup-requires-clause-named
 lookup-requires-clause-named g c =
-    ap name_fault c.deref.ensures.value ∙ c.in-Ok.ensures.named
+    ap name_fault c.deref.ensures.value ∙ c.in_ok-found.ensures.named
 
-pub returns-in-Ok-clause-answer : goal.returns-in-Ok-clause-answer
-returns-in-Ok-clause-answer g c =
-    let e = c.in-Ok.ensures in
-    found_folded (g.H.Host.tree c.args.host.now) _ c.args.dir c.args.name.now c.in-Ok.found.items
+pub returns-clause-answer : goal.returns-clause-answer
+returns-clause-answer g c =
+    let e = c.in_ok-found.ensures in
+    found_folded (g.H.Host.tree c.args.host.now) _ c.args.dir c.args.name.now c.in_ok-found.found.items
     c.deref.result.now c.lookup.result c.requires.missing e.answer e.tree
     c.deref.ensures.value c.lookup.ensures.answer

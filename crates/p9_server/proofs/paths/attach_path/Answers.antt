@@ -7,35 +7,35 @@ told_of-requires g c =
     let h = c.args.host.now in
     took_positive (g.H.Host.tree h) (g.H.Host.tree c.attach_path.new.self)
     (g.H.Host.tree c.attach_path.new.self) (g.H.Host.holds h)
-    (g.H.Host.holds c.attach_path.new.self) (g.H.Host.holds h) c.in-Ok.ino c.in-Ok.ensures.tree
-    c.in-Ok.ensures.held
+    (g.H.Host.holds c.attach_path.new.self) (g.H.Host.holds h) c.in_ok-ino.ino c.in_ok-ino.ensures.tree
+    c.in_ok-ino.ensures.held
 
-pub returns-in-Ok-clause-tree : goal.returns-in-Ok-clause-tree
-returns-in-Ok-clause-tree g c =
+pub returns-clause-tree : goal.returns-clause-tree
+returns-clause-tree g c =
     let h = c.args.host.now in
     let e = c.told_of.ensures in
     took_tree (g.H.Host.tree h) (g.H.Host.tree c.attach_path.new.self)
     (g.H.Host.tree c.told_of.new.host) (g.H.Host.holds h)
-    (g.H.Host.holds c.attach_path.new.self) (g.H.Host.holds c.told_of.new.host) c.in-Ok.ino
-    c.in-Ok.ensures.tree c.in-Ok.ensures.held
+    (g.H.Host.holds c.attach_path.new.self) (g.H.Host.holds c.told_of.new.host) c.in_ok-ino.ino
+    c.in_ok-ino.ensures.tree c.in_ok-ino.ensures.held
     c.told_of.result (g.met.H.Host.stored h).kept e.tree e.released e.kept
 
-pub returns-in-Ok-clause-held : goal.returns-in-Ok-clause-held
-returns-in-Ok-clause-held g c =
+pub returns-clause-held : goal.returns-clause-held
+returns-clause-held g c =
     let h = c.args.host.now in
     let e = c.told_of.ensures in
     took_held (g.H.Host.tree h) (g.H.Host.tree c.attach_path.new.self)
     (g.H.Host.tree c.told_of.new.host) (g.H.Host.holds h)
-    (g.H.Host.holds c.attach_path.new.self) (g.H.Host.holds c.told_of.new.host) c.in-Ok.ino
-    c.in-Ok.ensures.tree c.in-Ok.ensures.held
+    (g.H.Host.holds c.attach_path.new.self) (g.H.Host.holds c.told_of.new.host) c.in_ok-ino.ino
+    c.in_ok-ino.ensures.tree c.in_ok-ino.ensures.held
     c.told_of.result e.held e.told
 
-pub returns-in-Ok-clause-refused : goal.returns-in-Ok-clause-refused
-returns-in-Ok-clause-refused g c =
+pub returns-clause-refused : goal.returns-clause-refused
+returns-clause-refused g c =
     let h = c.args.host.now in
     let e = c.told_of.ensures in
     took_refused (g.H.Host.tree h) (g.H.Host.tree c.attach_path.new.self)
     (g.H.Host.tree c.told_of.new.host) (g.H.Host.holds h)
-    (g.H.Host.holds c.attach_path.new.self) (g.H.Host.holds c.told_of.new.host) c.in-Ok.ino
-    c.in-Ok.ensures.tree c.in-Ok.ensures.held
+    (g.H.Host.holds c.attach_path.new.self) (g.H.Host.holds c.told_of.new.host) c.in_ok-ino.ino
+    c.in_ok-ino.ensures.tree c.in_ok-ino.ensures.held
     c.told_of.result e.released
